@@ -50,11 +50,15 @@ use Rattle.client_cell.proofs.CellLemmas.{with_history}
 
 -- ---- the room for its frames
 
-short : {T : Type 0} (note : T → Note) (o : Opening) (past : List FrameEntry) (e : Input) (new : Power (Client T) T) (step : Result Outs Fault) → most_packets o past e ≡ 8 → OpensInRange o → CameInRange (packets_heard o past) → StepEnds (ways note o) past e new (reply_and_frames step) → AreShort 8 (outcome_of (reply_and_frames step)).1
+short : {T : Type 0} (note : T → Note) (o : Opening) (past : List FrameEntry) (e : Input) (new : Power (Client T) T) (step : Result Outs Fault)
+    → most_packets o past e ≡ 8 → OpensInRange o → CameInRange (packets_heard o past) → StepEnds (ways note o) past e new (reply_and_frames step)
+    → AreShort 8 (outcome_of (reply_and_frames step)).1
 short note o past e new (Ok outs) eight i h f = subst (λ most. AreShort most outs.frames) eight (f.short i h)
 short note o past e new (Err fault) eight i h f = record { few = omega arith; short = omega arith }
 
-pub has_room : {T : Type 0} (note : T → Note) (log : ClientLog) (power : Power (Client T) T) (cell : IsCell note log power) (e : Input) (new : Power (Client T) T) (step : Result Outs Fault) (room : Room) → most_packets log.opening cell.kept.past e ≡ 8 → StepEnds (ways note log.opening) cell.kept.past e new (reply_and_frames step) → HasRoom room 136 137864
+pub has_room : {T : Type 0} (note : T → Note) (log : ClientLog) (power : Power (Client T) T) (cell : IsCell note log power) (e : Input)
+    (new : Power (Client T) T) (step : Result Outs Fault) (room : Room) → most_packets log.opening cell.kept.past e ≡ 8
+    → StepEnds (ways note log.opening) cell.kept.past e new (reply_and_frames step) → HasRoom room 136 137864
     → HasRoom room (length (outcome_of (reply_and_frames step)).1) (sum_by (λ (frame : List ℕ). length frame) (outcome_of (reply_and_frames step)).1)
 has_room note log power cell e new step room eight f has =
     let few = short note log.opening cell.kept.past e new step eight cell.opens cell.kept.ranges f in
@@ -73,10 +77,12 @@ most_eight o past (incoming.Request (requests.Stop run)) = refl
 most_eight o past (incoming.Request (requests.Verify run text)) = refl
 
 -- The bytes of the first frames, and of one more.
-pub one_more : (sent : List (List ℕ)) (i : ℕ) (f : List ℕ) (bytes more : ℕ) → slice_get sent i ≡ Some f → bytes ≡ sum_by (λ (frame : List ℕ). length frame) (take i sent) → more ≡ bytes + length f
+pub one_more : (sent : List (List ℕ)) (i : ℕ) (f : List ℕ) (bytes more : ℕ) → slice_get sent i ≡ Some f
+    → bytes ≡ sum_by (λ (frame : List ℕ). length frame) (take i sent) → more ≡ bytes + length f
     → more ≡ sum_by (λ (frame : List ℕ). length frame) (take (i + 1) sent)
 one_more sent i f bytes more is so_far sum =
-    sum ∙ ap (λ n. n + length f) so_far ∙ sym (ap (sum_by (λ (frame : List ℕ). length frame)) longer ∙ sum_by-append (λ (frame : List ℕ). length frame) (take i sent) (f ∷ []) ∙ ap (λ n. sum_by (λ (frame : List ℕ). length frame) (take i sent) + n) alone)
+    sum ∙ ap (λ n. n + length f) so_far ∙ sym (ap (sum_by (λ (frame : List ℕ). length frame)) longer
+    ∙ sum_by-append (λ (frame : List ℕ). length frame) (take i sent) (f ∷ []) ∙ ap (λ n. sum_by (λ (frame : List ℕ). length frame) (take i sent) + n) alone)
   where
     longer : take (i + 1) sent ≡ take i sent ++ f ∷ []
     longer = take_more sent i [] (slice_get_within sent i f is) ∙ ap (λ (x : List ℕ). take i sent ++ x ∷ []) (get_or_from_slice_get sent i f [] is)
@@ -86,38 +92,51 @@ one_more sent i f bytes more is so_far sum =
 
 -- ---- its frames are spelled
 
-by_entry : FramesAreSpelled → PacketsAreInRange → (o : Opening) (past : List history.Entry) → OpensInRange o → (heard : Option history.Entry) → (came : (x : history.Entry) → heard ≡ Some x → CameInRange (x ∷ past)) → All IsSpelled (map frame_spelling (frames_by o past heard))
+by_entry : FramesAreSpelled → PacketsAreInRange → (o : Opening) (past : List history.Entry) → OpensInRange o → (heard : Option history.Entry)
+    → (came : (x : history.Entry) → heard ≡ Some x → CameInRange (x ∷ past)) → All IsSpelled (map frame_spelling (frames_by o past heard))
 by_entry law ranges o past i None came = All-nil IsSpelled
 by_entry law ranges o past i (Some x) came = hub.packets_spelled law (packets o past x) (ranges o past x i (came x refl))
 
-pub sent_spelled : {T : Type 0} (note : T → Note) (log : ClientLog) (power : Power (Client T) T) (cell : IsCell note log power) (e : Input) (new : Power (Client T) T) (step : Result Outs Fault) → FramesAreSpelled → PacketsAreInRange → StepEnds (ways note log.opening) cell.kept.past e new (reply_and_frames step) → All IsSpelled (outcome_of (reply_and_frames step)).1
+pub sent_spelled : {T : Type 0} (note : T → Note) (log : ClientLog) (power : Power (Client T) T) (cell : IsCell note log power) (e : Input)
+    (new : Power (Client T) T) (step : Result Outs Fault) → FramesAreSpelled → PacketsAreInRange
+    → StepEnds (ways note log.opening) cell.kept.past e new (reply_and_frames step) → All IsSpelled (outcome_of (reply_and_frames step)).1
 sent_spelled note log power cell e new step law ranges f =
     let o = log.opening in
     let past = cell.kept.past in
     hub.sent_spelled (ways note o) past e (answered_entry o past e) new (reply_and_frames step) refl cell.kept.ranges
-    (λ came. by_entry law ranges o (packets_heard o past) cell.opens (entry_heard o past (answered_entry o past e)) (λ x is. subst (λ (y : Option history.Entry). CameInRange (with_entry y (packets_heard o past))) is came)) f
+    (λ came. by_entry law ranges o (packets_heard o past) cell.opens (entry_heard o past (answered_entry o past e))
+    (λ x is. subst (λ (y : Option history.Entry). CameInRange (with_entry y (packets_heard o past))) is came)) f
 
 -- ---- what came is entered
 
 -- A cell behind what came.
-pub heard_cell : {T : Type 0} (note : T → Note) (log : ClientLog) (power new : Power (Client T) T) (cell : IsCell note log power) (e : Input) (step : Result Outs Fault) (came : Came) (taken : Option ℕ) (net after : Network) (history : List Logged) (failures : ℕ) → ask_of came ≡ Meets e → StepEnds (ways note log.opening) cell.kept.past e new (reply_and_frames step)
-    → Hears (is_left_out (outcome_of (reply_and_frames step)).0) nodes.Client came taken (outcome_of (reply_and_frames step)).0 (outcome_of (reply_and_frames step)).1 net after log.history history → IsCell note (with_history log history failures) new
+pub heard_cell : {T : Type 0} (note : T → Note) (log : ClientLog) (power new : Power (Client T) T) (cell : IsCell note log power) (e : Input)
+    (step : Result Outs Fault) (came : Came) (taken : Option ℕ) (net after : Network) (history : List Logged) (failures : ℕ) → ask_of came ≡ Meets e
+    → StepEnds (ways note log.opening) cell.kept.past e new (reply_and_frames step)
+    → Hears (is_left_out (outcome_of (reply_and_frames step)).0) nodes.Client came taken (outcome_of (reply_and_frames step)).0
+    (outcome_of (reply_and_frames step)).1 net after log.history history → IsCell note (with_history log history failures) new
 heard_cell note log power new cell e step came taken net after history failures asks f h = record {
   kept = hub.heard (ways note log.opening) log.history history power new cell.kept e (reply_and_frames step) nodes.Client came taken net after asks f h;
   some = cell.some;
   opens = cell.opens;
 }
 
-pub replayed : {T : Type 0} (note : T → Note) (log : ClientLog) (power : Power (Client T) T) → IsCell note log power → (past : List FrameEntry) × IsReplay log past
+pub replayed : {T : Type 0} (note : T → Note) (log : ClientLog) (power : Power (Client T) T) → IsCell note log power
+    → (past : List FrameEntry) × IsReplay log past
 replayed note log power cell = (cell.kept.past, cell.kept.made)
 
 -- ---- why it was refused
 
-pub unready_why : {T : Type 0} (note : T → Note) (log : ClientLog) (power : Power (Client T) T) (cell : IsCell note log power) (e : Input) (fault : Fault) (shown : ClientLog) → IsReady (is_up log.opening cell.kept.past) (Err fault) → log ≡ shown → HasWhy (rules shown.opening) shown.history (Meets e) fault
+pub unready_why : {T : Type 0} (note : T → Note) (log : ClientLog) (power : Power (Client T) T) (cell : IsCell note log power) (e : Input) (fault : Fault)
+    (shown : ClientLog) → IsReady (is_up log.opening cell.kept.past) (Err fault) → log ≡ shown → HasWhy (rules shown.opening) shown.history (Meets e) fault
 unready_why note log power cell e fault shown h view =
-    subst (λ (l : ClientLog). HasWhy (rules l.opening) l.history (Meets e) fault) view (hub.unready_why (client_kind note log.opening) log.history power cell.kept (Meets e) fault h)
+    subst (λ (l : ClientLog). HasWhy (rules l.opening) l.history (Meets e) fault) view
+    (hub.unready_why (client_kind note log.opening) log.history power cell.kept (Meets e) fault h)
 
-pub told_why : {T : Type 0} (note : T → Note) (log : ClientLog) (power new : Power (Client T) T) (cell : IsCell note log power) (e : Input) (step : Result Outs Fault) (first sent : ℕ) (result : Result CallerAnswer Fault) (shown : ClientLog) → is_up log.opening cell.kept.past ≡ true → StepEnds (ways note log.opening) cell.kept.past e new (reply_and_frames step) → result ≡ told_at first sent (outcome_of (reply_and_frames step)).0 → log ≡ shown
+pub told_why : {T : Type 0} (note : T → Note) (log : ClientLog) (power new : Power (Client T) T) (cell : IsCell note log power) (e : Input)
+    (step : Result Outs Fault) (first sent : ℕ) (result : Result CallerAnswer Fault) (shown : ClientLog) → is_up log.opening cell.kept.past ≡ true
+    → StepEnds (ways note log.opening) cell.kept.past e new (reply_and_frames step) → result ≡ told_at first sent (outcome_of (reply_and_frames step)).0
+    → log ≡ shown
     → IfErr result (HasWhy (rules shown.opening) shown.history (Meets e))
 told_why note log power new cell e step first sent result shown up f is view =
     subst (λ (l : ClientLog). IfErr result (HasWhy (rules l.opening) l.history (Meets e))) view
@@ -129,9 +148,13 @@ told_why note log power new cell e step first sent result shown up f is view =
 abbrev pub IsUp : ClientLog → Bool → Type 0
 IsUp log up = (past : List FrameEntry) × IsReplay log past × (is_up log.opening past ≡ up)
 
-pub is_there : {T : Type 0} (note : T → Note) (log : ClientLog) (shown : Option (Bor (Client T))) → IfSome shown (λ client. (past : List FrameEntry) × IsReplay log past × StandsFor note client.now log.opening past × (is_up log.opening past ≡ true)) → is_some shown ≡ true → IsUp log true
+pub is_there : {T : Type 0} (note : T → Note) (log : ClientLog) (shown : Option (Bor (Client T)))
+    → IfSome shown (λ client. (past : List FrameEntry) × IsReplay log past × StandsFor note client.now log.opening past × (is_up log.opening past ≡ true))
+    → is_some shown ≡ true → IsUp log true
 is_there note log None h some = cc
 is_there note log (Some client) (past, replay, stands, up) some = (past, replay, up)
 
-pub deliver_none : (log : ClientLog) (net : Network) (position : ℕ) (fault : Fault) → IsUp log true → Comes net position (Err fault) → IsWhyNot (rules log.opening) log.history (slice_get net.frames position) fault
-deliver_none log net position fault (past, replay, up) h = why_not_there (rules log.opening) log.history past net position fault replay (off_where (core log.opening) past true up) h
+pub deliver_none : (log : ClientLog) (net : Network) (position : ℕ) (fault : Fault) → IsUp log true → Comes net position (Err fault)
+    → IsWhyNot (rules log.opening) log.history (slice_get net.frames position) fault
+deliver_none log net position fault (past, replay, up) h =
+    why_not_there (rules log.opening) log.history past net position fault replay (off_where (core log.opening) past true up) h

@@ -34,13 +34,15 @@ use Rattle.client_cell.specs.Stands.{reply_and_frames, outs_of, ways}
 
 -- ---- what came stays within its ranges
 
-by_meaning : (o : Opening) (past : List packets.Entry) (left : Left) (q : _) (m : Meaning) → SenseInRange (sense_of q m) → CameInRange past → CameInRange (with_entry (heard_by (hearing o) left m) past)
+by_meaning : (o : Opening) (past : List packets.Entry) (left : Left) (q : _) (m : Meaning) → SenseInRange (sense_of q m) → CameInRange past
+    → CameInRange (with_entry (heard_by (hearing o) left m) past)
 by_meaning o past left q (Speaks p) h came = (h, came)
 by_meaning o past left q Waits h came = came
 by_meaning o past left q Spoils h came = came
 by_meaning o past left q Strays h came = came
 
-came_after : (o : Opening) (past : List FrameEntry) (e : Input) (left : Left) → SenseInRange (sense o past e) → CameInRange (packets_heard o past) → CameInRange (packets_heard o (Met e left ∷ past))
+came_after : (o : Opening) (past : List FrameEntry) (e : Input) (left : Left) → SenseInRange (sense o past e) → CameInRange (packets_heard o past)
+    → CameInRange (packets_heard o (Met e left ∷ past))
 came_after o past (inputs.Deliver (Whole p)) left h came = (h, came)
 came_after o past (inputs.Deliver (Piece q)) left h came = by_meaning o (packets_heard o past) left q (meaning (hearing o) (heard_at o past) (Piece q)) h came
 came_after o past (inputs.Begin text) left h came = came
@@ -51,7 +53,8 @@ came_after o past inputs.Tick left h came = came
 
 -- ---- a step
 
-no_drop : (o : Opening) (past : List FrameEntry) (s : Sense) (fault : Fault) → answers.refusal_in o (packets_heard o past) s ≡ Some fault → (fault ≡ FrameBadField → ⊥) → is_drop s ≡ false
+no_drop : (o : Opening) (past : List FrameEntry) (s : Sense) (fault : Fault) → answers.refusal_in o (packets_heard o past) s ≡ Some fault
+    → (fault ≡ FrameBadField → ⊥) → is_drop s ≡ false
 no_drop o past (Hears c) fault h k = refl
 no_drop o past (Keeps q) fault h k = refl
 no_drop o past (Drops q) fault h k = absurd (k (same FrameBadField fault h))
@@ -60,7 +63,8 @@ no_drop o past (Drops q) fault h k = absurd (k (same FrameBadField fault h))
     same x y h = cc
 no_drop o past Misses fault h k = refl
 
-fits : {T : Type 0} (note : T → Note) (o : Opening) (past : List FrameEntry) (e : Input) → Fits (client_kind note o) (ends.steps note o) past e (λ sort. UnlessMemory sort (sense o past e))
+fits : {T : Type 0} (note : T → Note) (o : Opening) (past : List FrameEntry) (e : Input)
+    → Fits (client_kind note o) (ends.steps note o) past e (λ sort. UnlessMemory sort (sense o past e))
 fits note o past e = record {
   refusal_is = refl;
   answered_is = refl;
@@ -81,30 +85,37 @@ unasked o past e fault h = by_sort (sort_of fault)
     by_sort sorts.Save = h
     by_sort sorts.Refusal = h
 
-pub heard : {X : Type 0} (o : Opening) (past : List FrameEntry) (e : Input) (result : Result X Fault) → SenseInRange (sense o past e) → HearsInRange o past e result
+pub heard : {X : Type 0} (o : Opening) (past : List FrameEntry) (e : Input) (result : Result X Fault) → SenseInRange (sense o past e)
+    → HearsInRange o past e result
 heard o past e (Ok x) h = h
 heard o past e (Err fault) h = unasked o past e fault h
 
 -- A client that is on answers what comes,
 pub answered : {T : Type 0} (note : T → Note) (o : Opening) (past : List FrameEntry) (e : Input) (old client : Client T) (outs : Outs) → is_up o past ≡ true
-    → outs.answer ≡ answer_to o past e → SenseInRange (sense o past e) → steps.Answers (ends.steps note o) past e old client outs.frames → StepEnds (ways note o) past e (On client) (reply_and_frames (Ok outs))
+    → outs.answer ≡ answer_to o past e → SenseInRange (sense o past e) → steps.Answers (ends.steps note o) past e old client outs.frames
+    → StepEnds (ways note o) past e (On client) (reply_and_frames (Ok outs))
 answered note o past e old client outs on said h a =
-    answered_ends (client_kind note o) (ends.steps note o) past e (fits note o past e) on old client outs.frames _ outs.frames a h (rw said refl) a.sends.frames_are a.sends.short
+    answered_ends (client_kind note o) (ends.steps note o) past e (fits note o past e) on old client outs.frames _ outs.frames a h
+    (rw said refl) a.sends.frames_are a.sends.short
 
 -- or doesn't.
 pub unanswered : {T : Type 0} (note : T → Note) (o : Opening) (past : List FrameEntry) (e : Input) (old client : Client T) (fault : Fault) → is_up o past ≡ true
-    → UnlessMemory (sort_of fault) (sense o past e) → steps.Faults (ends.steps note o) past e (sort_of fault) fault old client → StepEnds (ways note o) past e (On client) (Err fault)
+    → UnlessMemory (sort_of fault) (sense o past e) → steps.Faults (ends.steps note o) past e (sort_of fault) fault old client
+    → StepEnds (ways note o) past e (On client) (Err fault)
 unanswered note o past e old client fault on h f =
     unanswered_ends (client_kind note o) (ends.steps note o) past e (fits note o past e) on old client fault (sort_of fault) f h refl
 
 -- What has no number ends so.
-pub sent_ends : {T : Type 0} (note : T → Note) (o : Opening) (past : List FrameEntry) (e : Input) (old client : Client T) (sent : Result (List (List ℕ)) Fault) → is_up o past ≡ true
-    → Plain ≡ answer_to o past e → HearsInRange o past e sent → steps.Ends (ends.steps note o) past e old client sent → StepEnds (ways note o) past e (On client) (reply_and_frames (outs_of sent))
+pub sent_ends : {T : Type 0} (note : T → Note) (o : Opening) (past : List FrameEntry) (e : Input) (old client : Client T) (sent : Result (List (List ℕ)) Fault)
+    → is_up o past ≡ true
+    → Plain ≡ answer_to o past e → HearsInRange o past e sent → steps.Ends (ends.steps note o) past e old client sent
+    → StepEnds (ways note o) past e (On client) (reply_and_frames (outs_of sent))
 sent_ends note o past e old client (Ok sent) on said h a = answered note o past e old client (record { answer = Plain; frames = sent }) on said h a
 sent_ends note o past e old client (Err fault) on said h f = unanswered note o past e old client fault on h f
 
 -- It counts a failed save.
-pub sent_counts : {T : Type 0} (note : T → Note) (o : Opening) (past : List FrameEntry) (e : Input) (old client : Client T) (sent : Result (List (List ℕ)) Fault) → steps.Ends (ends.steps note o) past e old client sent
+pub sent_counts : {T : Type 0} (note : T → Note) (o : Opening) (past : List FrameEntry) (e : Input) (old client : Client T)
+    (sent : Result (List (List ℕ)) Fault) → steps.Ends (ends.steps note o) past e old client sent
     → Counts false (note old.core.notes).failures (note client.core.notes).failures (reply_and_frames (outs_of sent))
 sent_counts note o past e old client (Ok sent) a = tt
 sent_counts note o past e old client (Err fault) f = faults_count (ends.steps note o) past e old client fault (sort_of fault) f

@@ -17,13 +17,14 @@ abbrev pub logged_by : Came → Result Said Fault → Logged
 logged_by came answer = record { by = None; came = came; answer = answer; sent = [] }
 
 -- The history has one entry more, and a fault of the device has been counted.
-pub record IsAdded (old : ClientLog) (task : ClientTask) (answer : Result Said Fault) (new : ClientLog) : Type 0 where
+pub record IsAdded (old : ClientLog) (task : ClientTask) (answer : Result Said Fault)
+    (new : ClientLog) : Type 0 where
   pub opening : new.opening ≡ old.opening
   pub history : new.history ≡ logged_by (came_by task) answer ∷ old.history
   pub failures : Counts (loads_note task) old.failures new.failures answer
 
--- What a task leaves that has this answer: for want of memory nothing changes, and any other answer is
--- entered.
+-- What a task leaves that has this answer: for want of memory nothing changes, and any other answer
+-- is entered.
 abbrev pub Enters : Bool → ClientLog → ClientTask → ClientLog → Result Said Fault → Type 0
 Enters true old task new answer = (new ≡ old) × (answer ≡ Err NoMemory)
 Enters false old task new answer = IsAdded old task answer new

@@ -12,8 +12,8 @@ use Rattle.node_history.specs.Replay.{Makes}
 use Rattle.node_history.specs.ClientRules.{rules}
 use Rattle.client_cell.specs.Stands.{ways}
 
--- The client under its lock: what it was opened with, its history, newest first, and how often the device of
--- its note has failed.
+-- The client under its lock: what it was opened with, its history, newest first, and how often the
+-- device of its note has failed.
 pub record ClientLog : Type 0 where
   pub opening : Opening
   pub history : List Logged
@@ -27,9 +27,10 @@ opening_of servers client = record { servers = servers; noted = client.core.note
 abbrev pub IsReplay : ClientLog → List FrameEntry → Type 0
 IsReplay cell past = Makes (rules cell.opening) cell.history past
 
--- What is true of every cell: the client stands for a list that its history makes, in which all is in its
--- ranges.
-pub record IsCell {T : Type 0} (note : T → Note) (cell : ClientLog) (power : Power (Client T) T) : Type 0 where
+-- What is true of every cell: the client stands for a list that its history makes, in which all is
+-- in its ranges.
+pub record IsCell {T : Type 0} (note : T → Note) (cell : ClientLog)
+    (power : Power (Client T) T) : Type 0 where
   pub kept : IsKept (ways note cell.opening) cell.history power
   pub some : 1 ≤ cell.opening.servers
   pub opens : OpensInRange cell.opening

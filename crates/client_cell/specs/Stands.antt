@@ -15,9 +15,10 @@ use Rattle.node_history.specs.Moves.{Ways}
 use Rattle.node_history.specs.Powers as powers
 use Rattle.client_cell.specs.declared.outs.Outs.{Outs}
 
--- A client that has power stands for the list; of one that has none, which the list says, the note says
--- what the list says.
-abbrev pub Stands : {T : Type 0} → (T → Note) → Opening → List FrameEntry → Power (Client T) T → Type 0
+-- A client that has power stands for the list; of one that has none, which the list says, the note
+-- says what the list says.
+abbrev pub Stands : {T : Type 0} → (T → Note) → Opening → List FrameEntry → Power (Client T) T
+    → Type 0
 Stands note o past power = powers.Stands (client_kind note o) past power
 
 -- The ways of a client that was opened so.
@@ -27,9 +28,11 @@ ways note o = powers.ways (client_kind note o)
 -- How often the device of its note has failed.
 abbrev pub failures_of : {T : Type 0} → (T → Note) → Power (Client T) T → ℕ
 failures_of note power =
-    powers.failures_of (λ client. (note client.core.notes).failures) (λ notes. (note notes).failures) power
+    powers.failures_of (λ client. (note client.core.notes).failures)
+    (λ notes. (note notes).failures) power
 
--- What a step says to its caller, and the frames that it sends. A client asks nothing of its caller.
+-- What a step says to its caller, and the frames that it sends. A client asks nothing of its
+-- caller.
 abbrev pub reply_and_frames : Result Outs Fault → Result (Said × List (List ℕ)) Fault
 reply_and_frames (Ok outs) = Ok (record { answer = outs.answer; act = acts.None }, outs.frames)
 reply_and_frames (Err fault) = Err fault

@@ -51,9 +51,19 @@ impl<N: Notes + Drop> Model for ClientCell<N> {
 
     ghost Value = { ClientLog };
 
-    ghost view = { λ c. record { opening = opening_of c.servers c.opened.value; history = reverse c.history.items; failures = failures_of N.note c.power } };
+    ghost view = { λ c. record {
+      opening = opening_of c.servers c.opened.value;
+      history = reverse c.history.items;
+      failures = failures_of N.note c.power;
+    } };
 
-    ghost invariant = { λ c. IsCell N.note (record { opening = opening_of c.servers c.opened.value; history = reverse c.history.items; failures = failures_of N.note c.power }) c.power × (c.is_blank ≡ says_nothing c.opened.value.core.noted) };
+    ghost invariant = { λ c. IsCell N.note
+        (record {
+          opening = opening_of c.servers c.opened.value;
+          history = reverse c.history.items;
+          failures = failures_of N.note c.power;
+        }) c.power
+        × (c.is_blank ≡ says_nothing c.opened.value.core.noted) };
 }
 
 impl<N: Notes + Drop> ClientCell<N> {

@@ -46,7 +46,8 @@ next_differs gs g used n o low high = elim (cases_Bool (o.0 == g)) [
   ]
 ]
 
-next_absent : (gs : List ℕ) (g used : ℕ) (ns : List ℕ) → AllByRecursion (Of gs g used) ns → g * 2 ^ 32 ≤ used → used + 1 < (g + 1) * 2 ^ 32 → has ns (used + 1) ≡ false
+next_absent : (gs : List ℕ) (g used : ℕ) (ns : List ℕ) → AllByRecursion (Of gs g used) ns → g * 2 ^ 32 ≤ used → used + 1 < (g + 1) * 2 ^ 32
+    → has ns (used + 1) ≡ false
 next_absent gs g used [] h low high = refl
 next_absent gs g used (n ∷ ns) h low high = rw (next_differs gs g used n h.0 low high) (next_absent gs g used ns h.1 low high)
 

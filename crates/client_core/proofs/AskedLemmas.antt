@@ -61,7 +61,8 @@ heard_back run _ b h = h
 abbrev HasBegun : List Deed → ℕ → List ℕ → Type 0
 HasBegun deeds run text = Contains deeds (Begins run text)
 
-begun_here : (here : Bool) (r run : ℕ) (text : List ℕ) (deeds : List Deed) (b : Beginning) → (here ≡ true → r ≡ run) → (IsBegun b → HasBegun deeds run (text_of run deeds)) → IsBegun (if here then begins.Staging else b)
+begun_here : (here : Bool) (r run : ℕ) (text : List ℕ) (deeds : List Deed) (b : Beginning) → (here ≡ true → r ≡ run)
+    → (IsBegun b → HasBegun deeds run (text_of run deeds)) → IsBegun (if here then begins.Staging else b)
     → HasBegun (Begins r text ∷ deeds) run (if here then text else text_of run deeds)
 begun_here true r run text deeds b e f h = subst (λ x. HasBegun (Begins r text ∷ deeds) x text) (e refl) (first_of (Begins r text) deeds)
 begun_here false r run text deeds b e f h = behind_one (Begins r text) deeds (Begins run (text_of run deeds)) (f h)
@@ -70,7 +71,9 @@ pub begun_was : (run s : ℕ) (deeds : List Deed) → IsBegun (begin_at run s de
 begun_was run s [] h = absurd h
 begun_was run s (Begins r text ∷ deeds) h = begun_here (r == run) r run text deeds (begin_at run s deeds) (λ e. eqb-true r run e) (begun_was run s deeds) h
 begun_was run s (Hears t body ∷ deeds) h =
-    behind_one (Hears t body) deeds (Begins run (text_of run deeds)) (begun_was run s deeds (either (t == s) (begin_heard run body (begin_at run s deeds)) (begin_at run s deeds) (heard_back run body (begin_at run s deeds)) h))
+    behind_one (Hears t body) deeds (Begins run (text_of run deeds))
+    (begun_was run s deeds (either (t == s) (begin_heard run body (begin_at run s deeds)) (begin_at run s deeds)
+    (heard_back run body (begin_at run s deeds)) h))
 begun_was run s (Triggers r act ∷ deeds) h = behind_one (Triggers r act) deeds (Begins run (text_of run deeds)) (begun_was run s deeds h)
 begun_was run s (Stops r ∷ deeds) h = behind_one (Stops r) deeds (Begins run (text_of run deeds)) (begun_was run s deeds h)
 begun_was run s (Verifies r a text ∷ deeds) h = behind_one (Verifies r a text) deeds (Begins run (text_of run deeds)) (begun_was run s deeds h)
@@ -113,17 +116,24 @@ answer_back run attempt _ q h = h
 abbrev HasAsked : List Deed → ℕ → ℕ → List ℕ → Type 0
 HasAsked deeds run attempt text = Contains deeds (Verifies run attempt text)
 
-asked_here : (here : Bool) (r a attempt : ℕ) (text : List ℕ) (deeds : List Deed) (q : Request) → (here ≡ true → a ≡ attempt) → (IsAsked q → HasAsked deeds (run_of attempt deeds) attempt (check_of attempt deeds)) → IsAsked (if here then requests.Open [] else q)
+asked_here : (here : Bool) (r a attempt : ℕ) (text : List ℕ) (deeds : List Deed) (q : Request) → (here ≡ true → a ≡ attempt)
+    → (IsAsked q → HasAsked deeds (run_of attempt deeds) attempt (check_of attempt deeds)) → IsAsked (if here then requests.Open [] else q)
     → HasAsked (Verifies r a text ∷ deeds) (if here then r else run_of attempt deeds) attempt (if here then text else check_of attempt deeds)
 asked_here true r a attempt text deeds q e f h = subst (λ x. HasAsked (Verifies r a text ∷ deeds) r x text) (e refl) (first_of (Verifies r a text) deeds)
 asked_here false r a attempt text deeds q e f h = behind_one (Verifies r a text) deeds (Verifies (run_of attempt deeds) attempt (check_of attempt deeds)) (f h)
 
-pub asked_was : (attempt s : ℕ) (deeds : List Deed) → IsAsked (verify_at attempt s deeds) → Contains deeds (Verifies (run_of attempt deeds) attempt (check_of attempt deeds))
+pub asked_was : (attempt s : ℕ) (deeds : List Deed) → IsAsked (verify_at attempt s deeds)
+    → Contains deeds (Verifies (run_of attempt deeds) attempt (check_of attempt deeds))
 asked_was attempt s [] h = absurd h
-asked_was attempt s (Verifies r a text ∷ deeds) h = asked_here (a == attempt) r a attempt text deeds (verify_at attempt s deeds) (λ e. eqb-true a attempt e) (asked_was attempt s deeds) h
+asked_was attempt s (Verifies r a text ∷ deeds) h =
+    asked_here (a == attempt) r a attempt text deeds (verify_at attempt s deeds) (λ e. eqb-true a attempt e) (asked_was attempt s deeds) h
 asked_was attempt s (Hears t body ∷ deeds) h =
     behind_one (Hears t body) deeds (Verifies (run_of attempt deeds) attempt (check_of attempt deeds))
-    (asked_was attempt s deeds (or_else (t == s) (verify_heard (run_of attempt deeds) attempt body (verify_at attempt s deeds)) (verify_at attempt s deeds) (answer_back (run_of attempt deeds) attempt body (verify_at attempt s deeds)) h))
-asked_was attempt s (Begins r text ∷ deeds) h = behind_one (Begins r text) deeds (Verifies (run_of attempt deeds) attempt (check_of attempt deeds)) (asked_was attempt s deeds h)
-asked_was attempt s (Triggers r act ∷ deeds) h = behind_one (Triggers r act) deeds (Verifies (run_of attempt deeds) attempt (check_of attempt deeds)) (asked_was attempt s deeds h)
-asked_was attempt s (Stops r ∷ deeds) h = behind_one (Stops r) deeds (Verifies (run_of attempt deeds) attempt (check_of attempt deeds)) (asked_was attempt s deeds h)
+    (asked_was attempt s deeds (or_else (t == s) (verify_heard (run_of attempt deeds) attempt body (verify_at attempt s deeds)) (verify_at attempt s deeds)
+    (answer_back (run_of attempt deeds) attempt body (verify_at attempt s deeds)) h))
+asked_was attempt s (Begins r text ∷ deeds) h =
+    behind_one (Begins r text) deeds (Verifies (run_of attempt deeds) attempt (check_of attempt deeds)) (asked_was attempt s deeds h)
+asked_was attempt s (Triggers r act ∷ deeds) h =
+    behind_one (Triggers r act) deeds (Verifies (run_of attempt deeds) attempt (check_of attempt deeds)) (asked_was attempt s deeds h)
+asked_was attempt s (Stops r ∷ deeds) h =
+    behind_one (Stops r) deeds (Verifies (run_of attempt deeds) attempt (check_of attempt deeds)) (asked_was attempt s deeds h)

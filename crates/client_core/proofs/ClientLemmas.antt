@@ -21,30 +21,37 @@ both : (r : Option Fault) (a : Option Addition) → (is_none r && is_some a) ≡
 both None a = refl
 both (Some f) a = refl
 
-would_by : (on : Bool) (with peers : Peers) (n m : Noted) (p : PacketParts) → (on ≡ true → with ≡ peers) → (on ≡ true → m ≡ n) → (is_none (refusal_by on with m (Deliver p)) && is_some (addition_by m p.body)) ≡ is_some (due_by on peers n (Deliver p))
+would_by : (on : Bool) (with peers : Peers) (n m : Noted) (p : PacketParts) → (on ≡ true → with ≡ peers) → (on ≡ true → m ≡ n)
+    → (is_none (refusal_by on with m (Deliver p)) && is_some (addition_by m p.body)) ≡ is_some (due_by on peers n (Deliver p))
 would_by true with peers n m p f e =
     ap (λ x. is_none (refusal_by true x m (Deliver p)) && is_some (addition_by m p.body)) (f refl)
-    ∙ ap (λ x. is_none (refusal_by true peers x (Deliver p)) && is_some (addition_by x p.body)) (e refl) ∙ both (refusal_by true peers n (Deliver p)) (addition_by n p.body)
+    ∙ ap (λ x. is_none (refusal_by true peers x (Deliver p)) && is_some (addition_by x p.body)) (e refl)
+    ∙ both (refusal_by true peers n (Deliver p)) (addition_by n p.body)
 would_by false with peers n m p f e = refl
 
 not_not : (b : Bool) → not (not b) ≡ b
 not_not true = refl
 not_not false = refl
 
-pub stands_on : {T : Type 0} (note : T → Note) (client : PacketClient T) (o : Opening) (past : List Entry) → StandsFor note client o past → not client.down ≡ is_on past
+pub stands_on : {T : Type 0} (note : T → Note) (client : PacketClient T) (o : Opening) (past : List Entry) → StandsFor note client o past
+    → not client.down ≡ is_on past
 stands_on note client o past s = ap not s.on ∙ not_not (is_on past)
 
-pub stands_known : {T : Type 0} (note : T → Note) (client : PacketClient T) (o : Opening) (past : List Entry) → StandsFor note client o past → is_on past ≡ true → client.noted ≡ words_noted o past
+pub stands_known : {T : Type 0} (note : T → Note) (client : PacketClient T) (o : Opening) (past : List Entry) → StandsFor note client o past → is_on past ≡ true
+    → client.noted ≡ words_noted o past
 stands_known note client o past s on = s.knows ∙ ap (words_noted o) (looks_at_all past on)
 
-stands_with : {T : Type 0} (note : T → Note) (client : PacketClient T) (o : Opening) (past : List Entry) → StandsFor note client o past → is_on past ≡ true → client.peers ≡ peers o past
+stands_with : {T : Type 0} (note : T → Note) (client : PacketClient T) (o : Opening) (past : List Entry) → StandsFor note client o past → is_on past ≡ true
+    → client.peers ≡ peers o past
 stands_with note client o past s on = s.peers ∙ ap (peers o) (looks_at_all past on)
 
 pub stands_would : {T : Type 0} (note : T → Note) (client : PacketClient T) (o : Opening) (past : List Entry) (p : PacketParts) → StandsFor note client o past
-    → (is_none (refusal_by (not client.down) client.peers client.noted (Deliver p)) && is_some (addition_by client.noted p.body)) ≡ would_save o past (Deliver p)
+    → (is_none (refusal_by (not client.down) client.peers client.noted (Deliver p)) && is_some (addition_by client.noted p.body))
+    ≡ would_save o past (Deliver p)
 stands_would note client o past p s =
     ap (λ on. is_none (refusal_by on client.peers client.noted (Deliver p)) && is_some (addition_by client.noted p.body)) (stands_on note client o past s)
-    ∙ would_by (is_on past) client.peers (peers o past) (words_noted o past) client.noted p (stands_with note client o past s) (stands_known note client o past s)
+    ∙ would_by (is_on past) client.peers (peers o past) (words_noted o past) client.noted p (stands_with note client o past s)
+    (stands_known note client o past s)
 
 -- ---- a call that adds something unless it is refused
 
@@ -52,10 +59,12 @@ free_adds : (r : Option Fault) (a : Addition) → is_none r ≡ is_some (unless_
 free_adds None a = refl
 free_adds (Some f) a = refl
 
-pub call_would : {T : Type 0} (note : T → Note) (client : PacketClient T) (o : Opening) (past : List Entry) (c : Call) (a : Addition) → ((x : Noted) → addition_of x c ≡ Some a) → StandsFor note client o past
+pub call_would : {T : Type 0} (note : T → Note) (client : PacketClient T) (o : Opening) (past : List Entry) (c : Call) (a : Addition)
+    → ((x : Noted) → addition_of x c ≡ Some a) → StandsFor note client o past
     → is_none (refusal_by (not client.down) client.peers client.noted c) ≡ would_save o past c
 call_would note client o past c a adds s =
-    ap is_none (refusal_is note client o past c s) ∙ free_adds (refusal o past c) a ∙ ap (λ x. is_some (unless_refused (refusal o past c) x)) (sym (adds (words_noted o past)))
+    ap is_none (refusal_is note client o past c s) ∙ free_adds (refusal o past c) a
+    ∙ ap (λ x. is_some (unless_refused (refusal o past c) x)) (sym (adds (words_noted o past)))
 
 pub not_some : (b : Bool) (r : Option Fault) → not b ≡ is_some r → b ≡ is_none r
 not_some true None h = refl

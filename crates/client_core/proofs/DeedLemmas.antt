@@ -46,7 +46,8 @@ pub record SameAttempt (attempt : ℕ) (deed : Deed) (deeds : List Deed) : Type 
   pub text : check_of attempt (deed ∷ deeds) ≡ check_of attempt deeds
   pub verifies : (s : ℕ) → verify_at attempt s (deed ∷ deeds) ≡ verify_at attempt s deeds
 
-pub attempt_stays : (attempt : ℕ) (deed : Deed) (deeds : List Deed) (x : Option (Option AttemptAsked)) → SameAttempt attempt deed deeds → AttemptFor attempt deeds x → AttemptFor attempt (deed ∷ deeds) x
+pub attempt_stays : (attempt : ℕ) (deed : Deed) (deeds : List Deed) (x : Option (Option AttemptAsked)) → SameAttempt attempt deed deeds
+    → AttemptFor attempt deeds x → AttemptFor attempt (deed ∷ deeds) x
 attempt_stays attempt deed deeds None same h = record {
   run = same.run ∙ h.run;
   text = same.text ∙ h.text;
@@ -164,14 +165,16 @@ verify_other run attempt (bodies.Report r a job jobs report) q n = both_or _ _ _
 verify_other run attempt (bodies.Refused r) q n = both_or _ _ _ _ n
 verify_other run attempt _ q n = refl
 
-pub hears_other_attempt : (attempt server : ℕ) (body : Body) (deeds : List Deed) → (attempt_told body == attempt) ≡ false → SameAttempt attempt (Hears server body) deeds
+pub hears_other_attempt : (attempt server : ℕ) (body : Body) (deeds : List Deed) → (attempt_told body == attempt) ≡ false
+    → SameAttempt attempt (Hears server body) deeds
 hears_other_attempt attempt server body deeds n = record {
   run = refl;
   text = refl;
   verifies = λ s. if_same _ _ _ (verify_other (run_of attempt deeds) attempt body (verify_at attempt s deeds) n);
 }
 
-pub hears_report : (run server r a job jobs : ℕ) (report : ReportParts) (deeds : List Deed) → SameRun run (Hears server (bodies.Report r a job jobs report)) deeds
+pub hears_report : (run server r a job jobs : ℕ) (report : ReportParts) (deeds : List Deed)
+    → SameRun run (Hears server (bodies.Report r a job jobs report)) deeds
 hears_report run server r a job jobs report deeds = record {
   text = refl;
   act = refl;

@@ -33,13 +33,15 @@ pub record IsNew (n : Noted) (body : Body) (s : State) : Type 0 where
   pub room : length n.kept < KEPT_LIMIT
   pub no_report : IsNoReport body
 
-state_new : (n : Noted) (jobs : ℕ) (state s : State) (x : Option State) → kept_of state.key n.kept ≡ x → unless_kept x state ≡ Some (Keep s) → faults_of_body n (bodies.State jobs state) ≡ [] → IsNew n (bodies.State jobs state) s
+state_new : (n : Noted) (jobs : ℕ) (state s : State) (x : Option State) → kept_of state.key n.kept ≡ x → unless_kept x state ≡ Some (Keep s)
+    → faults_of_body n (bodies.State jobs state) ≡ [] → IsNew n (bodies.State jobs state) s
 state_new n jobs state s (Some kept) is e free = cc
 state_new n jobs state s None is e free =
     let same : state ≡ s = cc in
     subst (IsNew n (bodies.State jobs state)) same (record { new = is; room = has_room n.kept state is free; no_report = tt })
 
-copy_new : (n : Noted) (state s : State) (x : Option State) → kept_of state.key n.kept ≡ x → unless_kept x state ≡ Some (Keep s) → faults_of_body n (bodies.Copy state) ≡ [] → IsNew n (bodies.Copy state) s
+copy_new : (n : Noted) (state s : State) (x : Option State) → kept_of state.key n.kept ≡ x → unless_kept x state ≡ Some (Keep s)
+    → faults_of_body n (bodies.Copy state) ≡ [] → IsNew n (bodies.Copy state) s
 copy_new n state s (Some kept) is e free = cc
 copy_new n state s None is e free =
     let same : state ≡ s = cc in
@@ -51,14 +53,16 @@ adds_new n (bodies.Copy state) s e free = copy_new n state s (kept_of state.key 
 adds_new n _ s e free = cc
 
 -- What is replied to a body is what is replied to its packet.
-pub replied_to : (mirror : Bool) (n : Noted) (deeds : List Deed) (p : PacketParts) (server : ℕ) (body : Body) → p.body ≡ body → node_number p.from ≡ server → replies mirror n deeds server body ≡ replies mirror n deeds (node_number p.from) p.body
+pub replied_to : (mirror : Bool) (n : Noted) (deeds : List Deed) (p : PacketParts) (server : ℕ) (body : Body) → p.body ≡ body → node_number p.from ≡ server
+    → replies mirror n deeds server body ≡ replies mirror n deeds (node_number p.from) p.body
 replied_to mirror n deeds p server body e f = ap (λ s. replies mirror n deeds s body) (sym f) ∙ ap (replies mirror n deeds (node_number p.from)) (sym e)
 
 pub body_of_packet : (p : PacketParts) → is_packet p ≡ true → is_body p.body ≡ true
 body_of_packet p h = (and_parts (is_node p.from && is_node p.to) (is_body p.body) h).1
 
 -- A packet that isn't refused comes to a client that is up, and of whose note it has no fault.
-pub deliver_free : (down : Bool) (peers : Peers) (n : Noted) (p : PacketParts) → refusal_by (not down) peers n (Deliver p) ≡ None → (down ≡ false) × (is_for_client peers p ≡ true) × (faults_of_body n p.body ≡ [])
+pub deliver_free : (down : Bool) (peers : Peers) (n : Noted) (p : PacketParts) → refusal_by (not down) peers n (Deliver p) ≡ None
+    → (down ≡ false) × (is_for_client peers p ≡ true) × (faults_of_body n p.body ≡ [])
 deliver_free down peers n p r =
     let t = taken_in (not down) peers n p r in
     (is_up down t.0, t.1, t.2)
@@ -68,18 +72,21 @@ deliver_free down peers n p r =
     is_up false e = refl
 
 -- What isn't from the mirror is from a server.
-pub from_a_server : (peers : Peers) (p : PacketParts) → peers.servers ≤ MAX_SERVERS → is_mirror p.from ≡ false → is_for_client peers p ≡ true → node_number p.from < MAX_SERVERS
+pub from_a_server : (peers : Peers) (p : PacketParts) → peers.servers ≤ MAX_SERVERS → is_mirror p.from ≡ false → is_for_client peers p ≡ true
+    → node_number p.from < MAX_SERVERS
 from_a_server peers p few other h = below_eight (node_number p.from) peers.servers (server_below peers p.from p.to p.body other h) few
   where
     below_eight : (s servers : ℕ) → s < servers → servers ≤ MAX_SERVERS → s < MAX_SERVERS
     below_eight s servers l few = omega arith
 
 -- What is from the mirror comes to a client that has one, and is of its kinds.
-pub from_the_mirror : (peers : Peers) (p : PacketParts) → is_mirror p.from ≡ true → is_for_client peers p ≡ true → (peers.mirror ≡ true) × (is_of_mirror (kind_of p.body) ≡ true) × (is_client p.to ≡ true)
+pub from_the_mirror : (peers : Peers) (p : PacketParts) → is_mirror p.from ≡ true → is_for_client peers p ≡ true
+    → (peers.mirror ≡ true) × (is_of_mirror (kind_of p.body) ≡ true) × (is_client p.to ≡ true)
 from_the_mirror peers p from h = mirror_parts peers p.from p.to p.body from h
 
 -- Nothing is replied to the mirror.
-pub no_reply : (mirror : Bool) (n : Noted) (deeds : List Deed) (server : ℕ) (body : Body) → is_of_mirror (kind_of body) ≡ true → replies mirror n deeds server body ≡ []
+pub no_reply : (mirror : Bool) (n : Noted) (deeds : List Deed) (server : ℕ) (body : Body) → is_of_mirror (kind_of body) ≡ true
+    → replies mirror n deeds server body ≡ []
 no_reply mirror n deeds server (bodies.Copy state) h = refl
 no_reply mirror n deeds server (bodies.CopyOk r node job) h = refl
 no_reply mirror n deeds server (bodies.Granted generation) h = refl
@@ -90,7 +97,8 @@ pub record IsCopy (p : PacketParts) : Type 0 where
   pub grants : granted_by (Deliver p) ≡ []
   pub tells : (key : Key) → says_kept key p.body ≡ false
 
-pub adds_copy : (n : Noted) (p : PacketParts) (body : Body) (s : State) → p.body ≡ body → is_of_mirror (kind_of body) ≡ true → addition_by n body ≡ Some (Keep s) → IsCopy p
+pub adds_copy : (n : Noted) (p : PacketParts) (body : Body) (s : State) → p.body ≡ body → is_of_mirror (kind_of body) ≡ true
+    → addition_by n body ≡ Some (Keep s) → IsCopy p
 adds_copy n p (bodies.Copy state) s e h adds = record {
   grants = either (is_client p.to && is_mirror p.from) (granted_in p.body) (ap granted_in e);
   tells = λ key. ap (says_kept key) e;

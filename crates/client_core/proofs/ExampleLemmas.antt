@@ -2,7 +2,9 @@
 use Rattle.std.proofs.Common.{refl}
 use Rattle.verify_state.specs.Same.{is_same}
 use Rattle.client_core.specs.Refusals.{is_for_client, is_from_server, is_from_mirror, is_begun, has_next, is_of_generation, is_free_to_number}
-use Rattle.client_core.specs.Examples.{Begins, WaitsForTheBusy, KeepsTheFirst, TriggersToTheEnd, Verifies, GoesDown, KeepsWhatIsNoted, ForgetsByACut, AsksAgainInOrder, SpendsNumbers, NumbersOnceGranted, CopiesWhatIsKept, FetchesWhatWasLost, HearsItsMirrorAlone}
+use Rattle.client_core.specs.Examples.{Begins, WaitsForTheBusy, KeepsTheFirst, TriggersToTheEnd, Verifies, GoesDown, KeepsWhatIsNoted, ForgetsByACut}
+use Rattle.client_core.specs.Examples.{AsksAgainInOrder, SpendsNumbers}
+use Rattle.client_core.specs.MirrorExamples.{NumbersOnceGranted, CopiesWhatIsKept, FetchesWhatWasLost, HearsItsMirrorAlone}
 
 pub begins : Begins
 unfolding has_next is_of_generation is_free_to_number is_for_client is_from_server is_from_mirror
@@ -46,7 +48,8 @@ spends_numbers = record { spent = refl }
 
 pub numbers_once_granted : NumbersOnceGranted
 unfolding has_next is_of_generation is_free_to_number is_begun is_for_client is_from_server is_from_mirror is_same
-numbers_once_granted = record { not_yet = refl; asked = refl; quiet = refl; other = refl; asked_no_more = refl; given = refl; asked_in_each_life = refl; not_without = refl }
+numbers_once_granted =
+    record { not_yet = refl; asked = refl; quiet = refl; other = refl; asked_no_more = refl; given = refl; asked_in_each_life = refl; not_without = refl }
 
 pub copies_what_is_kept : CopiesWhatIsKept
 unfolding has_next is_of_generation is_free_to_number is_begun is_for_client is_from_server is_from_mirror is_same

@@ -27,13 +27,14 @@ use Rattle.client_core.specs.Life.{Deed, life, text_of}
 use Rattle.client_core.specs.declared.beginning.Beginning.{Beginning}
 use Rattle.client_core.specs.Begins.{begin_at}
 use Rattle.client_core.specs.declared.beginning.Beginning.TheVariants as begins
-use Rattle.client_core.specs.Packets.{to_mirror, copy_for, requests_again, fetch_again, is_copied, copy_again, copies_again, to_server, to_all, start_for, jobs_once_more, lacks_jobs, replies, packets_for, packets}
+use Rattle.client_core.specs.Packets.{to_mirror, copy_for, requests_again, fetch_again, is_copied, copy_again, copies_again}
+use Rattle.client_core.specs.Packets.{to_server, to_all, start_for, jobs_once_more, lacks_jobs, replies, packets_for, packets}
 use Rattle.client_core.specs.Bounds.{requests, most_copies, most_packets, AreShort, PacketsAreFew, FramesAreShort}
 use Rattle.client_core.specs.Framed.{frame_bytes}
 use Rattle.client_core.specs.History.{Opening, Entry, Met}
 use Rattle.client_core.specs.Laws.{PacketsAreInRange}
 use Rattle.client_core.proofs.DeliverLemmas.{body_of_packet}
-use Rattle.client_core.proofs.TickLemmas.{requests_again_few}
+use Rattle.client_core.proofs.AllTicksLemmas.{requests_again_few}
 
 pub length_below : (n : ℕ) → length (numbers_below n) ≡ n
 length_below zero = refl
@@ -64,22 +65,26 @@ one_more p ps h = omega arith
 
 replied : (mirror : Bool) (n : Noted) (deeds : List Deed) (s : ℕ) (body : Body) → length (replies mirror n deeds s body) ≤ MAX_SERVERS
 replied mirror n deeds s (bodies.JobsOk run jobs) = start_one run s (begin_at run s deeds)
-replied mirror n deeds s (bodies.State jobs state) = one_more (to_server (bodies.StateAck state.key.run state.key.job) s) (copy_for mirror state (kept_of state.key n.kept)) (copy_one mirror state (kept_of state.key n.kept))
+replied mirror n deeds s (bodies.State jobs state) = one_more (to_server (bodies.StateAck state.key.run state.key.job) s)
+    (copy_for mirror state (kept_of state.key n.kept)) (copy_one mirror state (kept_of state.key n.kept))
 replied mirror n deeds s (bodies.NoState run job jobs) = omega arith
 replied mirror n deeds s (bodies.WantState run attempt job) = omega arith
-replied mirror n deeds s (bodies.Refused r) = where_so (lacks_jobs r.asked r.reason) MAX_SERVERS (jobs_once_more r.run (text_of r.run deeds) s (begin_at r.run s deeds)) (jobs_one r.run (text_of r.run deeds) s (begin_at r.run s deeds))
+replied mirror n deeds s (bodies.Refused r) = where_so (lacks_jobs r.asked r.reason) MAX_SERVERS
+    (jobs_once_more r.run (text_of r.run deeds) s (begin_at r.run s deeds)) (jobs_one r.run (text_of r.run deeds) s (begin_at r.run s deeds))
 replied mirror n deeds s _ = omega arith
 
 -- what goes to the mirror is at most one packet and one for each state
 copy_few : (deeds : List Deed) (states : List State) → length (flat_map (copy_again deeds) states) ≤ length states
 copy_few deeds [] = omega arith
-copy_few deeds (s ∷ states) = at_most (is_copied s.key deeds) (to_mirror (bodies.Copy s)) (flat_map (copy_again deeds) states) (length states) (copy_few deeds states)
+copy_few deeds (s ∷ states) =
+    at_most (is_copied s.key deeds) (to_mirror (bodies.Copy s)) (flat_map (copy_again deeds) states) (length states) (copy_few deeds states)
   where
     at_most : (b : Bool) (p : PacketParts) (ps : List PacketParts) (n : ℕ) → length ps ≤ n → length ((if b then [] else p ∷ []) ++ ps) ≤ suc n
     at_most true p ps n h = omega arith
     at_most false p ps n h = omega arith
 
-mirror_few : (m b : Bool) (g : ℕ) (states : List State) (deeds : List Deed) → length (if m && b then to_mirror (bodies.Fetch g) ∷ [] else []) + length (copies_again m states deeds) ≤ (if m then 1 + length states else 0)
+mirror_few : (m b : Bool) (g : ℕ) (states : List State) (deeds : List Deed)
+    → length (if m && b then to_mirror (bodies.Fetch g) ∷ [] else []) + length (copies_again m states deeds) ≤ (if m then 1 + length states else 0)
 mirror_few true true g states deeds = omega (arith, copy_few deeds states)
 mirror_few true false g states deeds = omega (arith, copy_few deeds states)
 mirror_few false b g states deeds = omega arith
@@ -87,7 +92,8 @@ mirror_few false b g states deeds = omega arith
 together : (f r c : List PacketParts) (a b : ℕ) → length r ≤ a → length f + length c ≤ b → length (f ++ (r ++ c)) ≤ a + b
 together f r c a b h k = omega (arith, length-append f (r ++ c), length-append r c)
 
-called : (o : Opening) (past : List Entry) (c : Call) → o.servers ≤ MAX_SERVERS → length (packets_for (peers o past) (words_noted o past) (life o past) c) ≤ most_packets o past c
+called : (o : Opening) (past : List Entry) (c : Call) → o.servers ≤ MAX_SERVERS
+    → length (packets_for (peers o past) (words_noted o past) (life o past) c) ≤ most_packets o past c
 called o past (Begin text) l = each_server o.servers (bodies.Jobs ((words_noted o past).runs + 1) text) l
 called o past (Trigger run act) l = each_server o.servers (bodies.Trigger run act) l
 called o past (Stop run) l = each_server o.servers (bodies.Stop run) l
@@ -97,10 +103,13 @@ called o past Tick l =
     let f = fetch_again (peers o past) (words_noted o past).generation in
     let r = requests_again o.servers (life o past) in
     let c = copies_again (has_mirror past) (words_noted o past).kept (life o past) in
-    together f r c (o.servers * requests o past) (most_copies o past) (requests_again_few o.servers (life o past)) (mirror_few (has_mirror past) (nat_lt 0 (words_noted o past).generation && not (peers o past).granted) (words_noted o past).generation (words_noted o past).kept (life o past))
+    together f r c (o.servers * requests o past) (most_copies o past) (requests_again_few o.servers (life o past))
+    (mirror_few (has_mirror past) (nat_lt 0 (words_noted o past).generation && not (peers o past).granted) (words_noted o past).generation
+    (words_noted o past).kept (life o past))
 
 pub packets_are_few : PacketsAreFew
-packets_are_few o past c left l = where_so (is_answered o past c left) (most_packets o past c) (packets_for (peers o past) (words_noted o past) (life o past) c) (called o past c l)
+packets_are_few o past c left l =
+    where_so (is_answered o past c left) (most_packets o past c) (packets_for (peers o past) (words_noted o past) (life o past) c) (called o past c l)
 
 -- ---- the frames of packets
 

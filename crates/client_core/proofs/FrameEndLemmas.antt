@@ -39,7 +39,8 @@ use Rattle.client_core.specs.Ends as ends
 use Rattle.client_core.specs.Bounds.{AreShort, FramesAreShort}
 use Rattle.client_core.specs.Bounds as bounds
 use Rattle.client_core.specs.Hearing.{FrameEntry, Met, rules, heard_at, packets_heard, assembly}
-use Rattle.client_core.specs.FrameAnswers.{Sense, Hears, Keeps, Drops, Misses, sense_of, sense, is_drop, refusal, refusal_in, due, due_in, answered_entry, entry_heard, frames_by}
+use Rattle.client_core.specs.FrameAnswers.{Sense, Hears, Keeps, Drops, Misses, sense_of, sense, is_drop, refusal}
+use Rattle.client_core.specs.FrameAnswers.{refusal_in, due, due_in, answered_entry, entry_heard, frames_by}
 use Rattle.client_core.specs.FrameEnds.{StandsFor, most_packets, steps}
 use Rattle.client_core.proofs.HearingLemmas.{rows_after, entry_by, entry_is, heard_is, taken_by, same_rows, refused_rows, said_rows, dropped_rows}
 
@@ -80,25 +81,31 @@ most_is o past Tick = refl
 
 -- ---- whether the client is on
 
-on_is : (o : Opening) (past : List FrameEntry) (e : Input) (c : Call) (left : Left) → sense o past e ≡ Hears c → words.is_on (packets_heard o (Met e left ∷ past)) ≡ (words.is_on (packets_heard o past) && not (is_lost left))
+on_is : (o : Opening) (past : List FrameEntry) (e : Input) (c : Call) (left : Left) → sense o past e ≡ Hears c
+    → words.is_on (packets_heard o (Met e left ∷ past)) ≡ (words.is_on (packets_heard o past) && not (is_lost left))
 on_is o past e c left is = ap words.is_on (heard_is o past e left (Hears c) is)
 
 -- ---- a call that is heard
 
-heard_stands : {T : Type 0} (note : T → Note) (o : Opening) (past : List FrameEntry) (e : Input) (c : Call) (left : Left) (new : Client T) → sense o past e ≡ Hears c
-    → whole.StandsFor note new.core o (history.Met c left ∷ packets_heard o past) → (words.is_on (packets_heard o (Met e left ∷ past)) ≡ true → new.pieces ≡ rows_after o past e left) → StandsFor note new o (Met e left ∷ past)
+heard_stands : {T : Type 0} (note : T → Note) (o : Opening) (past : List FrameEntry) (e : Input) (c : Call) (left : Left) (new : Client T)
+    → sense o past e ≡ Hears c
+    → whole.StandsFor note new.core o (history.Met c left ∷ packets_heard o past)
+    → (words.is_on (packets_heard o (Met e left ∷ past)) ≡ true → new.pieces ≡ rows_after o past e left) → StandsFor note new o (Met e left ∷ past)
 heard_stands note o past e c left new is h k = record {
   core = subst (λ (list : List history.Entry). whole.StandsFor note new.core o list) (sym (heard_is o past e left (Hears c) is)) h;
   pieces = k;
 }
 
-heard_answers : {T : Type 0} (note : T → Note) (o : Opening) (past : List FrameEntry) (e : Input) (c : Call) (old new : Client T) (sent : List (List ℕ)) → FramesAreShort → BringsInRange c → sense o past e ≡ Hears c
-    → Answers (ends.steps note o) (packets_heard o past) c old.core new.core sent → (words.is_on (packets_heard o past) ≡ true → new.pieces ≡ rows_after o past e NoSave) → Answers (steps note o) past e old new sent
+heard_answers : {T : Type 0} (note : T → Note) (o : Opening) (past : List FrameEntry) (e : Input) (c : Call) (old new : Client T) (sent : List (List ℕ))
+    → FramesAreShort → BringsInRange c → sense o past e ≡ Hears c
+    → Answers (ends.steps note o) (packets_heard o past) c old.core new.core sent
+    → (words.is_on (packets_heard o past) ≡ true → new.pieces ≡ rows_after o past e NoSave) → Answers (steps note o) past e old new sent
 heard_answers note o past e c old new sent short brings is a k =
     let list = packets_heard o past in
     let left = saved_for (words.due o list c) in
     let same_entry : answered_entry o past e ≡ Met e left = ap (λ y. Met e (saved_for (due_in o list y))) is in
-    let says : entry_heard o past (answered_entry o past e) ≡ Some (history.Met c left) = ap (entry_heard o past) same_entry ∙ entry_is o past e left ∙ ap (λ y. entry_by y left) is in
+    let says : entry_heard o past (answered_entry o past e) ≡ Some (history.Met c left) =
+    ap (entry_heard o past) same_entry ∙ entry_is o past e left ∙ ap (λ y. entry_by y left) is in
     record {
       free = ap (refusal_in o list) is ∙ a.free;
       sends = record {
@@ -106,14 +113,19 @@ heard_answers note o past e c old new sent short brings is a k =
         short = λ i h. subst (λ n. AreShort n sent) (sym (ap (most_in o list) is) ∙ most_is o past e)
             (subst (AreShort (bounds.most_packets o list c)) (sym a.sends) (short o list c left i (came_with c left list brings h)));
       };
-      leaves = subst (λ d. LeavesNote d (spelling (words.words_noted o (packets_heard o (answered_entry o past e ∷ past)))) (note old.core.notes) (note new.core.notes)) (sym (ap (due_in o list) is))
-          (subst (λ (l : List history.Entry). LeavesNote (words.due o list c) (spelling (words.words_noted o l)) (note old.core.notes) (note new.core.notes)) (sym (ap (λ y. packets_heard o (y ∷ past)) same_entry ∙ heard_is o past e left (Hears c) is)) a.leaves);
+      leaves = subst (λ d. LeavesNote d (spelling (words.words_noted o (packets_heard o (answered_entry o past e ∷ past)))) (note old.core.notes)
+          (note new.core.notes)) (sym (ap (due_in o list) is))
+          (subst (λ (l : List history.Entry). LeavesNote (words.due o list c) (spelling (words.words_noted o l)) (note old.core.notes) (note new.core.notes))
+          (sym (ap (λ y. packets_heard o (y ∷ past)) same_entry ∙ heard_is o past e left (Hears c) is)) a.leaves);
       stands = subst (λ y. StandsFor note new o (y ∷ past)) (sym same_entry)
-          (heard_stands note o past e c left new is a.stands (λ on. k (on_before (words.is_on list) (is_lost left) (sym (on_is o past e c left is) ∙ on)) ∙ same_rows o past e NoSave left));
+          (heard_stands note o past e c left new is a.stands
+          (λ on. k (on_before (words.is_on list) (is_lost left) (sym (on_is o past e c left is) ∙ on)) ∙ same_rows o past e NoSave left));
     }
 
-pub heard_faults : {T : Type 0} (note : T → Note) (o : Opening) (past : List FrameEntry) (e : Input) (c : Call) (old new : Client T) (fault : Fault) → sense o past e ≡ Hears c → StandsFor note old o past
-    → (sort : FaultSort) → Faults (ends.steps note o) (packets_heard o past) c sort fault old.core new.core → new.pieces ≡ old.pieces → Faults (steps note o) past e sort fault old new
+pub heard_faults : {T : Type 0} (note : T → Note) (o : Opening) (past : List FrameEntry) (e : Input) (c : Call) (old new : Client T) (fault : Fault)
+    → sense o past e ≡ Hears c → StandsFor note old o past
+    → (sort : FaultSort) → Faults (ends.steps note o) (packets_heard o past) c sort fault old.core new.core → new.pieces ≡ old.pieces
+    → Faults (steps note o) past e sort fault old new
 heard_faults note o past e c old new fault is w sorts.Memory h k =
     record { why = h.why; same_note = h.same_note; unchanged = record { core = h.unchanged; pieces = λ on. k ∙ w.pieces on } }
 heard_faults note o past e c old new fault is w sorts.Save h k = record {
@@ -123,8 +135,10 @@ heard_faults note o past e c old new fault is w sorts.Save h k = record {
   makes_one = ap (due_in o (packets_heard o past)) is ∙ h.makes_one;
   left = h.left;
   lost = h.lost;
-  bytes_are = subst (λ (l : List history.Entry). (note new.core.notes).bytes ≡ bytes_left h.left (spelling (words.words_noted o l)) (note old.core.notes).bytes) (sym (heard_is o past e h.left (Hears c) is)) h.bytes_are;
-  stands = heard_stands note o past e c h.left new is h.stands (λ on. absurd (off_lost (words.is_on (packets_heard o past)) (is_lost h.left) h.lost (sym (on_is o past e c h.left is) ∙ on)));
+  bytes_are = subst (λ (l : List history.Entry). (note new.core.notes).bytes ≡ bytes_left h.left (spelling (words.words_noted o l)) (note old.core.notes).bytes)
+      (sym (heard_is o past e h.left (Hears c) is)) h.bytes_are;
+  stands = heard_stands note o past e c h.left new is h.stands
+      (λ on. absurd (off_lost (words.is_on (packets_heard o past)) (is_lost h.left) h.lost (sym (on_is o past e c h.left is) ∙ on)));
 }
 heard_faults note o past e c old new fault is w sorts.Refusal h k =
     let why : refusal o past e ≡ Some fault = ap (refusal_in o (packets_heard o past)) is ∙ h.why in
@@ -132,7 +146,8 @@ heard_faults note o past e c old new fault is w sorts.Refusal h k =
     record {
       why = why;
       same_note = h.same_note;
-      stands = heard_stands note o past e c NoSave new is h.stands (λ on. k ∙ w.pieces (on_before (words.is_on (packets_heard o past)) false (sym (on_is o past e c NoSave is) ∙ on)) ∙ sym rows);
+      stands = heard_stands note o past e c NoSave new is h.stands
+          (λ on. k ∙ w.pieces (on_before (words.is_on (packets_heard o past)) false (sym (on_is o past e c NoSave is) ∙ on)) ∙ sym rows);
       unchanged = λ d. record { core = h.unchanged; pieces = λ on. k ∙ w.pieces on };
     }
 
@@ -141,40 +156,55 @@ heard_faults note o past e c old new fault is w sorts.Refusal h k =
 abbrev with_core : {T : Type 0} → Client T → PacketClient T → Client T
 with_core client core = record client { core = core }
 
-pub whole_ends : {T : Type 0} (note : T → Note) (o : Opening) (past : List FrameEntry) (e : Input) (c : Call) (old : Client T) (core : PacketClient T) (result : Result (List (List ℕ)) Fault) → FramesAreShort → BringsInRange c → sense o past e ≡ Hears c
-    → rows_after o past e NoSave ≡ assembly o past → StandsFor note old o past → Ends (ends.steps note o) (packets_heard o past) c old.core core result → Ends (steps note o) past e old (with_core old core) result
-whole_ends note o past e c old core (Ok sent) short brings is same w h = heard_answers note o past e c old (with_core old core) sent short brings is h (λ on. w.pieces on ∙ sym same)
-whole_ends note o past e c old core (Err fault) short brings is same w h = heard_faults note o past e c old (with_core old core) fault is w (sort_of fault) h refl
+pub whole_ends : {T : Type 0} (note : T → Note) (o : Opening) (past : List FrameEntry) (e : Input) (c : Call) (old : Client T) (core : PacketClient T)
+    (result : Result (List (List ℕ)) Fault) → FramesAreShort → BringsInRange c → sense o past e ≡ Hears c
+    → rows_after o past e NoSave ≡ assembly o past → StandsFor note old o past → Ends (ends.steps note o) (packets_heard o past) c old.core core result
+    → Ends (steps note o) past e old (with_core old core) result
+whole_ends note o past e c old core (Ok sent) short brings is same w h =
+    heard_answers note o past e c old (with_core old core) sent short brings is h (λ on. w.pieces on ∙ sym same)
+whole_ends note o past e c old core (Err fault) short brings is same w h =
+    heard_faults note o past e c old (with_core old core) fault is w (sort_of fault) h refl
 
-pub whole_gives : {T : Type 0} (note : T → Note) (o : Opening) (past : List FrameEntry) (e : Input) (c : Call) (used : ℕ) (old : Client T) (core : PacketClient T) (result : Result (ℕ × List (List ℕ)) Fault) → FramesAreShort → BringsInRange c → sense o past e ≡ Hears c
-    → rows_after o past e NoSave ≡ assembly o past → StandsFor note old o past → Gives (ends.steps note o) (packets_heard o past) c used old.core core result → Gives (steps note o) past e used old (with_core old core) result
-whole_gives note o past e c used old core (Ok given) short brings is same w h = (h.0, heard_answers note o past e c old (with_core old core) given.1 short brings is h.1 (λ on. w.pieces on ∙ sym same))
-whole_gives note o past e c used old core (Err fault) short brings is same w h = heard_faults note o past e c old (with_core old core) fault is w (sort_of fault) h refl
+pub whole_gives : {T : Type 0} (note : T → Note) (o : Opening) (past : List FrameEntry) (e : Input) (c : Call) (used : ℕ) (old : Client T)
+    (core : PacketClient T) (result : Result (ℕ × List (List ℕ)) Fault) → FramesAreShort → BringsInRange c → sense o past e ≡ Hears c
+    → rows_after o past e NoSave ≡ assembly o past → StandsFor note old o past → Gives (ends.steps note o) (packets_heard o past) c used old.core core result
+    → Gives (steps note o) past e used old (with_core old core) result
+whole_gives note o past e c used old core (Ok given) short brings is same w h =
+    (h.0, heard_answers note o past e c old (with_core old core) given.1 short brings is h.1 (λ on. w.pieces on ∙ sym same))
+whole_gives note o past e c used old core (Err fault) short brings is same w h =
+    heard_faults note o past e c old (with_core old core) fault is w (sort_of fault) h refl
 
 -- ---- a piece that says a packet
 
 -- The packet is answered, and its tag goes.
-pub given_answers : {T : Type 0} (note : T → Note) (old : Client T) (core : PacketClient T) (o : Opening) (past : List FrameEntry) (q : PieceParts) (p : PacketParts) (result : Result (List (List ℕ)) Fault) → FramesAreShort → IsPacket p → StandsFor note old o past
-    → sense o past (Deliver (Piece q)) ≡ Hears (calls.Deliver p) → Ends (ends.steps note o) (packets_heard o past) (calls.Deliver p) old.core core result → is_ok result ≡ true
+pub given_answers : {T : Type 0} (note : T → Note) (old : Client T) (core : PacketClient T) (o : Opening) (past : List FrameEntry) (q : PieceParts)
+    (p : PacketParts) (result : Result (List (List ℕ)) Fault) → FramesAreShort → IsPacket p → StandsFor note old o past
+    → sense o past (Deliver (Piece q)) ≡ Hears (calls.Deliver p) → Ends (ends.steps note o) (packets_heard o past) (calls.Deliver p) old.core core result
+    → is_ok result ≡ true
     → Ends (steps note o) past (Deliver (Piece q)) old (record { alloc = old.alloc; core = core; pieces = without_tag q.tag old.pieces }) result
 given_answers note old core o past q p (Ok sent) short brings w is h ok =
-    heard_answers note o past (Deliver (Piece q)) (calls.Deliver p) old (record { alloc = old.alloc; core = core; pieces = without_tag q.tag old.pieces }) sent short brings is h
+    heard_answers note o past (Deliver (Piece q)) (calls.Deliver p) old
+    (record { alloc = old.alloc; core = core; pieces = without_tag q.tag old.pieces }) sent short brings is h
     (λ on. ap (without_tag q.tag) (w.pieces on) ∙ sym (said_rows o past q p NoSave is h.free))
 given_answers note old core o past q p (Err fault) short brings w is h ok = absurd cc
 
 -- The packet is refused, and its tag stays.
-pub given_refused : {T : Type 0} (note : T → Note) (old : Client T) (core : PacketClient T) (o : Opening) (past : List FrameEntry) (q : PieceParts) (p : PacketParts) (result : Result (List (List ℕ)) Fault) → StandsFor note old o past
-    → sense o past (Deliver (Piece q)) ≡ Hears (calls.Deliver p) → Ends (ends.steps note o) (packets_heard o past) (calls.Deliver p) old.core core result → is_ok result ≡ false
+pub given_refused : {T : Type 0} (note : T → Note) (old : Client T) (core : PacketClient T) (o : Opening) (past : List FrameEntry) (q : PieceParts)
+    (p : PacketParts) (result : Result (List (List ℕ)) Fault) → StandsFor note old o past
+    → sense o past (Deliver (Piece q)) ≡ Hears (calls.Deliver p) → Ends (ends.steps note o) (packets_heard o past) (calls.Deliver p) old.core core result
+    → is_ok result ≡ false
     → Ends (steps note o) past (Deliver (Piece q)) old (with_core old core) result
 given_refused note old core o past q p (Ok sent) w is h ok = absurd cc
-given_refused note old core o past q p (Err fault) w is h ok = heard_faults note o past (Deliver (Piece q)) (calls.Deliver p) old (with_core old core) fault is w (sort_of fault) h refl
+given_refused note old core o past q p (Err fault) w is h ok =
+    heard_faults note o past (Deliver (Piece q)) (calls.Deliver p) old (with_core old core) fault is w (sort_of fault) h refl
 
 -- ---- a piece that says nothing
 
 abbrev with_pieces : {T : Type 0} → Client T → List Row → Client T
 with_pieces client rows = record client { pieces = rows }
 
-silent_stands : {T : Type 0} (note : T → Note) (o : Opening) (past : List FrameEntry) (e : Input) (s : Sense) (left : Left) (old : Client T) (rows : List Row) → sense o past e ≡ s → entry_by s left ≡ None
+silent_stands : {T : Type 0} (note : T → Note) (o : Opening) (past : List FrameEntry) (e : Input) (s : Sense) (left : Left) (old : Client T) (rows : List Row)
+    → sense o past e ≡ s → entry_by s left ≡ None
     → StandsFor note old o past → (old.pieces ≡ assembly o past → rows ≡ rows_after o past e left) → StandsFor note (with_pieces old rows) o (Met e left ∷ past)
 silent_stands note o past e s left old rows is none w k =
     let same = heard_is o past e left s is ∙ ap (λ (y : Option history.Entry). with_entry y (packets_heard o past)) none in
@@ -183,7 +213,8 @@ silent_stands note o past e s left old rows is none w k =
       pieces = λ on. k (w.pieces (sym (ap words.is_on same) ∙ on));
     }
 
-pub kept_ends : {T : Type 0} (note : T → Note) (o : Opening) (past : List FrameEntry) (q : PieceParts) (old : Client T) → sense o past (Deliver (Piece q)) ≡ Keeps q → StandsFor note old o past
+pub kept_ends : {T : Type 0} (note : T → Note) (o : Opening) (past : List FrameEntry) (q : PieceParts) (old : Client T)
+    → sense o past (Deliver (Piece q)) ≡ Keeps q → StandsFor note old o past
     → Ends (steps note o) past (Deliver (Piece q)) old (with_pieces old (rows_after_piece old.pieces q)) (Ok [])
 kept_ends note o past q old is w =
     let e = Deliver (Piece q) in
@@ -195,16 +226,20 @@ kept_ends note o past q old is w =
         frames_are = ap (λ y. map frame_spelling (frames_by o list y)) (sym (entry_is o past e left ∙ ap (λ y. entry_by y left) is));
         short = λ i h. record { few = omega arith; short = omega arith };
       };
-      leaves = subst (λ d. LeavesNote d (spelling (words.words_noted o (packets_heard o (answered_entry o past e ∷ past)))) (note old.core.notes) (note old.core.notes)) (sym (ap (due_in o list) is)) refl;
-      stands = silent_stands note o past e (Keeps q) left old (rows_after_piece old.pieces q) is refl w (λ r. ap (λ x. rows_after_piece x q) r ∙ sym (taken_by o past e left (Keeps q) is));
+      leaves = subst (λ d. LeavesNote d (spelling (words.words_noted o (packets_heard o (answered_entry o past e ∷ past)))) (note old.core.notes)
+          (note old.core.notes)) (sym (ap (due_in o list) is)) refl;
+      stands = silent_stands note o past e (Keeps q) left old (rows_after_piece old.pieces q) is refl w
+          (λ r. ap (λ x. rows_after_piece x q) r ∙ sym (taken_by o past e left (Keeps q) is));
     }
 
-pub dropped_ends : {T : Type 0} (note : T → Note) (o : Opening) (past : List FrameEntry) (q : PieceParts) (old : Client T) → sense o past (Deliver (Piece q)) ≡ Drops q → StandsFor note old o past
+pub dropped_ends : {T : Type 0} (note : T → Note) (o : Opening) (past : List FrameEntry) (q : PieceParts) (old : Client T)
+    → sense o past (Deliver (Piece q)) ≡ Drops q → StandsFor note old o past
     → Ends (steps note o) past (Deliver (Piece q)) old (with_pieces old (without_tag q.tag old.pieces)) (Err FrameBadField)
 dropped_ends note o past q old is w = record {
   why = ap (refusal_in o (packets_heard o past)) is;
   same_note = refl;
-  stands = silent_stands note o past (Deliver (Piece q)) (Drops q) NoSave old (without_tag q.tag old.pieces) is refl w (λ r. ap (without_tag q.tag) r ∙ sym (dropped_rows o past q NoSave is));
+  stands = silent_stands note o past (Deliver (Piece q)) (Drops q) NoSave old (without_tag q.tag old.pieces) is refl w
+      (λ r. ap (without_tag q.tag) r ∙ sym (dropped_rows o past q NoSave is));
   unchanged = λ d. absurd (no_drop (sym (ap is_drop is) ∙ d));
 }
   where
@@ -212,17 +247,23 @@ dropped_ends note o past q old is w = record {
     no_drop d = cc
 
 -- A piece that isn't for the client changes nothing.
-pub missed_refuses : {T : Type 0} (note : T → Note) (o : Opening) (past : List FrameEntry) (q : PieceParts) (old : Client T) (fault : Fault) → sense o past (Deliver (Piece q)) ≡ Misses → StandsFor note old o past
+pub missed_refuses : {T : Type 0} (note : T → Note) (o : Opening) (past : List FrameEntry) (q : PieceParts) (old : Client T) (fault : Fault)
+    → sense o past (Deliver (Piece q)) ≡ Misses → StandsFor note old o past
     → refusal_in o (packets_heard o past) Misses ≡ Some fault → Refuses (steps note o) past (Deliver (Piece q)) fault old old
 missed_refuses note o past q old fault is w f = record {
   why = ap (refusal_in o (packets_heard o past)) is ∙ f;
   same_note = refl;
-  stands = silent_stands note o past (Deliver (Piece q)) Misses NoSave old old.pieces is refl w (λ r. r ∙ sym (taken_by o past (Deliver (Piece q)) NoSave Misses is));
+  stands = silent_stands note o past (Deliver (Piece q)) Misses NoSave old old.pieces is refl w
+      (λ r. r ∙ sym (taken_by o past (Deliver (Piece q)) NoSave Misses is));
   unchanged = λ d. w;
 }
 
-pub down_ends : {T : Type 0} (note : T → Note) (o : Opening) (past : List FrameEntry) (q : PieceParts) (old : Client T) → sense o past (Deliver (Piece q)) ≡ Misses → words.is_on (packets_heard o past) ≡ false → StandsFor note old o past → Ends (steps note o) past (Deliver (Piece q)) old old (Err Down)
+pub down_ends : {T : Type 0} (note : T → Note) (o : Opening) (past : List FrameEntry) (q : PieceParts) (old : Client T)
+    → sense o past (Deliver (Piece q)) ≡ Misses → words.is_on (packets_heard o past) ≡ false → StandsFor note old o past
+    → Ends (steps note o) past (Deliver (Piece q)) old old (Err Down)
 down_ends note o past q old is off w = missed_refuses note o past q old Down is w (ap (λ b. if b then Some Misdirected else Some Down) off)
 
-pub missed_ends : {T : Type 0} (note : T → Note) (o : Opening) (past : List FrameEntry) (q : PieceParts) (old : Client T) → sense o past (Deliver (Piece q)) ≡ Misses → words.is_on (packets_heard o past) ≡ true → StandsFor note old o past → Ends (steps note o) past (Deliver (Piece q)) old old (Err Misdirected)
+pub missed_ends : {T : Type 0} (note : T → Note) (o : Opening) (past : List FrameEntry) (q : PieceParts) (old : Client T)
+    → sense o past (Deliver (Piece q)) ≡ Misses → words.is_on (packets_heard o past) ≡ true → StandsFor note old o past
+    → Ends (steps note o) past (Deliver (Piece q)) old old (Err Misdirected)
 missed_ends note o past q old is on w = missed_refuses note o past q old Misdirected is w (ap (λ b. if b then Some Misdirected else Some Down) on)

@@ -63,7 +63,8 @@ given first last ns k =
       };
     }
 
-same : (f : List Deed → List ℕ) (b : Bool) (first last : ℕ) (x y : List Deed) → Known first last (f x) → Known first last (f y) → Known first last (f (if b then x else y))
+same : (f : List Deed → List ℕ) (b : Bool) (first last : ℕ) (x y : List Deed) → Known first last (f x) → Known first last (f y)
+    → Known first last (f (if b then x else y))
 same f true first last x y h k = h
 same f false first last x y h k = k
 
@@ -89,27 +90,32 @@ none_used n h =
     let c = and_parts (n.attempts == 0) _ b.1 in
     (eqb-true n.runs 0 b.0, eqb-true n.attempts 0 c.0)
 
-run_renewed : (first : ℕ) (b : Bool) (g : ℕ) (n : Noted) (ns : List ℕ) → (b ≡ true → n.runs ≡ 0) → Known first n.runs ns → Known first (if b then new_note g else n).runs ns
+run_renewed : (first : ℕ) (b : Bool) (g : ℕ) (n : Noted) (ns : List ℕ) → (b ≡ true → n.runs ≡ 0) → Known first n.runs ns
+    → Known first (if b then new_note g else n).runs ns
 run_renewed first true g n ns f k = higher first n.runs (g * 2 ^ 32) ns (from_none n.runs (g * 2 ^ 32) (f refl)) k
 run_renewed first false g n ns f k = k
 
-attempt_renewed : (first : ℕ) (b : Bool) (g : ℕ) (n : Noted) (ns : List ℕ) → (b ≡ true → n.attempts ≡ 0) → Known first n.attempts ns → Known first (if b then new_note g else n).attempts ns
+attempt_renewed : (first : ℕ) (b : Bool) (g : ℕ) (n : Noted) (ns : List ℕ) → (b ≡ true → n.attempts ≡ 0) → Known first n.attempts ns
+    → Known first (if b then new_note g else n).attempts ns
 attempt_renewed first true g n ns f k = higher first n.attempts (g * 2 ^ 32) ns (from_none n.attempts (g * 2 ^ 32) (f refl)) k
 attempt_renewed first false g n ns f k = k
 
 -- a state changes no number
-state_only : (new : Bool) (n : Noted) (x : Option State) (state : State) → ((noted_after new (unless_kept x state) n).runs ≡ n.runs) × ((noted_after new (unless_kept x state) n).attempts ≡ n.attempts)
+state_only : (new : Bool) (n : Noted) (x : Option State) (state : State)
+    → ((noted_after new (unless_kept x state) n).runs ≡ n.runs) × ((noted_after new (unless_kept x state) n).attempts ≡ n.attempts)
 state_only new n (Some s) state = (refl, refl)
 state_only true n None state = (refl, refl)
 state_only false n None state = (refl, refl)
 
-pub body_only : (new : Bool) (n : Noted) (body : Body) → ((noted_after new (addition_by n body) n).runs ≡ n.runs) × ((noted_after new (addition_by n body) n).attempts ≡ n.attempts)
+pub body_only : (new : Bool) (n : Noted) (body : Body) → ((noted_after new (addition_by n body) n).runs ≡ n.runs)
+    × ((noted_after new (addition_by n body) n).attempts ≡ n.attempts)
 body_only new n (bodies.State jobs state) = state_only new n (kept_of state.key n.kept) state
 body_only new n (bodies.Copy state) = state_only new n (kept_of state.key n.kept) state
 body_only new n _ = (refl, refl)
 
 pub run_step : (first : ℕ) (n : Noted) (c : Call) (r : Option Fault) (left : Left) (ds : List Deed) → Known first n.runs (runs_in ds)
-    → Known first (noted_after (has_new left) (unless_refused r (addition_of n c)) n).runs (runs_in (if is_none r && is_answer (unless_refused r (addition_of n c)) left then deeds_of n c ++ ds else ds))
+    → Known first (noted_after (has_new left) (unless_refused r (addition_of n c)) n).runs
+    (runs_in (if is_none r && is_answer (unless_refused r (addition_of n c)) left then deeds_of n c ++ ds else ds))
 run_step first n c (Some f) left ds k = k
 run_step first n (Begin text) None NoSave ds k = k
 run_step first n (Begin text) None Saved ds k = given first n.runs (runs_in ds) k
@@ -124,22 +130,26 @@ run_step first n (Verify run text) None LostOld ds k = k
 run_step first n (Deliver p) None left ds k =
     let e = (body_only (has_new left) n p.body).0 in
     let b = is_answer (addition_by n p.body) left in
-    subst (λ m. Known first m (runs_in (if b then Hears (node_number p.from) p.body ∷ ds else ds))) (sym e) (same runs_in b first n.runs (Hears (node_number p.from) p.body ∷ ds) ds k k)
+    subst (λ m. Known first m (runs_in (if b then Hears (node_number p.from) p.body ∷ ds else ds))) (sym e)
+    (same runs_in b first n.runs (Hears (node_number p.from) p.body ∷ ds) ds k k)
 run_step first n Tick None left ds k = same runs_in (is_answer {D = Addition} None left) first n.runs ds ds k k
 
 known_runs : (o : Opening) (past : List Entry) → IsTrue (loses_nothing past) → Known o.noted.runs (words_noted o past).runs (runs_in (deeds_done o past))
 known_runs o [] h = record { rises = omega arith; fresh = record { distinct = refl; above = tt; below = tt } }
-known_runs o (Met c left ∷ past) h = run_step o.noted.runs (words_noted o past) c (refusal_by (is_on past) (peers o past) (words_noted o past) c) left (deeds_done o past) (known_runs o past h)
+known_runs o (Met c left ∷ past) h =
+    run_step o.noted.runs (words_noted o past) c (refusal_by (is_on past) (peers o past) (words_noted o past) c) left (deeds_done o past) (known_runs o past h)
 known_runs o (Cut ∷ past) h = known_runs o past h
 known_runs o (Restart mirror ∷ past) h = known_runs o past h
-known_runs o (Renew g left ∷ past) h = run_renewed o.noted.runs (has_new left && may_renew g (words_noted o past)) g (words_noted o past) (runs_in (deeds_done o past)) (λ e. (none_used (words_noted o past) (blank_then (has_new left) g (words_noted o past) e)).0) (known_runs o past h)
+known_runs o (Renew g left ∷ past) h = run_renewed o.noted.runs (has_new left && may_renew g (words_noted o past)) g (words_noted o past)
+    (runs_in (deeds_done o past)) (λ e. (none_used (words_noted o past) (blank_then (has_new left) g (words_noted o past) e)).0) (known_runs o past h)
 known_runs o (Lose ∷ past) h = cc
 
 pub runs_are_fresh : RunsAreFresh
 runs_are_fresh o past h = (known_runs o past h).fresh
 
 pub attempt_step : (first : ℕ) (n : Noted) (c : Call) (r : Option Fault) (left : Left) (ds : List Deed) → Known first n.attempts (attempts_in ds)
-    → Known first (noted_after (has_new left) (unless_refused r (addition_of n c)) n).attempts (attempts_in (if is_none r && is_answer (unless_refused r (addition_of n c)) left then deeds_of n c ++ ds else ds))
+    → Known first (noted_after (has_new left) (unless_refused r (addition_of n c)) n).attempts
+    (attempts_in (if is_none r && is_answer (unless_refused r (addition_of n c)) left then deeds_of n c ++ ds else ds))
 attempt_step first n c (Some f) left ds k = k
 attempt_step first n (Verify run text) None NoSave ds k = k
 attempt_step first n (Verify run text) None Saved ds k = given first n.attempts (attempts_in ds) k
@@ -154,15 +164,19 @@ attempt_step first n (Begin text) None LostOld ds k = k
 attempt_step first n (Deliver p) None left ds k =
     let e = (body_only (has_new left) n p.body).1 in
     let b = is_answer (addition_by n p.body) left in
-    subst (λ m. Known first m (attempts_in (if b then Hears (node_number p.from) p.body ∷ ds else ds))) (sym e) (same attempts_in b first n.attempts (Hears (node_number p.from) p.body ∷ ds) ds k k)
+    subst (λ m. Known first m (attempts_in (if b then Hears (node_number p.from) p.body ∷ ds else ds))) (sym e)
+    (same attempts_in b first n.attempts (Hears (node_number p.from) p.body ∷ ds) ds k k)
 attempt_step first n Tick None left ds k = same attempts_in (is_answer {D = Addition} None left) first n.attempts ds ds k k
 
-known_attempts : (o : Opening) (past : List Entry) → IsTrue (loses_nothing past) → Known o.noted.attempts (words_noted o past).attempts (attempts_in (deeds_done o past))
+known_attempts : (o : Opening) (past : List Entry) → IsTrue (loses_nothing past)
+    → Known o.noted.attempts (words_noted o past).attempts (attempts_in (deeds_done o past))
 known_attempts o [] h = record { rises = omega arith; fresh = record { distinct = refl; above = tt; below = tt } }
-known_attempts o (Met c left ∷ past) h = attempt_step o.noted.attempts (words_noted o past) c (refusal_by (is_on past) (peers o past) (words_noted o past) c) left (deeds_done o past) (known_attempts o past h)
+known_attempts o (Met c left ∷ past) h = attempt_step o.noted.attempts (words_noted o past) c
+    (refusal_by (is_on past) (peers o past) (words_noted o past) c) left (deeds_done o past) (known_attempts o past h)
 known_attempts o (Cut ∷ past) h = known_attempts o past h
 known_attempts o (Restart mirror ∷ past) h = known_attempts o past h
-known_attempts o (Renew g left ∷ past) h = attempt_renewed o.noted.attempts (has_new left && may_renew g (words_noted o past)) g (words_noted o past) (attempts_in (deeds_done o past)) (λ e. (none_used (words_noted o past) (blank_then (has_new left) g (words_noted o past) e)).1) (known_attempts o past h)
+known_attempts o (Renew g left ∷ past) h = attempt_renewed o.noted.attempts (has_new left && may_renew g (words_noted o past)) g (words_noted o past)
+    (attempts_in (deeds_done o past)) (λ e. (none_used (words_noted o past) (blank_then (has_new left) g (words_noted o past) e)).1) (known_attempts o past h)
 known_attempts o (Lose ∷ past) h = cc
 
 pub attempts_are_fresh : AttemptsAreFresh

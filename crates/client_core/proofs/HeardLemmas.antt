@@ -27,13 +27,15 @@ use Rattle.client_core.specs.Refusals.{is_for_client, is_from_server, is_from_mi
 use Rattle.client_core.specs.Saves.{unless_kept, noted_after, is_answer}
 use Rattle.client_core.specs.Laws.{from_server, from_mirror}
 
-no_fault : (on ours : Bool) (more : List Fault) → slice_get (when (not on) Down ++ (when (not ours) Misdirected ++ more)) 0 ≡ None → (on ≡ true) × (ours ≡ true) × (more ≡ [])
+no_fault : (on ours : Bool) (more : List Fault) → slice_get (when (not on) Down ++ (when (not ours) Misdirected ++ more)) 0 ≡ None
+    → (on ≡ true) × (ours ≡ true) × (more ≡ [])
 no_fault true true [] h = (refl, refl, refl)
 no_fault true true (f ∷ more) h = cc
 no_fault true false more h = cc
 no_fault false ours more h = cc
 
-pub taken_in : (on : Bool) (peers : Peers) (n : Noted) (p : PacketParts) → refusal_by on peers n (Deliver p) ≡ None → (on ≡ true) × (is_for_client peers p ≡ true) × (faults_of_body n p.body ≡ [])
+pub taken_in : (on : Bool) (peers : Peers) (n : Noted) (p : PacketParts) → refusal_by on peers n (Deliver p) ≡ None
+    → (on ≡ true) × (is_for_client peers p ≡ true) × (faults_of_body n p.body ≡ [])
 taken_in on peers n p h = no_fault on (is_for_client peers p) (faults_of_body n p.body) h
 
 clash : (b : Bool) → b ≡ false → b ≡ true → ⊥
@@ -52,11 +54,13 @@ neither false true h = cc
 neither false false h = cc
 
 -- what the mirror doesn't send is from a server
-pub from_own : (peers : Peers) (from to : Node) (body : Body) → is_of_mirror (kind_of body) ≡ false → is_for_client peers (record { from = from; to = to; body = body }) ≡ true
+pub from_own : (peers : Peers) (from to : Node) (body : Body) → is_of_mirror (kind_of body) ≡ false
+    → is_for_client peers (record { from = from; to = to; body = body }) ≡ true
     → record { from = from; to = to; body = body } ≡ from_server body (node_number from)
 unfolding is_for_client is_from_server is_from_mirror
 from_own peers (nodes.Server f) nodes.Client body other h = refl
-from_own peers nodes.Mirror nodes.Client body other h = absurd (clash (is_of_mirror (kind_of body)) other ((and_parts peers.mirror (is_of_mirror (kind_of body)) h).1))
+from_own peers nodes.Mirror nodes.Client body other h =
+    absurd (clash (is_of_mirror (kind_of body)) other ((and_parts peers.mirror (is_of_mirror (kind_of body)) h).1))
 from_own peers (nodes.Server f) (nodes.Server t) body other h = cc
 from_own peers (nodes.Server f) nodes.Mirror body other h = cc
 from_own peers nodes.Client (nodes.Server t) body other h = cc
@@ -79,7 +83,8 @@ from_its_mirror peers nodes.Client nodes.Mirror state h = cc
 from_its_mirror peers nodes.Mirror (nodes.Server t) state h = cc
 from_its_mirror peers nodes.Mirror nodes.Mirror state h = cc
 
-pub own_state : (peers : Peers) (from to : Node) (jobs : ℕ) (s : State) → is_for_client peers (record { from = from; to = to; body = bodies.State jobs s }) ≡ true → s.key.server ≡ node_number from
+pub own_state : (peers : Peers) (from to : Node) (jobs : ℕ) (s : State)
+    → is_for_client peers (record { from = from; to = to; body = bodies.State jobs s }) ≡ true → s.key.server ≡ node_number from
 unfolding is_for_client is_from_server is_from_mirror
 own_state peers (nodes.Server f) nodes.Client jobs s h =
     let a = first_alone (nat_lt f peers.servers && (s.key.server == f)) peers.mirror h in
@@ -94,7 +99,8 @@ own_state peers nodes.Client nodes.Mirror jobs s h = cc
 own_state peers nodes.Mirror (nodes.Server t) jobs s h = cc
 own_state peers nodes.Mirror nodes.Mirror jobs s h = cc
 
-pub server_below : (peers : Peers) (from to : Node) (body : Body) → is_mirror from ≡ false → is_for_client peers (record { from = from; to = to; body = body }) ≡ true → node_number from < peers.servers
+pub server_below : (peers : Peers) (from to : Node) (body : Body) → is_mirror from ≡ false
+    → is_for_client peers (record { from = from; to = to; body = body }) ≡ true → node_number from < peers.servers
 unfolding is_for_client is_from_server is_from_mirror
 server_below peers (nodes.Server f) nodes.Client body other h =
     let a = first_alone (nat_lt f peers.servers && _) peers.mirror h in
@@ -107,7 +113,9 @@ server_below peers nodes.Client nodes.Client body other h = absurd (neither fals
 server_below peers nodes.Client nodes.Mirror body other h = cc
 server_below peers nodes.Mirror to body other h = cc
 
-pub mirror_parts : (peers : Peers) (from to : Node) (body : Body) → is_mirror from ≡ true → is_for_client peers (record { from = from; to = to; body = body }) ≡ true → (peers.mirror ≡ true) × (is_of_mirror (kind_of body) ≡ true) × (is_client to ≡ true)
+pub mirror_parts : (peers : Peers) (from to : Node) (body : Body) → is_mirror from ≡ true
+    → is_for_client peers (record { from = from; to = to; body = body }) ≡ true
+    → (peers.mirror ≡ true) × (is_of_mirror (kind_of body) ≡ true) × (is_client to ≡ true)
 unfolding is_for_client is_from_server is_from_mirror
 mirror_parts peers nodes.Mirror nodes.Client body from h = let p = and_parts peers.mirror (is_of_mirror (kind_of body)) h in (p.0, p.1, refl)
 mirror_parts peers nodes.Mirror nodes.Mirror body from h = cc
@@ -115,7 +123,8 @@ mirror_parts peers nodes.Mirror (nodes.Server t) body from h = cc
 mirror_parts peers nodes.Client to body from h = cc
 mirror_parts peers (nodes.Server f) to body from h = cc
 
-pub sender_below : (peers : Peers) (from to : Node) (body : Body) → is_of_mirror (kind_of body) ≡ false → is_for_client peers (record { from = from; to = to; body = body }) ≡ true → node_number from < peers.servers
+pub sender_below : (peers : Peers) (from to : Node) (body : Body) → is_of_mirror (kind_of body) ≡ false
+    → is_for_client peers (record { from = from; to = to; body = body }) ≡ true → node_number from < peers.servers
 sender_below peers from to body other h = by_sender (is_mirror from) refl
   where
     by_sender : (b : Bool) → is_mirror from ≡ b → node_number from < peers.servers
@@ -127,7 +136,8 @@ none_or None b h = refl
 none_or (Some f) b h = cc
 
 -- after a state that was answered its key has a state
-pub has_one : LastIsFound → (n : Noted) (left : Left) (x : Option State) (state : State) → kept_of state.key n.kept ≡ x → is_answer (unless_kept x state) left ≡ true
+pub has_one : LastIsFound → (n : Noted) (left : Left) (x : Option State) (state : State) → kept_of state.key n.kept ≡ x
+    → is_answer (unless_kept x state) left ≡ true
     → (s : State) × (kept_of state.key (noted_after (has_new left) (unless_kept x state) n).kept ≡ Some s)
 has_one last n left (Some k) state h a = (k, h)
 has_one last n NoSave None state h a = cc

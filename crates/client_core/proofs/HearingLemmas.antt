@@ -47,7 +47,8 @@ entry_is o past (Deliver (Piece q)) left = piece_entry o q left (meaning (rules 
 entry_is o past Tick left = refl
 
 -- The packets that are heard behind an input.
-pub heard_is : (o : Opening) (past : List FrameEntry) (e : Input) (left : Left) (s : Sense) → sense o past e ≡ s → packets_heard o (Met e left ∷ past) ≡ with_entry (entry_by s left) (packets_heard o past)
+pub heard_is : (o : Opening) (past : List FrameEntry) (e : Input) (left : Left) (s : Sense) → sense o past e ≡ s
+    → packets_heard o (Met e left ∷ past) ≡ with_entry (entry_by s left) (packets_heard o past)
 heard_is o past e left s is = ap (λ (y : Option history.Entry). with_entry y (packets_heard o past)) (entry_is o past e left ∙ ap (λ y. entry_by y left) is)
 
 -- What a piece that says nothing leaves together.
@@ -57,7 +58,8 @@ IsTaken old new (Keeps q) = new ≡ rows_after_piece old q
 IsTaken old new (Drops q) = new ≡ rows_after_piece old q
 IsTaken old new Misses = new ≡ old
 
-piece_taken : (o : Opening) (past : List FrameEntry) (q : PieceParts) (m : Meaning) → IsTaken (assembly o past) (rows_by (rules o) (heard_at o past) q m) (sense_of q m)
+piece_taken : (o : Opening) (past : List FrameEntry) (q : PieceParts) (m : Meaning)
+    → IsTaken (assembly o past) (rows_by (rules o) (heard_at o past) q m) (sense_of q m)
 piece_taken o past q (Says p) = tt
 piece_taken o past q Waits = refl
 piece_taken o past q Spoils = refl
@@ -72,7 +74,8 @@ taken_is o past (Deliver (Whole p)) left = tt
 taken_is o past (Deliver (Piece q)) left = piece_taken o past q (meaning (rules o) (heard_at o past) (Piece q))
 taken_is o past Tick left = tt
 
-pub taken_by : (o : Opening) (past : List FrameEntry) (e : Input) (left : Left) (s : Sense) → sense o past e ≡ s → IsTaken (assembly o past) (rows_after o past e left) s
+pub taken_by : (o : Opening) (past : List FrameEntry) (e : Input) (left : Left) (s : Sense) → sense o past e ≡ s
+    → IsTaken (assembly o past) (rows_after o past e left) s
 taken_by o past e left s is = subst (IsTaken (assembly o past) (rows_after o past e left)) is (taken_is o past e left)
 
 -- The save doesn't matter for what has come together.
@@ -86,14 +89,16 @@ same_rows o past (Deliver (Piece q)) one other = refl
 same_rows o past Tick one other = refl
 
 -- A refused input that drops no tag leaves what has come together.
-piece_rows : (o : Opening) (past : List FrameEntry) (q : PieceParts) (m : Meaning) (fault : Fault) → refusal_in o (packets_heard o past) (sense_of q m) ≡ Some fault → is_drop (sense_of q m) ≡ false
+piece_rows : (o : Opening) (past : List FrameEntry) (q : PieceParts) (m : Meaning) (fault : Fault)
+    → refusal_in o (packets_heard o past) (sense_of q m) ≡ Some fault → is_drop (sense_of q m) ≡ false
     → rows_by (rules o) (heard_at o past) q m ≡ assembly o past
 piece_rows o past q (Says p) fault h d = refused_piece (assembly o past) q (words.refusal o (packets_heard o past) (calls.Deliver p)) fault h
 piece_rows o past q Waits fault h d = absurd cc
 piece_rows o past q Spoils fault h d = absurd cc
 piece_rows o past q Strays fault h d = refl
 
-pub refused_rows : (o : Opening) (past : List FrameEntry) (e : Input) (left : Left) (fault : Fault) → refusal_in o (packets_heard o past) (sense o past e) ≡ Some fault → is_drop (sense o past e) ≡ false → rows_after o past e left ≡ assembly o past
+pub refused_rows : (o : Opening) (past : List FrameEntry) (e : Input) (left : Left) (fault : Fault)
+    → refusal_in o (packets_heard o past) (sense o past e) ≡ Some fault → is_drop (sense o past e) ≡ false → rows_after o past e left ≡ assembly o past
 refused_rows o past (Begin text) left fault h d = refl
 refused_rows o past (Trigger run act) left fault h d = refl
 refused_rows o past (Stop run) left fault h d = refl
@@ -109,7 +114,8 @@ record Looked (on : Bool) (l gives : Look) : Type 0 where
   pub up : on ≡ true
   pub is : l ≡ gives
 
-gave : (on mine : Bool) (q : PieceParts) (p : PacketParts) (l : Look) → sense_of q (if on && mine then said_by l else Strays) ≡ Hears (calls.Deliver p) → Looked on l (Gives p)
+gave : (on mine : Bool) (q : PieceParts) (p : PacketParts) (l : Look) → sense_of q (if on && mine then said_by l else Strays) ≡ Hears (calls.Deliver p)
+    → Looked on l (Gives p)
 gave true true q p (Gives r) e = record { up = refl; is = cc }
 gave true true q p looks.Waits e = cc
 gave true true q p looks.NoPacket e = cc
@@ -123,7 +129,8 @@ spoiled true true q r (Gives p) e = cc
 spoiled true false q r l e = cc
 spoiled false mine q r l e = cc
 
-pub said_rows : (o : Opening) (past : List FrameEntry) (q : PieceParts) (p : PacketParts) (left : Left) → sense o past (Deliver (Piece q)) ≡ Hears (calls.Deliver p) → words.refusal o (packets_heard o past) (calls.Deliver p) ≡ None
+pub said_rows : (o : Opening) (past : List FrameEntry) (q : PieceParts) (p : PacketParts) (left : Left)
+    → sense o past (Deliver (Piece q)) ≡ Hears (calls.Deliver p) → words.refusal o (packets_heard o past) (calls.Deliver p) ≡ None
     → rows_after o past (Deliver (Piece q)) left ≡ without_tag q.tag (assembly o past)
 said_rows o past q p left is free =
     by_meaning (meaning (rules o) (heard_at o past) (Piece q)) is
@@ -132,8 +139,10 @@ said_rows o past q p left is free =
     same_packet : (r : PacketParts) → Hears (calls.Deliver r) ≡ Hears (calls.Deliver p) → r ≡ p
     same_packet r e = cc
 
-    taken_free : (r : PacketParts) → r ≡ p → (if is_some (words.refusal o (packets_heard o past) (calls.Deliver r)) then assembly o past else rows_after_piece (assembly o past) q) ≡ rows_after_piece (assembly o past) q
-    taken_free r e = ap (λ (x : PacketParts). if is_some (words.refusal o (packets_heard o past) (calls.Deliver x)) then assembly o past else rows_after_piece (assembly o past) q) e
+    taken_free : (r : PacketParts) → r ≡ p → (if is_some (words.refusal o (packets_heard o past) (calls.Deliver r)) then assembly o past
+        else rows_after_piece (assembly o past) q) ≡ rows_after_piece (assembly o past) q
+    taken_free r e = ap (λ (x : PacketParts). if is_some (words.refusal o (packets_heard o past) (calls.Deliver x)) then assembly o past
+        else rows_after_piece (assembly o past) q) e
         ∙ ap (λ (x : Option Fault). if is_some x then assembly o past else rows_after_piece (assembly o past) q) free
 
     by_meaning : (m : Meaning) → sense_of q m ≡ Hears (calls.Deliver p) → rows_by (rules o) (heard_at o past) q m ≡ rows_after_piece (assembly o past) q
@@ -143,7 +152,8 @@ said_rows o past q p left is free =
     by_meaning Strays e = cc
 
 -- A piece whose tag is dropped.
-pub dropped_rows : (o : Opening) (past : List FrameEntry) (q : PieceParts) (left : Left) → sense o past (Deliver (Piece q)) ≡ Drops q → rows_after o past (Deliver (Piece q)) left ≡ without_tag q.tag (assembly o past)
+pub dropped_rows : (o : Opening) (past : List FrameEntry) (q : PieceParts) (left : Left) → sense o past (Deliver (Piece q)) ≡ Drops q
+    → rows_after o past (Deliver (Piece q)) left ≡ without_tag q.tag (assembly o past)
 dropped_rows o past q left is =
     taken_by o past (Deliver (Piece q)) left (Drops q) is
     ∙ spoiled_gone (assembly o past) q (spoiled (is_on (packets_heard o past)) (is_piece_for o.servers q) q q (look_at_piece (assembly o past) q) is).is

@@ -36,7 +36,8 @@ added_stays stays key NextRun n s h = h
 added_stays stays key NextAttempt n s h = h
 added_stays stays key (Keep state) n s h = stays key n.kept (state ∷ []) s h
 
-noted_stays : FoundStays → (key : Key) (new : Bool) (d : Option Addition) (n : Noted) (s : State) → kept_of key n.kept ≡ Some s → kept_of key (noted_after new d n).kept ≡ Some s
+noted_stays : FoundStays → (key : Key) (new : Bool) (d : Option Addition) (n : Noted) (s : State) → kept_of key n.kept ≡ Some s
+    → kept_of key (noted_after new d n).kept ≡ Some s
 noted_stays stays key new None n s h = h
 noted_stays stays key true (Some a) n s h = added_stays stays key a n s h
 noted_stays stays key false (Some a) n s h = h
@@ -57,7 +58,8 @@ blank_keeps_none key n s h k =
     none [] e k = cc
     none (x ∷ rest) e k = let z : length (x ∷ rest) ≡ 0 = eqb-true (length (x ∷ rest)) 0 e in omega arith
 
-renewed_stays : (key : Key) (b : Bool) (g : ℕ) (n : Noted) (s : State) → (b ≡ true → is_blank n ≡ true) → kept_of key n.kept ≡ Some s → kept_of key (if b then new_note g else n).kept ≡ Some s
+renewed_stays : (key : Key) (b : Bool) (g : ℕ) (n : Noted) (s : State) → (b ≡ true → is_blank n ≡ true) → kept_of key n.kept ≡ Some s
+    → kept_of key (if b then new_note g else n).kept ≡ Some s
 renewed_stays key true g n s f h = absurd (blank_keeps_none key n s (f refl) h)
 renewed_stays key false g n s f h = h
 
@@ -66,8 +68,10 @@ renewed_had key true g n s h = cc
 renewed_had key false g n s h = h
 
 -- a kept state stays for one more call
-stays_after : FoundStays → (o : Opening) (c : Call) (left : Left) (past : List Entry) (key : Key) (s : State) → kept_state o past key ≡ Some s → kept_state o (Met c left ∷ past) key ≡ Some s
-stays_after stays o c left past key s h = noted_stays stays key (has_new left) (due_by (is_on past) (peers o past) (words_noted o past) c) (words_noted o past) s h
+stays_after : FoundStays → (o : Opening) (c : Call) (left : Left) (past : List Entry) (key : Key) (s : State) → kept_state o past key ≡ Some s
+    → kept_state o (Met c left ∷ past) key ≡ Some s
+stays_after stays o c left past key s h =
+    noted_stays stays key (has_new left) (due_by (is_on past) (peers o past) (words_noted o past) c) (words_noted o past) s h
 
 pub first_kept_stays : FoundStays → FirstKeptStays
 first_kept_stays stays o [] past key s q h = h
@@ -87,66 +91,84 @@ Brought packets key s = ((jobs : ℕ) × Contains packets (from_server (bodies.S
 abbrev CameFrom : Noted → List PacketParts → Key → State → Type 0
 CameFrom n packets key s = (kept_of key n.kept ≡ Some s) ⊎ Brought packets key s
 
-number_only : (new : Bool) (r : Option Fault) (n : Noted) (packets : List PacketParts) (key : Key) (s : State) → kept_of key (noted_after new (unless_refused r (Some NextRun)) n).kept ≡ Some s → CameFrom n packets key s
+number_only : (new : Bool) (r : Option Fault) (n : Noted) (packets : List PacketParts) (key : Key) (s : State)
+    → kept_of key (noted_after new (unless_refused r (Some NextRun)) n).kept ≡ Some s → CameFrom n packets key s
 number_only new (Some f) n packets key s h = inl h
 number_only true None n packets key s h = inl h
 number_only false None n packets key s h = inl h
 
-attempt_only : (new : Bool) (r : Option Fault) (n : Noted) (packets : List PacketParts) (key : Key) (s : State) → kept_of key (noted_after new (unless_refused r (Some NextAttempt)) n).kept ≡ Some s → CameFrom n packets key s
+attempt_only : (new : Bool) (r : Option Fault) (n : Noted) (packets : List PacketParts) (key : Key) (s : State)
+    → kept_of key (noted_after new (unless_refused r (Some NextAttempt)) n).kept ≡ Some s → CameFrom n packets key s
 attempt_only new (Some f) n packets key s h = inl h
 attempt_only true None n packets key s h = inl h
 attempt_only false None n packets key s h = inl h
 
-nothing : (new : Bool) (r : Option Fault) (n : Noted) (packets : List PacketParts) (key : Key) (s : State) → kept_of key (noted_after new (unless_refused r None) n).kept ≡ Some s → CameFrom n packets key s
+nothing : (new : Bool) (r : Option Fault) (n : Noted) (packets : List PacketParts) (key : Key) (s : State)
+    → kept_of key (noted_after new (unless_refused r None) n).kept ≡ Some s → CameFrom n packets key s
 nothing new (Some f) n packets key s h = inl h
 nothing new None n packets key s h = inl h
 
-pub state_brought : (peers : Peers) (from to : Node) (jobs : ℕ) (state s : State) (key : Key) → is_for_client peers (record { from = from; to = to; body = bodies.State jobs state }) ≡ true
+pub state_brought : (peers : Peers) (from to : Node) (jobs : ℕ) (state s : State) (key : Key)
+    → is_for_client peers (record { from = from; to = to; body = bodies.State jobs state }) ≡ true
     → state ≡ s → state.key ≡ key → Brought (record { from = from; to = to; body = bodies.State jobs state } ∷ []) key s
 state_brought peers from to jobs state s key ours e has =
-    let p : record { from = from; to = to; body = bodies.State jobs state } ≡ from_server (bodies.State jobs state) (node_number from) = from_own peers from to (bodies.State jobs state) refl ours in
+    let p : record { from = from; to = to; body = bodies.State jobs state } ≡ from_server (bodies.State jobs state) (node_number from) =
+    from_own peers from to (bodies.State jobs state) refl ours in
     let own : node_number from ≡ key.server = sym (own_state peers from to jobs state ours) ∙ ap (λ (x : Key). x.server) has in
     let q : from_server (bodies.State jobs state) (node_number from) ≡ from_server (bodies.State jobs s) key.server =
     λ i. from_server (bodies.State jobs (e i)) (own i) in
     inl (jobs, one (record { from = from; to = to; body = bodies.State jobs state }) (from_server (bodies.State jobs s) key.server) (p ∙ q))
 
-pushed : (peers : Peers) (n : Noted) (from to : Node) (jobs : ℕ) (state s : State) (key : Key) → is_for_client peers (record { from = from; to = to; body = bodies.State jobs state }) ≡ true
-    → (kept_of key n.kept ≡ Some s) ⊎ ((state ≡ s) × (state.key ≡ key)) → CameFrom n (record { from = from; to = to; body = bodies.State jobs state } ∷ []) key s
+pushed : (peers : Peers) (n : Noted) (from to : Node) (jobs : ℕ) (state s : State) (key : Key)
+    → is_for_client peers (record { from = from; to = to; body = bodies.State jobs state }) ≡ true
+    → (kept_of key n.kept ≡ Some s) ⊎ ((state ≡ s) × (state.key ≡ key))
+    → CameFrom n (record { from = from; to = to; body = bodies.State jobs state } ∷ []) key s
 pushed peers n from to jobs state s key ours (inl e) = inl e
 pushed peers n from to jobs state s key ours (inr e) = inr (state_brought peers from to jobs state s key ours e.0 e.1)
 
-state_came : FoundOrLast → (peers : Peers) (n : Noted) (from to : Node) (jobs : ℕ) (state s : State) (key : Key) (new : Bool) (before : Option State) → is_for_client peers (record { from = from; to = to; body = bodies.State jobs state }) ≡ true
-    → kept_of key (noted_after new (unless_kept before state) n).kept ≡ Some s → CameFrom n (record { from = from; to = to; body = bodies.State jobs state } ∷ []) key s
+state_came : FoundOrLast → (peers : Peers) (n : Noted) (from to : Node) (jobs : ℕ) (state s : State) (key : Key) (new : Bool) (before : Option State)
+    → is_for_client peers (record { from = from; to = to; body = bodies.State jobs state }) ≡ true
+    → kept_of key (noted_after new (unless_kept before state) n).kept ≡ Some s
+    → CameFrom n (record { from = from; to = to; body = bodies.State jobs state } ∷ []) key s
 state_came only peers n from to jobs state s key new (Some before) ours h = inl h
 state_came only peers n from to jobs state s key true None ours h = pushed peers n from to jobs state s key ours (only key n.kept state s h)
 state_came only peers n from to jobs state s key false None ours h = inl h
 
-pub copy_brought : (peers : Peers) (from to : Node) (state s : State) (key : Key) → is_for_client peers (record { from = from; to = to; body = bodies.Copy state }) ≡ true
+pub copy_brought : (peers : Peers) (from to : Node) (state s : State) (key : Key)
+    → is_for_client peers (record { from = from; to = to; body = bodies.Copy state }) ≡ true
     → state ≡ s → Brought (record { from = from; to = to; body = bodies.Copy state } ∷ []) key s
 copy_brought peers from to state s key ours e =
     let p : record { from = from; to = to; body = bodies.Copy state } ≡ from_mirror (bodies.Copy state) = from_its_mirror peers from to state ours in
     let q : from_mirror (bodies.Copy state) ≡ from_mirror (bodies.Copy s) = λ i. from_mirror (bodies.Copy (e i)) in
     inr (one (record { from = from; to = to; body = bodies.Copy state }) (from_mirror (bodies.Copy s)) (p ∙ q))
 
-copied : (peers : Peers) (n : Noted) (from to : Node) (state s : State) (key : Key) → is_for_client peers (record { from = from; to = to; body = bodies.Copy state }) ≡ true
+copied : (peers : Peers) (n : Noted) (from to : Node) (state s : State) (key : Key)
+    → is_for_client peers (record { from = from; to = to; body = bodies.Copy state }) ≡ true
     → (kept_of key n.kept ≡ Some s) ⊎ ((state ≡ s) × (state.key ≡ key)) → CameFrom n (record { from = from; to = to; body = bodies.Copy state } ∷ []) key s
 copied peers n from to state s key ours (inl e) = inl e
 copied peers n from to state s key ours (inr e) = inr (copy_brought peers from to state s key ours e.0)
 
-copy_came : FoundOrLast → (peers : Peers) (n : Noted) (from to : Node) (state s : State) (key : Key) (new : Bool) (before : Option State) → is_for_client peers (record { from = from; to = to; body = bodies.Copy state }) ≡ true
-    → kept_of key (noted_after new (unless_kept before state) n).kept ≡ Some s → CameFrom n (record { from = from; to = to; body = bodies.Copy state } ∷ []) key s
+copy_came : FoundOrLast → (peers : Peers) (n : Noted) (from to : Node) (state s : State) (key : Key) (new : Bool) (before : Option State)
+    → is_for_client peers (record { from = from; to = to; body = bodies.Copy state }) ≡ true
+    → kept_of key (noted_after new (unless_kept before state) n).kept ≡ Some s
+    → CameFrom n (record { from = from; to = to; body = bodies.Copy state } ∷ []) key s
 copy_came only peers n from to state s key new (Some before) ours h = inl h
 copy_came only peers n from to state s key true None ours h = copied peers n from to state s key ours (only key n.kept state s h)
 copy_came only peers n from to state s key false None ours h = inl h
 
-delivered : FoundOrLast → (peers : Peers) (n : Noted) (from to : Node) (body : Body) (s : State) (key : Key) (new : Bool) (r : Option Fault) → (r ≡ None → is_for_client peers (record { from = from; to = to; body = body }) ≡ true)
-    → kept_of key (noted_after new (unless_refused r (addition_by n body)) n).kept ≡ Some s → CameFrom n (record { from = from; to = to; body = body } ∷ []) key s
+delivered : FoundOrLast → (peers : Peers) (n : Noted) (from to : Node) (body : Body) (s : State) (key : Key) (new : Bool) (r : Option Fault)
+    → (r ≡ None → is_for_client peers (record { from = from; to = to; body = body }) ≡ true)
+    → kept_of key (noted_after new (unless_refused r (addition_by n body)) n).kept ≡ Some s
+    → CameFrom n (record { from = from; to = to; body = body } ∷ []) key s
 delivered only peers n from to body s key new (Some f) ours h = inl h
-delivered only peers n from to (bodies.State jobs state) s key new None ours h = state_came only peers n from to jobs state s key new (kept_of state.key n.kept) (ours refl) h
-delivered only peers n from to (bodies.Copy state) s key new None ours h = copy_came only peers n from to state s key new (kept_of state.key n.kept) (ours refl) h
+delivered only peers n from to (bodies.State jobs state) s key new None ours h =
+    state_came only peers n from to jobs state s key new (kept_of state.key n.kept) (ours refl) h
+delivered only peers n from to (bodies.Copy state) s key new None ours h =
+    copy_came only peers n from to state s key new (kept_of state.key n.kept) (ours refl) h
 delivered only peers n from to _ s key new None ours h = inl h
 
-called : FoundOrLast → (peers : Peers) (on : Bool) (n : Noted) (c : Call) (left : Left) (key : Key) (s : State) → kept_of key (noted_after (has_new left) (due_by on peers n c) n).kept ≡ Some s → CameFrom n (packet_in (Met c left)) key s
+called : FoundOrLast → (peers : Peers) (on : Bool) (n : Noted) (c : Call) (left : Left) (key : Key) (s : State)
+    → kept_of key (noted_after (has_new left) (due_by on peers n c) n).kept ≡ Some s → CameFrom n (packet_in (Met c left)) key s
 called only peers on n (Begin text) left key s h = number_only (has_new left) (refusal_by on peers n (Begin text)) n [] key s h
 called only peers on n (Trigger run act) left key s h = nothing (has_new left) (refusal_by on peers n (Trigger run act)) n [] key s h
 called only peers on n (Stop run) left key s h = nothing (has_new left) (refusal_by on peers n (Stop run)) n [] key s h
@@ -171,16 +193,19 @@ earlier : (o : Opening) (e : Entry) (past : List Entry) (key : Key) (s : State) 
 earlier o e past key s (inl h) = inl h
 earlier o e past key s (inr h) = inr (brought_later (packet_in e) (packets_come past) key s h)
 
-now_or_earlier : (o : Opening) (e : Entry) (past : List Entry) (key : Key) (s : State) → CameFrom (words_noted o past) (packet_in e) key s → (kept_state o past key ≡ Some s → Source o past key s) → Source o (e ∷ past) key s
+now_or_earlier : (o : Opening) (e : Entry) (past : List Entry) (key : Key) (s : State) → CameFrom (words_noted o past) (packet_in e) key s
+    → (kept_state o past key ≡ Some s → Source o past key s) → Source o (e ∷ past) key s
 now_or_earlier o e past key s (inl h) f = earlier o e past key s (f h)
 now_or_earlier o e past key s (inr h) f = inr (brought_now (packet_in e) (packets_come past) key s h)
 
 pub kept_was_sent : FoundOrLast → KeptWasSent
 kept_was_sent only o [] key s h = inl h
 kept_was_sent only o (Met c left ∷ past) key s h =
-    now_or_earlier o (Met c left) past key s (called only (peers o past) (is_on past) (words_noted o past) c left key s h) (λ e. kept_was_sent only o past key s e)
+    now_or_earlier o (Met c left) past key s (called only (peers o past) (is_on past) (words_noted o past) c left key s h)
+    (λ e. kept_was_sent only o past key s e)
 kept_was_sent only o (Cut ∷ past) key s h = earlier o Cut past key s (kept_was_sent only o past key s h)
 kept_was_sent only o (Restart mirror ∷ past) key s h = earlier o (Restart mirror) past key s (kept_was_sent only o past key s h)
 kept_was_sent only o (Renew g left ∷ past) key s h =
-    earlier o (Renew g left) past key s (kept_was_sent only o past key s (renewed_had key (has_new left && may_renew g (words_noted o past)) g (words_noted o past) s h))
+    earlier o (Renew g left) past key s (kept_was_sent only o past key s
+    (renewed_had key (has_new left && may_renew g (words_noted o past)) g (words_noted o past) s h))
 kept_was_sent only o (Lose ∷ past) key s h = cc

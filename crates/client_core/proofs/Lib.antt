@@ -35,6 +35,7 @@ mod SourceLemmas
 mod StandingLemmas
 mod TextLemmas
 mod TickLemmas
+mod AllTicksLemmas
 mod TriggerLemmas
 mod UnaskedLemmas
 mod WithinLemmas

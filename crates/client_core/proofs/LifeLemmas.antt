@@ -24,9 +24,11 @@ same_key k q = by_less (nat_lt k q) refl
         by_equal false = refl
 
 -- At every number there is what Q wants, where the one at k was set.
-pub set_at_key : {X : Type 0} (m n : BTreeMap ℕ X) (j k : ℕ) (w : Option X) (P Q : ℕ → Option X → Type 0) → j ≡ k → ((q : ℕ) → get nat_cmp n q ≡ cond (is_at (nat_cmp j) q) w (get nat_cmp m q))
+pub set_at_key : {X : Type 0} (m n : BTreeMap ℕ X) (j k : ℕ) (w : Option X) (P Q : ℕ → Option X → Type 0) → j ≡ k
+    → ((q : ℕ) → get nat_cmp n q ≡ cond (is_at (nat_cmp j) q) w (get nat_cmp m q))
     → Q k w → ((q : ℕ) (x : Option X) → (k == q) ≡ false → P q x → Q q x) → ((q : ℕ) → P q (get nat_cmp m q)) → (q : ℕ) → Q q (get nat_cmp n q)
-set_at_key m n j k w P Q is up here there h q = subst (Q q) (sym (up q ∙ ap (λ i. cond (is_at (nat_cmp i) q) w (get nat_cmp m q)) is ∙ ap (λ b. cond b w (get nat_cmp m q)) (same_key k q))) (by_same (k == q) refl)
+set_at_key m n j k w P Q is up here there h q = subst (Q q)
+    (sym (up q ∙ ap (λ i. cond (is_at (nat_cmp i) q) w (get nat_cmp m q)) is ∙ ap (λ b. cond b w (get nat_cmp m q)) (same_key k q))) (by_same (k == q) refl)
   where
     is_same : (k == q) ≡ true → k ≡ q
     is_same e = grind (arith, nat_tests)
@@ -54,6 +56,7 @@ none_at_key m j k P Q is none here there h q = by_same (k == q) refl
     by_same false e = there q (get nat_cmp m q) e (h q)
 
 -- What is no report leaves the reports.
-pub no_report_heard : (server : ℕ) (body : Body) (deeds : List Deed) (reports : List Received) → IsNoReport body → reports_heard deeds server body reports ≡ reports
+pub no_report_heard : (server : ℕ) (body : Body) (deeds : List Deed) (reports : List Received) → IsNoReport body
+    → reports_heard deeds server body reports ≡ reports
 no_report_heard server (bodies.Report r a job jobs report) deeds reports n = absurd n
 no_report_heard server _ deeds reports n = refl

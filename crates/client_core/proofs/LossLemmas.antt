@@ -41,7 +41,8 @@ noted_alike o (Lose ∷ newer) past = refl
 
 life_alike : (o : Opening) (newer past : List Entry) → life o (newer ++ Lose ∷ past) ≡ life (record o { noted = blank }) newer
 life_alike o [] past = refl
-life_alike o (Met c left ∷ newer) past = rw (noted_alike o newer past, on_alike newer past, mirror_alike newer past, granted_alike newer past, life_alike o newer past) refl
+life_alike o (Met c left ∷ newer) past =
+    rw (noted_alike o newer past, on_alike newer past, mirror_alike newer past, granted_alike newer past, life_alike o newer past) refl
 life_alike o (Cut ∷ newer) past = refl
 life_alike o (Restart mirror ∷ newer) past = refl
 life_alike o (Renew g left ∷ newer) past = refl

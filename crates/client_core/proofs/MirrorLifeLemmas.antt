@@ -24,7 +24,8 @@ use Rattle.client_core.specs.Reports.{reports}
 use Rattle.client_core.proofs.DeedLemmas.{SameRun, SameAttempt, run_stays, attempt_stays}
 
 -- What a server says tells of no copy.
-pub server_keeps_none : (server : ℕ) (body : Body) (key : Key) (deeds : List Deed) → server < MAX_SERVERS → is_copied key (Hears server body ∷ deeds) ≡ is_copied key deeds
+pub server_keeps_none : (server : ℕ) (body : Body) (key : Key) (deeds : List Deed) → server < MAX_SERVERS
+    → is_copied key (Hears server body ∷ deeds) ≡ is_copied key deeds
 server_keeps_none server body key deeds l =
     let other : (server == MIRROR_NUMBER) ≡ false = grind (arith, nat_tests) in
     ap (λ b. (b && says_kept key body) || is_copied key deeds) other
@@ -34,9 +35,12 @@ either true x = refl
 either false x = refl
 
 same_run : (run server : ℕ) (body : Body) (deeds : List Deed) → is_of_mirror (kind_of body) ≡ true → SameRun run (Hears server body) deeds
-same_run run server (bodies.Copy state) deeds h = record { text = refl; act = refl; begins = λ s. either _ _; triggers = λ s. either _ _; stops = λ s. either _ _ }
-same_run run server (bodies.CopyOk r node job) deeds h = record { text = refl; act = refl; begins = λ s. either _ _; triggers = λ s. either _ _; stops = λ s. either _ _ }
-same_run run server (bodies.Granted generation) deeds h = record { text = refl; act = refl; begins = λ s. either _ _; triggers = λ s. either _ _; stops = λ s. either _ _ }
+same_run run server (bodies.Copy state) deeds h =
+    record { text = refl; act = refl; begins = λ s. either _ _; triggers = λ s. either _ _; stops = λ s. either _ _ }
+same_run run server (bodies.CopyOk r node job) deeds h =
+    record { text = refl; act = refl; begins = λ s. either _ _; triggers = λ s. either _ _; stops = λ s. either _ _ }
+same_run run server (bodies.Granted generation) deeds h =
+    record { text = refl; act = refl; begins = λ s. either _ _; triggers = λ s. either _ _; stops = λ s. either _ _ }
 same_run run server _ deeds h = cc
 
 same_attempt : (attempt server : ℕ) (body : Body) (deeds : List Deed) → is_of_mirror (kind_of body) ≡ true → SameAttempt attempt (Hears server body) deeds
@@ -52,16 +56,20 @@ same_reports server (bodies.Granted generation) deeds h = refl
 same_reports server _ deeds h = cc
 
 -- What the mirror says leaves the requests and the reports.
-pub mirror_said : (old new : Life) (server : ℕ) (body : Body) (deeds : List Deed) → is_of_mirror (kind_of body) ≡ true → new.runs ≡ old.runs → new.attempts ≡ old.attempts → new.reports.items ≡ old.reports.items
+pub mirror_said : (old new : Life) (server : ℕ) (body : Body) (deeds : List Deed) → is_of_mirror (kind_of body) ≡ true → new.runs ≡ old.runs
+    → new.attempts ≡ old.attempts → new.reports.items ≡ old.reports.items
     → CopiedAre new (Hears server body ∷ deeds) → LifeIs old deeds → LifeIs new (Hears server body ∷ deeds)
 mirror_said old new server body deeds h runs attempts kept copied l = record {
-  runs = subst (λ m. (run : ℕ) → RunFor run (Hears server body ∷ deeds) (get nat_cmp m run)) (sym runs) (λ run. run_stays run (Hears server body) deeds _ (same_run run server body deeds h) (l.runs run));
-  attempts = subst (λ m. (attempt : ℕ) → AttemptFor attempt (Hears server body ∷ deeds) (get nat_cmp m attempt)) (sym attempts) (λ attempt. attempt_stays attempt (Hears server body) deeds _ (same_attempt attempt server body deeds h) (l.attempts attempt));
+  runs = subst (λ m. (run : ℕ) → RunFor run (Hears server body ∷ deeds) (get nat_cmp m run)) (sym runs)
+      (λ run. run_stays run (Hears server body) deeds _ (same_run run server body deeds h) (l.runs run));
+  attempts = subst (λ m. (attempt : ℕ) → AttemptFor attempt (Hears server body ∷ deeds) (get nat_cmp m attempt)) (sym attempts)
+      (λ attempt. attempt_stays attempt (Hears server body) deeds _ (same_attempt attempt server body deeds h) (l.attempts attempt));
   reports_are = kept ∙ l.reports_are ∙ sym (same_reports server body deeds h);
   copied = copied;
 }
 
-tells_none : (key : Key) (server : ℕ) (body : Body) (deeds : List Deed) → says_kept key body ≡ false → is_copied key (Hears server body ∷ deeds) ≡ is_copied key deeds
+tells_none : (key : Key) (server : ℕ) (body : Body) (deeds : List Deed) → says_kept key body ≡ false
+    → is_copied key (Hears server body ∷ deeds) ≡ is_copied key deeds
 tells_none key server body deeds none = ap (λ b. ((server == MIRROR_NUMBER) && b) || is_copied key deeds) none ∙ no_more (server == MIRROR_NUMBER)
   where
     no_more : (b : Bool) → ((b && false) || is_copied key deeds) ≡ is_copied key deeds
@@ -69,12 +77,17 @@ tells_none key server body deeds none = ap (λ b. ((server == MIRROR_NUMBER) && 
     no_more false = refl
 
 -- What tells of no copy changes nothing.
-pub mirror_said_nothing : (kept : Life) (server : ℕ) (body : Body) (deeds : List Deed) → is_of_mirror (kind_of body) ≡ true → ((key : Key) → says_kept key body ≡ false) → LifeIs kept deeds → LifeIs kept (Hears server body ∷ deeds)
-mirror_said_nothing kept server body deeds h none l = mirror_said kept kept server body deeds h refl refl refl (λ key. l.copied key ∙ sym (tells_none key server body deeds (none key))) l
+pub mirror_said_nothing : (kept : Life) (server : ℕ) (body : Body) (deeds : List Deed) → is_of_mirror (kind_of body) ≡ true
+    → ((key : Key) → says_kept key body ≡ false) → LifeIs kept deeds → LifeIs kept (Hears server body ∷ deeds)
+mirror_said_nothing kept server body deeds h none l =
+    mirror_said kept kept server body deeds h refl refl refl (λ key. l.copied key ∙ sym (tells_none key server body deeds (none key))) l
 
 -- What tells of a copy makes its key one of those that are copied.
-pub copied_more : (old new : Life) (run node job : ℕ) (deeds : List Deed) → Updates is_same_key old.copied new.copied (record { run = run; server = node; job = job }) true → LifeIs old deeds → CopiedAre new (Hears MIRROR_NUMBER (bodies.CopyOk run node job) ∷ deeds)
-copied_more old new run node job deeds u l = λ key. u.0 key ∙ one_more (is_same_key (record { run = run; server = node; job = job }) key) (contains is_same_key old.copied key) (is_copied key deeds) (l.copied key)
+pub copied_more : (old new : Life) (run node job : ℕ) (deeds : List Deed)
+    → Updates is_same_key old.copied new.copied (record { run = run; server = node; job = job }) true → LifeIs old deeds
+    → CopiedAre new (Hears MIRROR_NUMBER (bodies.CopyOk run node job) ∷ deeds)
+copied_more old new run node job deeds u l = λ key. u.0 key
+    ∙ one_more (is_same_key (record { run = run; server = node; job = job }) key) (contains is_same_key old.copied key) (is_copied key deeds) (l.copied key)
   where
     one_more : (here before said : Bool) → before ≡ said → cond here true before ≡ (here || said)
     one_more true before said e = refl
@@ -85,7 +98,8 @@ ok_life (Ok x) P Q f h = f h
 ok_life (Err e) P Q f h = tt
 
 -- What is of the mirror's, and tells of no copy.
-pub says_none : (body : Body) → is_of_mirror (kind_of body) ≡ true → ((run node job : ℕ) → body ≡ bodies.CopyOk run node job → ⊥) → (key : Key) → says_kept key body ≡ false
+pub says_none : (body : Body) → is_of_mirror (kind_of body) ≡ true → ((run node job : ℕ) → body ≡ bodies.CopyOk run node job → ⊥) → (key : Key)
+    → says_kept key body ≡ false
 says_none (bodies.Copy state) h none key = refl
 says_none (bodies.CopyOk r node job) h none key = absurd (none r node job refl)
 says_none (bodies.Granted generation) h none key = refl

@@ -1,5 +1,6 @@
 -- No number is given twice: where the note isn't lost, or the client is one with a mirror.
-use Rattle.std.proofs.Common.{◌≡◌, refl, sym, subst, inl, inr, ℕ, ◌+◌, ◌<◌, ◌≤◌, arith, Bool, true, false, ◌&&◌, ◌||◌, ◌==◌, List, [], ◌∷◌, ◌++◌, Option, None, Some}
+use Rattle.std.proofs.Common.{◌≡◌, refl, sym, subst, inl, inr, ℕ, ◌+◌, ◌<◌, ◌≤◌, arith, Bool, true}
+use Rattle.std.proofs.Common.{false, ◌&&◌, ◌||◌, ◌==◌, List, [], ◌∷◌, ◌++◌, Option, None, Some}
 use Rattle.std.specs.Prelude.{if◌then◌else◌, not, is_none, nat_le, nat_lt, ◌*◌, ◌^◌, slice_get}
 use Rattle.std.proofs.lemmas.Bool.{and_parts, cases_Bool, eqb-true, leb-true, ltb-true}
 use Rattle.std.proofs.lemmas.Bool.Decides.{nat_tests}
@@ -56,20 +57,25 @@ same_generation true (Some NextAttempt) n = refl
 same_generation true (Some (Keep state)) n = refl
 same_generation false (Some a) n = refl
 
-either : (gs : List ℕ) (f : List Deed → List ℕ) (b : Bool) (g used : ℕ) (x y : List Deed) → Apart gs g used (f x) → Apart gs g used (f y) → Apart gs g used (f (if b then x else y))
+either : (gs : List ℕ) (f : List Deed → List ℕ) (b : Bool) (g used : ℕ) (x y : List Deed) → Apart gs g used (f x) → Apart gs g used (f y)
+    → Apart gs g used (f (if b then x else y))
 either gs f true g used x y h k = h
 either gs f false g used x y h k = k
 
-run_step : (gs : List ℕ) (on : Bool) (peers : Peers) (n : Noted) (c : Call) (r : Option Fault) (left : Left) (ds : List Deed) → r ≡ refusal_by on peers n c → (on ≡ true → 1 ≤ n.generation) → Apart gs n.generation n.runs (runs_in ds)
-    → Apart gs n.generation (noted_after (has_new left) (unless_refused r (addition_of n c)) n).runs (runs_in (if is_none r && is_answer (unless_refused r (addition_of n c)) left then deeds_of n c ++ ds else ds))
+run_step : (gs : List ℕ) (on : Bool) (peers : Peers) (n : Noted) (c : Call) (r : Option Fault) (left : Left) (ds : List Deed) → r ≡ refusal_by on peers n c
+    → (on ≡ true → 1 ≤ n.generation) → Apart gs n.generation n.runs (runs_in ds)
+    → Apart gs n.generation (noted_after (has_new left) (unless_refused r (addition_of n c)) n).runs
+    (runs_in (if is_none r && is_answer (unless_refused r (addition_of n c)) left then deeds_of n c ++ ds else ds))
 run_step gs on peers n c (Some f) left ds e g k = k
 run_step gs on peers n (Begin text) None NoSave ds e g k = k
 run_step gs on peers n (Begin text) None Saved ds e g k =
     let one = g (on_of on _ (sym e)) in
-    give gs n.generation n.runs (runs_in ds) one (of_own peers n.generation n.runs one ((begin_faults on (is_text text) (has_next peers n.generation n.runs) (sym e)).1)) k
+    give gs n.generation n.runs (runs_in ds) one (of_own peers n.generation n.runs one
+    ((begin_faults on (is_text text) (has_next peers n.generation n.runs) (sym e)).1)) k
 run_step gs on peers n (Begin text) None LostNew ds e g k = pass gs n.generation n.runs (runs_in ds) k
 run_step gs on peers n (Begin text) None LostOld ds e g k = k
-run_step gs on peers n (Trigger run act) None left ds e g k = either gs runs_in (is_answer {D = Addition} None left) n.generation n.runs (Triggers run act ∷ ds) ds k k
+run_step gs on peers n (Trigger run act) None left ds e g k =
+    either gs runs_in (is_answer {D = Addition} None left) n.generation n.runs (Triggers run act ∷ ds) ds k k
 run_step gs on peers n (Stop run) None left ds e g k = either gs runs_in (is_answer {D = Addition} None left) n.generation n.runs (Stops run ∷ ds) ds k k
 run_step gs on peers n (Verify run text) None NoSave ds e g k = k
 run_step gs on peers n (Verify run text) None Saved ds e g k = k
@@ -78,20 +84,26 @@ run_step gs on peers n (Verify run text) None LostOld ds e g k = k
 run_step gs on peers n (Deliver p) None left ds e g k =
     let same = (body_only (has_new left) n p.body).0 in
     let b = is_answer (addition_by n p.body) left in
-    subst (λ m. Apart gs n.generation m (runs_in (if b then Hears (node_number p.from) p.body ∷ ds else ds))) (sym same) (either gs runs_in b n.generation n.runs (Hears (node_number p.from) p.body ∷ ds) ds k k)
+    subst (λ m. Apart gs n.generation m (runs_in (if b then Hears (node_number p.from) p.body ∷ ds else ds))) (sym same)
+    (either gs runs_in b n.generation n.runs (Hears (node_number p.from) p.body ∷ ds) ds k k)
 run_step gs on peers n Tick None left ds e g k = either gs runs_in (is_answer {D = Addition} None left) n.generation n.runs ds ds k k
 
-attempt_step : (gs : List ℕ) (on : Bool) (peers : Peers) (n : Noted) (c : Call) (r : Option Fault) (left : Left) (ds : List Deed) → r ≡ refusal_by on peers n c → (on ≡ true → 1 ≤ n.generation) → Apart gs n.generation n.attempts (attempts_in ds)
-    → Apart gs n.generation (noted_after (has_new left) (unless_refused r (addition_of n c)) n).attempts (attempts_in (if is_none r && is_answer (unless_refused r (addition_of n c)) left then deeds_of n c ++ ds else ds))
+attempt_step : (gs : List ℕ) (on : Bool) (peers : Peers) (n : Noted) (c : Call) (r : Option Fault) (left : Left) (ds : List Deed) → r ≡ refusal_by on peers n c
+    → (on ≡ true → 1 ≤ n.generation) → Apart gs n.generation n.attempts (attempts_in ds)
+    → Apart gs n.generation (noted_after (has_new left) (unless_refused r (addition_of n c)) n).attempts
+    (attempts_in (if is_none r && is_answer (unless_refused r (addition_of n c)) left then deeds_of n c ++ ds else ds))
 attempt_step gs on peers n c (Some f) left ds e g k = k
 attempt_step gs on peers n (Verify run text) None NoSave ds e g k = k
 attempt_step gs on peers n (Verify run text) None Saved ds e g k =
     let one = g (on_of on _ (sym e)) in
-    give gs n.generation n.attempts (attempts_in ds) one (of_own peers n.generation n.attempts one ((verify_faults on (is_begun n run) (is_text text) (has_next peers n.generation n.attempts) (sym e)).2)) k
+    give gs n.generation n.attempts (attempts_in ds) one
+    (of_own peers n.generation n.attempts one ((verify_faults on (is_begun n run) (is_text text) (has_next peers n.generation n.attempts) (sym e)).2)) k
 attempt_step gs on peers n (Verify run text) None LostNew ds e g k = pass gs n.generation n.attempts (attempts_in ds) k
 attempt_step gs on peers n (Verify run text) None LostOld ds e g k = k
-attempt_step gs on peers n (Trigger run act) None left ds e g k = either gs attempts_in (is_answer {D = Addition} None left) n.generation n.attempts (Triggers run act ∷ ds) ds k k
-attempt_step gs on peers n (Stop run) None left ds e g k = either gs attempts_in (is_answer {D = Addition} None left) n.generation n.attempts (Stops run ∷ ds) ds k k
+attempt_step gs on peers n (Trigger run act) None left ds e g k =
+    either gs attempts_in (is_answer {D = Addition} None left) n.generation n.attempts (Triggers run act ∷ ds) ds k k
+attempt_step gs on peers n (Stop run) None left ds e g k =
+    either gs attempts_in (is_answer {D = Addition} None left) n.generation n.attempts (Stops run ∷ ds) ds k k
 attempt_step gs on peers n (Begin text) None NoSave ds e g k = k
 attempt_step gs on peers n (Begin text) None Saved ds e g k = k
 attempt_step gs on peers n (Begin text) None LostNew ds e g k = k
@@ -99,7 +111,8 @@ attempt_step gs on peers n (Begin text) None LostOld ds e g k = k
 attempt_step gs on peers n (Deliver p) None left ds e g k =
     let same = (body_only (has_new left) n p.body).1 in
     let b = is_answer (addition_by n p.body) left in
-    subst (λ m. Apart gs n.generation m (attempts_in (if b then Hears (node_number p.from) p.body ∷ ds else ds))) (sym same) (either gs attempts_in b n.generation n.attempts (Hears (node_number p.from) p.body ∷ ds) ds k k)
+    subst (λ m. Apart gs n.generation m (attempts_in (if b then Hears (node_number p.from) p.body ∷ ds else ds))) (sym same)
+    (either gs attempts_in b n.generation n.attempts (Hears (node_number p.from) p.body ∷ ds) ds k k)
 attempt_step gs on peers n Tick None left ds e g k = either gs attempts_in (is_answer {D = Addition} None left) n.generation n.attempts ds ds k k
 
 -- what holds of each list of a client with a mirror
@@ -122,11 +135,13 @@ off_blank : (on new : Bool) (ps : Peers) (n : Noted) (c : Call) → (on ≡ true
 off_blank true new ps n c f h = absurd (f refl)
 off_blank false new ps n c f h = h
 
-renewed_runs : (gs : List ℕ) (x : ℕ) (b : Bool) (n : Noted) (ns : List ℕ) → has gs x ≡ false → Apart gs n.generation n.runs ns → Apart (x ∷ gs) (if b then new_note x else n).generation (if b then new_note x else n).runs ns
+renewed_runs : (gs : List ℕ) (x : ℕ) (b : Bool) (n : Noted) (ns : List ℕ) → has gs x ≡ false → Apart gs n.generation n.runs ns
+    → Apart (x ∷ gs) (if b then new_note x else n).generation (if b then new_note x else n).runs ns
 renewed_runs gs x true n ns h k = renew gs x n.generation n.runs ns h k
 renewed_runs gs x false n ns h k = unsaved gs x n.generation n.runs ns k
 
-renewed_attempts : (gs : List ℕ) (x : ℕ) (b : Bool) (n : Noted) (ns : List ℕ) → has gs x ≡ false → Apart gs n.generation n.attempts ns → Apart (x ∷ gs) (if b then new_note x else n).generation (if b then new_note x else n).attempts ns
+renewed_attempts : (gs : List ℕ) (x : ℕ) (b : Bool) (n : Noted) (ns : List ℕ) → has gs x ≡ false → Apart gs n.generation n.attempts ns
+    → Apart (x ∷ gs) (if b then new_note x else n).generation (if b then new_note x else n).attempts ns
 renewed_attempts gs x true n ns h k = renew gs x n.generation n.attempts ns h k
 renewed_attempts gs x false n ns h k = unsaved gs x n.generation n.attempts ns k
 
@@ -134,12 +149,14 @@ renewed_on : (x : ℕ) (b : Bool) (n : Noted) → 1 ≤ x → (b ≡ false → 1
 renewed_on x true n h f = h
 renewed_on x false n h f = f refl
 
-renewed_blank : (x : ℕ) (b : Bool) (n : Noted) → 1 ≤ x → (n.generation ≡ 0 → is_blank n ≡ true) → (if b then new_note x else n).generation ≡ 0 → is_blank (if b then new_note x else n) ≡ true
+renewed_blank : (x : ℕ) (b : Bool) (n : Noted) → 1 ≤ x → (n.generation ≡ 0 → is_blank n ≡ true) → (if b then new_note x else n).generation ≡ 0
+    → is_blank (if b then new_note x else n) ≡ true
 renewed_blank x true n h f e = absurd (not_none x h e)
 renewed_blank x false n h f e = f e
 
 -- where a renewal with a good number answers and changes nothing, the note is of a generation
-not_blank : (x : ℕ) (left : Left) (n : Noted) → is_saved left ≡ true → is_generation x ≡ true → (n.generation ≡ 0 → is_blank n ≡ true) → (has_new left && may_renew x n) ≡ false → 1 ≤ n.generation
+not_blank : (x : ℕ) (left : Left) (n : Noted) → is_saved left ≡ true → is_generation x ≡ true → (n.generation ≡ 0 → is_blank n ≡ true)
+    → (has_new left && may_renew x n) ≡ false → 1 ≤ n.generation
 not_blank x Saved n s g f h = elim (cases_Bool (n.generation == 0)) [
   | inl z ↦ absurd (both (is_generation x) (is_blank n) g (f (eqb-true n.generation 0 z)) h)
   | inr z ↦ some_or_none n.generation z
@@ -172,8 +189,11 @@ holds o (Met c left ∷ past) h =
     let after = words_noted o (Met c left ∷ past) in
     let e : after.generation ≡ n.generation = same_generation (has_new left) (due_by (is_on past) (peers o past) n c) n in
     record {
-      runs = subst (λ g. Apart (generations past) g after.runs (runs_in (deeds_done o (Met c left ∷ past)))) (sym e) (run_step (generations past) (is_on past) (peers o past) n c (refusal_by (is_on past) (peers o past) n c) left (deeds_done o past) refl k.on k.runs);
-      attempts = subst (λ g. Apart (generations past) g after.attempts (attempts_in (deeds_done o (Met c left ∷ past)))) (sym e) (attempt_step (generations past) (is_on past) (peers o past) n c (refusal_by (is_on past) (peers o past) n c) left (deeds_done o past) refl k.on k.attempts);
+      runs = subst (λ g. Apart (generations past) g after.runs (runs_in (deeds_done o (Met c left ∷ past)))) (sym e)
+          (run_step (generations past) (is_on past) (peers o past) n c (refusal_by (is_on past) (peers o past) n c) left (deeds_done o past) refl k.on k.runs);
+      attempts = subst (λ g. Apart (generations past) g after.attempts (attempts_in (deeds_done o (Met c left ∷ past)))) (sym e)
+          (attempt_step (generations past) (is_on past) (peers o past) n c (refusal_by (is_on past) (peers o past) n c) left
+          (deeds_done o past) refl k.on k.attempts);
       on = λ i. subst (λ g. 1 ≤ g) (sym e) (k.on ((and_parts (is_on past) (not (is_lost left)) i).0));
       blank = λ z. (
           let zero_before : n.generation ≡ 0 = subst (λ g. g ≡ 0) e z in
@@ -186,7 +206,12 @@ holds o (Restart mirror ∷ past) h =
     let a = and_parts (mirror && nat_lt 0 (words_noted o past).generation) (is_mirrored o past) h in
     let b = and_parts mirror (nat_lt 0 (words_noted o past).generation) a.0 in
     let k = holds o past a.1 in
-    record { runs = k.runs; attempts = k.attempts; on = λ e. above_none (words_noted o past).generation (ltb-true 0 (words_noted o past).generation b.1); blank = k.blank }
+    record {
+      runs = k.runs;
+      attempts = k.attempts;
+      on = λ e. above_none (words_noted o past).generation (ltb-true 0 (words_noted o past).generation b.1);
+      blank = k.blank;
+    }
 holds o (Renew g left ∷ past) h =
     let a = and_parts (is_generation g && not (has (generations past) g)) (is_mirrored o past) h in
     let b = and_parts (is_generation g) (not (has (generations past) g)) a.0 in

@@ -1,5 +1,6 @@
 -- What the bytes of a note say.
-use Rattle.std.proofs.Common.{◌≡◌, refl, sym, ◌∙◌, ap, subst, ◌⊎◌, inl, inr, ℕ, ◌+◌, ◌-◌, ◌<◌, ◌≤◌, arith, true, false, ◌==◌, List, [], ◌∷◌, ◌++◌, length, None, Some, take, drop, get_or}
+use Rattle.std.proofs.Common.{◌≡◌, refl, sym, ◌∙◌, ap, subst, ◌⊎◌, inl, inr, ℕ, ◌+◌, ◌-◌, ◌<◌, ◌≤◌, arith}
+use Rattle.std.proofs.Common.{true, false, ◌==◌, List, [], ◌∷◌, ◌++◌, length, None, Some, take, drop, get_or}
 use Rattle.std.specs.Prelude.{◌^◌, Bool, Option, Result, Ok, Err, IfOk, OnErr, if◌then◌else◌, nat_le, map, bytes_eq, codes}
 use Rattle.std.specs.List.{flat_map}
 use Rattle.std.specs.Int.{w32, w64}
@@ -16,7 +17,8 @@ use Rattle.state_table.proofs.CountedLemmas.{AreCounted, spelled_counted, same_s
 use Rattle.verify_state.specs.Reading.{field}
 use Rattle.verify_state.proofs.FieldLemmas.{IsBytes, bytes_drop, piece64}
 use Rattle.client_core.specs.declared.noted.Noted.{Noted}
-use Rattle.client_core.specs.Note.{blank, numbers_of, note_of, old_note_of, spelling, IsNoted, IsNote, Numbers, Spells, Says, ReadsNumbers, Reads, TellsStates, BeginsStates, SaysOneThing, SaysWhatIsWritten}
+use Rattle.client_core.specs.Note.{blank, numbers_of, note_of, old_note_of, spelling, IsNoted, IsNote, Numbers, Spells}
+use Rattle.client_core.specs.Note.{Says, ReadsNumbers, Reads, TellsStates, BeginsStates, SaysOneThing, SaysWhatIsWritten}
 use Rattle.std.proofs.lemmas.Bool.Decides.{nat_tests}
 use Rattle.fc_base.specs.declared.limits.TheConstants.{MAX_GENERATION}
 use Rattle.state_table.specs.declared.kept.TheConstants.{KEPT_LIMIT}
@@ -118,8 +120,10 @@ two_marks : (bytes : List ℕ) → take 4 bytes ≡ codes "FCC2" → take 4 byte
 two_marks bytes a b = let e : 50 ≡ 49 = ap (λ l. get_or l 3 0) (sym a ∙ b) in let f : true ≡ false = ap (λ n. 50 == n) e in cc
 
 same_by : SpelledAreRead → (bytes : List ℕ) (n m : Noted) → IsNoted n → IsNoted m → IsNew bytes n ⊎ IsOld bytes n → IsNew bytes m ⊎ IsOld bytes m → n ≡ m
-same_by reads bytes n m k l (inl a) (inl b) = same_noted _ n m (sym a.generation ∙ b.generation) (numbers_read reads _ n k a.numbers) (numbers_read reads _ m l b.numbers)
-same_by reads bytes n m k l (inr a) (inr b) = same_noted _ n m (a.generation ∙ sym b.generation) (numbers_read reads _ n k a.numbers) (numbers_read reads _ m l b.numbers)
+same_by reads bytes n m k l (inl a) (inl b) =
+    same_noted _ n m (sym a.generation ∙ b.generation) (numbers_read reads _ n k a.numbers) (numbers_read reads _ m l b.numbers)
+same_by reads bytes n m k l (inr a) (inr b) =
+    same_noted _ n m (a.generation ∙ sym b.generation) (numbers_read reads _ n k a.numbers) (numbers_read reads _ m l b.numbers)
 same_by reads bytes n m k l (inl a) (inr b) = absurd (two_marks bytes a.mark b.mark)
 same_by reads bytes n m k l (inr a) (inl b) = absurd (two_marks bytes b.mark a.mark)
 
@@ -136,21 +140,31 @@ says_what_is_written back n k = record {
 -- ---- what is read
 
 -- what is read behind the generation
-pub numbers_say : SpelledAreRead → ReadWereSpelled → (bytes : List ℕ) (generation runs attempts count : ℕ) (kept : List State) → IsBytes bytes → 20 ≤ length bytes
+pub numbers_say : SpelledAreRead → ReadWereSpelled → (bytes : List ℕ) (generation runs attempts count : ℕ) (kept : List State) → IsBytes bytes
+    → 20 ≤ length bytes
     → generation ≤ MAX_GENERATION → runs ≡ number_in w64 bytes → attempts ≡ number_in w64 (after_runs bytes) → count ≡ number_in w32 (after_attempts bytes)
     → runs < 2 ^ 64 → attempts < 2 ^ 64 → count ≤ KEPT_LIMIT → states_at count (drop 4 (after_attempts bytes)) ≡ Some kept → has_distinct_keys kept ≡ true
-    → IsNoted (record { generation = generation; runs = runs; attempts = attempts; kept = kept }) × Numbers bytes (record { generation = generation; runs = runs; attempts = attempts; kept = kept })
+    → IsNoted (record { generation = generation; runs = runs; attempts = attempts; kept = kept })
+    × Numbers bytes (record { generation = generation; runs = runs; attempts = attempts; kept = kept })
 unfolding numbers_of bytes_of number_in field
 numbers_say reads spelled bytes generation runs attempts count kept h long low r a c low_runs low_attempts few states keys =
     let less : length (after_runs bytes) ≡ length bytes - 8 = length-drop 8 bytes in
     let least : length (after_attempts bytes) ≡ length (after_runs bytes) - 8 = length-drop 8 (after_runs bytes) in
     let two = bytes_drop 8 bytes h in
     let s = counted_spelled reads spelled (after_attempts bytes) count kept (bytes_drop 8 (after_runs bytes) two) (omega arith) c states in
-    let middle : bytes_of w64 attempts ++ after_attempts bytes ≡ after_runs bytes = ap (λ m. bytes_of w64 m ++ after_attempts bytes) a ∙ piece64 0 (after_runs bytes) two (omega arith) in
+    let middle : bytes_of w64 attempts ++ after_attempts bytes ≡ after_runs bytes =
+    ap (λ m. bytes_of w64 m ++ after_attempts bytes) a ∙ piece64 0 (after_runs bytes) two (omega arith) in
     let front : bytes_of w64 runs ++ after_runs bytes ≡ bytes = ap (λ m. bytes_of w64 m ++ after_runs bytes) r ∙ piece64 0 bytes h (omega arith) in
     let whole : bytes ≡ bytes_of w64 runs ++ (bytes_of w64 attempts ++ counted_states s.0.parts) =
     sym front ∙ ap (λ l. bytes_of w64 runs ++ l) (sym middle ∙ ap (λ l. bytes_of w64 attempts ++ l) (sym s.1)) in (
-      record { generation = low; runs = low_runs; attempts = low_attempts; count = subst (λ m. m ≤ KEPT_LIMIT) (sym s.2) few; states = s.0.ranges; keys = keys },
+      record {
+        generation = low;
+        runs = low_runs;
+        attempts = low_attempts;
+        count = subst (λ m. m ≤ KEPT_LIMIT) (sym s.2) few;
+        states = s.0.ranges;
+        keys = keys;
+      },
       record { parts = s.0.parts; spelled = whole; states = s.0.says },
     )
 
@@ -158,11 +172,13 @@ numbers_say reads spelled bytes generation runs attempts count kept h long low r
 pub old_says : (bytes : List ℕ) (n : Noted) → take 4 bytes ≡ codes "FCC1" → n.generation ≡ 0 → IsNoted n → Numbers (drop 4 bytes) n → Says bytes n
 unfolding old_note_of
 old_says bytes n mark g k numbers =
-    let whole : bytes ≡ codes "FCC1" ++ numbers_of n.runs n.attempts numbers.parts = sym (take-append-drop 4 bytes) ∙ (ap (λ l. l ++ drop 4 bytes) mark ∙ ap (λ l. codes "FCC1" ++ l) numbers.spelled) in
+    let whole : bytes ≡ codes "FCC1" ++ numbers_of n.runs n.attempts numbers.parts =
+    sym (take-append-drop 4 bytes) ∙ (ap (λ l. l ++ drop 4 bytes) mark ∙ ap (λ l. codes "FCC1" ++ l) numbers.spelled) in
     record { note = k; spelled = inl (record { parts = numbers.parts; spelled = inr (g, whole); states = numbers.states }) }
 
 -- a note of this layout
-pub new_says : (bytes : List ℕ) (generation : ℕ) (n : Noted) → IsBytes bytes → take 4 bytes ≡ codes "FCC2" → 8 ≤ length (drop 4 bytes) → generation ≡ number_in w64 (drop 4 bytes) → n.generation ≡ generation → IsNoted n → Numbers (drop 8 (drop 4 bytes)) n → Says bytes n
+pub new_says : (bytes : List ℕ) (generation : ℕ) (n : Noted) → IsBytes bytes → take 4 bytes ≡ codes "FCC2" → 8 ≤ length (drop 4 bytes)
+    → generation ≡ number_in w64 (drop 4 bytes) → n.generation ≡ generation → IsNoted n → Numbers (drop 8 (drop 4 bytes)) n → Says bytes n
 unfolding note_of bytes_of number_in field
 new_says bytes generation n h mark long g same k numbers =
     let front : bytes_of w64 n.generation ++ numbers_of n.runs n.attempts numbers.parts ≡ drop 4 bytes =
@@ -173,13 +189,15 @@ new_says bytes generation n h mark long g same k numbers =
     record { note = k; spelled = inl (record { parts = numbers.parts; spelled = inl whole; states = numbers.states }) }
 
 -- what is put together is the spelling
-pub encoded : (n : Noted) (count : ℕ) (states : List State) (a b c d e f g : List ℕ) → count ≡ length n.kept → states ≡ n.kept → a ≡ [] → b ≡ a ++ codes "FCC2" → c ≡ b ++ bytes_of w64 n.generation → d ≡ c ++ bytes_of w64 n.runs → e ≡ d ++ bytes_of w64 n.attempts
+pub encoded : (n : Noted) (count : ℕ) (states : List State) (a b c d e f g : List ℕ) → count ≡ length n.kept → states ≡ n.kept → a ≡ [] → b ≡ a ++ codes "FCC2"
+    → c ≡ b ++ bytes_of w64 n.generation → d ≡ c ++ bytes_of w64 n.runs → e ≡ d ++ bytes_of w64 n.attempts
     → f ≡ e ++ bytes_of w32 count → g ≡ f ++ flat_map (λ s. counted_bytes (state_bytes s)) states → g ≡ spelling n
 unfolding note_of numbers_of bytes_of number_in
 encoded n count states a b c d e f g many all a_is b_is c_is d_is e_is f_is g_is =
     put_counted n.kept states count e f g many all f_is g_is
     ∙ ap (λ l. l ++ counted_states (map state_bytes n.kept))
-    (e_is ∙ ap (λ l. l ++ bytes_of w64 n.attempts) (d_is ∙ ap (λ l. l ++ bytes_of w64 n.runs) (c_is ∙ ap (λ l. l ++ bytes_of w64 n.generation) (b_is ∙ ap (λ l. l ++ codes "FCC2") a_is))))
+    (e_is ∙ ap (λ l. l ++ bytes_of w64 n.attempts) (d_is
+    ∙ ap (λ l. l ++ bytes_of w64 n.runs) (c_is ∙ ap (λ l. l ++ bytes_of w64 n.generation) (b_is ∙ ap (λ l. l ++ codes "FCC2") a_is))))
 
 -- ---- where nothing is said
 
@@ -209,16 +227,19 @@ is_old bytes n some mark s = elim (says_parts bytes n s some) [
   | inr a ↦ a
 ]
 
-pub no_magic : (bytes : List ℕ) (n : Noted) → (bytes ≡ [] → ⊥) → bytes_eq (take 4 bytes) (codes "FCC1") ≡ false → bytes_eq (take 4 bytes) (codes "FCC2") ≡ false → Says bytes n → ⊥
+pub no_magic : (bytes : List ℕ) (n : Noted) → (bytes ≡ [] → ⊥) → bytes_eq (take 4 bytes) (codes "FCC1") ≡ false → bytes_eq (take 4 bytes) (codes "FCC2") ≡ false
+    → Says bytes n → ⊥
 no_magic bytes n some old new s = is_marked bytes (codes "FCC2") (is_new bytes n some old s).mark new
 
 pub too_short : SpelledAreRead → (bytes : List ℕ) (n : Noted) → length bytes < 20 → IsNoted n → Numbers bytes n → ⊥
 too_short reads bytes n h k a = let l : 20 ≤ length bytes = (numbers_read reads bytes n k a).long in absurd (omega arith)
 
-pub too_many : SpelledAreRead → (bytes : List ℕ) (n : Noted) (count : ℕ) → count ≡ number_in w32 (after_attempts bytes) → KEPT_LIMIT < count → IsNoted n → Numbers bytes n → ⊥
+pub too_many : SpelledAreRead → (bytes : List ℕ) (n : Noted) (count : ℕ) → count ≡ number_in w32 (after_attempts bytes) → KEPT_LIMIT < count → IsNoted n
+    → Numbers bytes n → ⊥
 too_many reads bytes n count c h k a = too_many_states (after_attempts bytes) n.kept count c h (numbers_read reads bytes n k a).kept k.count
 
-pub no_states : SpelledAreRead → (bytes : List ℕ) (n : Noted) (count : ℕ) → count ≡ number_in w32 (after_attempts bytes) → ReadsStates count (drop 4 (after_attempts bytes)) None → IsNoted n → Numbers bytes n → ⊥
+pub no_states : SpelledAreRead → (bytes : List ℕ) (n : Noted) (count : ℕ) → count ≡ number_in w32 (after_attempts bytes)
+    → ReadsStates count (drop 4 (after_attempts bytes)) None → IsNoted n → Numbers bytes n → ⊥
 no_states reads bytes n count c h k a = no_states_read (after_attempts bytes) n.kept count c h (numbers_read reads bytes n k a).kept k.keys
 
 -- ---- a reader of notes, by one of what stands behind the generation
@@ -227,15 +248,18 @@ pub if_ok : {A E : Type 0} (r : Result A E) (P Q : A → Type 0) → ((x : A) �
 if_ok (Ok x) P Q f h = f x h
 if_ok (Err e) P Q f h = tt
 
-pub begins_states : {A E : Type 0} (r : Result A E) (bytes rest : List ℕ) → take 4 bytes ≡ codes "FCC2" → rest ≡ drop 8 (drop 4 bytes) → OnErr r (TellsStates rest) → OnErr r (BeginsStates bytes)
+pub begins_states : {A E : Type 0} (r : Result A E) (bytes rest : List ℕ) → take 4 bytes ≡ codes "FCC2" → rest ≡ drop 8 (drop 4 bytes)
+    → OnErr r (TellsStates rest) → OnErr r (BeginsStates bytes)
 begins_states (Ok x) bytes rest mark is h = tt
 begins_states (Err e) bytes rest mark is h = inl (mark, subst TellsStates (is ∙ drop-drop 8 4 bytes) h)
 
-pub reads_old : (bytes rest : List ℕ) → (bytes ≡ [] → ⊥) → take 4 bytes ≡ codes "FCC1" → rest ≡ drop 4 bytes → (x : Option Noted) → ReadsNumbers 0 rest x → Reads bytes x
+pub reads_old : (bytes rest : List ℕ) → (bytes ≡ [] → ⊥) → take 4 bytes ≡ codes "FCC1" → rest ≡ drop 4 bytes → (x : Option Noted) → ReadsNumbers 0 rest x
+    → Reads bytes x
 reads_old bytes rest some mark is (Some n) h = old_says bytes n mark h.0 h.1 (subst (λ l. Numbers l n) is h.2)
 reads_old bytes rest some mark is None h = λ n s. h n s.note (subst (λ l. Numbers l n) (sym is) (is_old bytes n some mark s).numbers)
 
-pub reads_new : (bytes rest : List ℕ) (generation : ℕ) → (bytes ≡ [] → ⊥) → IsBytes bytes → bytes_eq (take 4 bytes) (codes "FCC1") ≡ false → take 4 bytes ≡ codes "FCC2" → 8 ≤ length (drop 4 bytes) → generation ≡ number_in w64 (drop 4 bytes) → rest ≡ drop 8 (drop 4 bytes)
+pub reads_new : (bytes rest : List ℕ) (generation : ℕ) → (bytes ≡ [] → ⊥) → IsBytes bytes → bytes_eq (take 4 bytes) (codes "FCC1") ≡ false
+    → take 4 bytes ≡ codes "FCC2" → 8 ≤ length (drop 4 bytes) → generation ≡ number_in w64 (drop 4 bytes) → rest ≡ drop 8 (drop 4 bytes)
     → (x : Option Noted) → ReadsNumbers generation rest x → Reads bytes x
 reads_new bytes rest generation some h other mark long g is (Some n) r = new_says bytes generation n h mark long g r.0 r.1 (subst (λ l. Numbers l n) is r.2)
 reads_new bytes rest generation some h other mark long g is None r = λ n s. r n s.note (subst (λ l. Numbers l n) (sym is) (is_new bytes n some other s).numbers)
@@ -243,7 +267,8 @@ reads_new bytes rest generation some h other mark long g is None r = λ n s. r n
 pub short_note : (bytes : List ℕ) (n : Noted) → (bytes ≡ [] → ⊥) → bytes_eq (take 4 bytes) (codes "FCC1") ≡ false → length (drop 4 bytes) < 8 → Says bytes n → ⊥
 short_note bytes n some other short s = let l : 8 ≤ length (drop 4 bytes) = (is_new bytes n some other s).long in absurd (omega arith)
 
-pub past_generation : (bytes : List ℕ) (n : Noted) (generation : ℕ) → (bytes ≡ [] → ⊥) → bytes_eq (take 4 bytes) (codes "FCC1") ≡ false → generation ≡ number_in w64 (drop 4 bytes) → MAX_GENERATION < generation → Says bytes n → ⊥
+pub past_generation : (bytes : List ℕ) (n : Noted) (generation : ℕ) → (bytes ≡ [] → ⊥) → bytes_eq (take 4 bytes) (codes "FCC1") ≡ false
+    → generation ≡ number_in w64 (drop 4 bytes) → MAX_GENERATION < generation → Says bytes n → ⊥
 past_generation bytes n generation some other g past s =
     let e : generation ≡ n.generation = g ∙ (is_new bytes n some other s).generation in
     let low : n.generation ≤ MAX_GENERATION = s.note.generation in

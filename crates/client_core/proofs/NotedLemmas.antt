@@ -55,7 +55,8 @@ begin_faults true true false h = cc
 begin_faults true false c h = cc
 begin_faults false b c h = cc
 
-pub verify_faults : (a b c d : Bool) → slice_get (when (not a) Down ++ (when (not b) NoSuchRun ++ (when (not c) JobTooLong ++ when (not d) NumbersSpent))) 0 ≡ None → (b ≡ true) × (c ≡ true) × (d ≡ true)
+pub verify_faults : (a b c d : Bool) → slice_get (when (not a) Down ++ (when (not b) NoSuchRun ++ (when (not c) JobTooLong ++ when (not d) NumbersSpent))) 0
+    ≡ None → (b ≡ true) × (c ≡ true) × (d ≡ true)
 verify_faults true true true true h = (refl, refl, refl)
 verify_faults true true true false h = cc
 verify_faults true true false d h = cc
@@ -70,7 +71,8 @@ pub one_attempt : (new : Bool) (n : Noted) → n.attempts + 1 < 2 ^ 64 → IsNot
 one_attempt true n h k = record { generation = k.generation; runs = k.runs; attempts = h; count = k.count; states = k.states; keys = k.keys }
 one_attempt false n h k = k
 
-one_state : KeysStayApart → (new : Bool) (n : Noted) (x : Option State) (s : State) → kept_of s.key n.kept ≡ x → faults_of_state n.kept s ≡ [] → IsState s → IsNoted n → IsNoted (noted_after new (unless_kept x s) n)
+one_state : KeysStayApart → (new : Bool) (n : Noted) (x : Option State) (s : State) → kept_of s.key n.kept ≡ x → faults_of_state n.kept s ≡ [] → IsState s
+    → IsNoted n → IsNoted (noted_after new (unless_kept x s) n)
 one_state apart new n (Some kept) s e free h k = k
 one_state apart true n None s e free h k = record {
   generation = k.generation;
@@ -82,24 +84,30 @@ one_state apart true n None s e free h k = record {
 }
 one_state apart false n None s e free h k = k
 
-pub body_step : KeysStayApart → (new : Bool) (n : Noted) (body : Body) → faults_of_body n body ≡ [] → KeepsState body → IsNoted n → IsNoted (noted_after new (addition_by n body) n)
+pub body_step : KeysStayApart → (new : Bool) (n : Noted) (body : Body) → faults_of_body n body ≡ [] → KeepsState body → IsNoted n
+    → IsNoted (noted_after new (addition_by n body) n)
 body_step apart new n (bodies.State jobs s) e h k = one_state apart new n (kept_of s.key n.kept) s refl e h k
 body_step apart new n (bodies.Copy s) e h k = one_state apart new n (kept_of s.key n.kept) s refl e h k
 body_step apart new n _ e h k = k
 
-step : KeysStayApart → (on : Bool) (peers : Peers) (n : Noted) (c : Call) (left : Left) (r : Option Fault) → r ≡ refusal_by on peers n c → AllByRecursion IsPacket (packet_in (Met c left)) → IsNoted n → IsNoted (noted_after (has_new left) (unless_refused r (addition_of n c)) n)
+step : KeysStayApart → (on : Bool) (peers : Peers) (n : Noted) (c : Call) (left : Left) (r : Option Fault) → r ≡ refusal_by on peers n c
+    → AllByRecursion IsPacket (packet_in (Met c left)) → IsNoted n → IsNoted (noted_after (has_new left) (unless_refused r (addition_of n c)) n)
 step apart on peers n c left (Some f) e h k = k
-step apart on peers n (Begin text) left None e h k = one_run (has_new left) n (next_left peers n.generation n.runs ((begin_faults on (is_text text) (has_next peers n.generation n.runs) (sym e)).1)) k
+step apart on peers n (Begin text) left None e h k =
+    one_run (has_new left) n (next_left peers n.generation n.runs ((begin_faults on (is_text text) (has_next peers n.generation n.runs) (sym e)).1)) k
 step apart on peers n (Trigger run act) left None e h k = k
 step apart on peers n (Stop run) left None e h k = k
-step apart on peers n (Verify run text) left None e h k = one_attempt (has_new left) n (next_left peers n.generation n.attempts ((verify_faults on (is_begun n run) (is_text text) (has_next peers n.generation n.attempts) (sym e)).2)) k
+step apart on peers n (Verify run text) left None e h k =
+    one_attempt (has_new left) n (next_left peers n.generation n.attempts
+    ((verify_faults on (is_begun n run) (is_text text) (has_next peers n.generation n.attempts) (sym e)).2)) k
 step apart on peers n (Deliver p) left None e h k = body_step apart (has_new left) n p.body ((taken_in on peers n p (sym e)).2) h.0.state k
 step apart on peers n Tick left None e h k = k
 
 ranged : (new : Bool) (g : ℕ) (n : Noted) → (new && may_renew g n) ≡ true → is_generation g ≡ true
 ranged new g n h = (and_parts (is_generation g) (is_blank n) ((and_parts new (may_renew g n) h).1)).0
 
-pub in_entry : (e : Entry) (past : List Entry) → AllByRecursion IsPacket (packet_in e ++ packets_come past) → AllByRecursion IsPacket (packet_in e) × AllByRecursion IsPacket (packets_come past)
+pub in_entry : (e : Entry) (past : List Entry) → AllByRecursion IsPacket (packet_in e ++ packets_come past)
+    → AllByRecursion IsPacket (packet_in e) × AllByRecursion IsPacket (packets_come past)
 in_entry (Met (Deliver p) left) past h = ((h.0, tt), h.1)
 in_entry _ past h = (tt, h)
 
@@ -107,8 +115,10 @@ pub notes_keep_ranges : KeysStayApart → NotesKeepRanges
 notes_keep_ranges apart o [] k h = k
 notes_keep_ranges apart o (Met c left ∷ past) k h =
     let p = in_entry (Met c left) past h in
-    step apart (is_on past) (peers o past) (words_noted o past) c left (refusal_by (is_on past) (peers o past) (words_noted o past) c) refl p.0 (notes_keep_ranges apart o past k p.1)
+    step apart (is_on past) (peers o past) (words_noted o past) c left (refusal_by (is_on past) (peers o past) (words_noted o past) c) refl p.0
+    (notes_keep_ranges apart o past k p.1)
 notes_keep_ranges apart o (Cut ∷ past) k h = notes_keep_ranges apart o past k h
 notes_keep_ranges apart o (Restart mirror ∷ past) k h = notes_keep_ranges apart o past k h
-notes_keep_ranges apart o (Renew g left ∷ past) k h = kept_by_renewal (has_new left && may_renew g (words_noted o past)) g (words_noted o past) (λ e. ranged (has_new left) g (words_noted o past) e) (notes_keep_ranges apart o past k h)
+notes_keep_ranges apart o (Renew g left ∷ past) k h = kept_by_renewal (has_new left && may_renew g (words_noted o past)) g (words_noted o past)
+    (λ e. ranged (has_new left) g (words_noted o past) e) (notes_keep_ranges apart o past k h)
 notes_keep_ranges apart o (Lose ∷ past) k h = of_blank

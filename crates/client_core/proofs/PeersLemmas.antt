@@ -29,14 +29,16 @@ generation_stays true (Some NextAttempt) n = refl
 generation_stays true (Some (Keep state)) n = refl
 generation_stays false (Some a) n = refl
 
-pub same_generation : (o : Opening) (past : List Entry) (c : Call) (left : Left) → (words_noted o (Met c left ∷ past)).generation ≡ (words_noted o past).generation
+pub same_generation : (o : Opening) (past : List Entry) (c : Call) (left : Left)
+    → (words_noted o (Met c left ∷ past)).generation ≡ (words_noted o past).generation
 same_generation o past c left = generation_stays (has_new left) (due o past c) (words_noted o past)
 
 grants_if : (b : Bool) (now before : List ℕ) → (b ≡ true → now ≡ []) → (if b then now ++ before else before) ≡ before
 grants_if true now before e = ap (λ gs. gs ++ before) (e refl)
 grants_if false now before e = refl
 
-by_parts : (o : Opening) (past : List Entry) (c : Call) (left : Left) → granted_generations (Met c left ∷ past) ≡ granted_generations past → peers o (Met c left ∷ past) ≡ peers o past
+by_parts : (o : Opening) (past : List Entry) (c : Call) (left : Left) → granted_generations (Met c left ∷ past) ≡ granted_generations past
+    → peers o (Met c left ∷ past) ≡ peers o past
 by_parts o past c left e = λ i. record {
   servers = o.servers;
   mirror = has_mirror past;
@@ -49,7 +51,8 @@ peers_stay o past c left e = by_parts o past c left (grants_if (is_on past && ha
 
 -- ---- a refused call
 
-grant_of : (peers : Peers) (n : Noted) (from to : Node) (body : Body) (fault : Fault) → peers.mirror ≡ true → refusal_by true peers n (Deliver (record { from = from; to = to; body = body })) ≡ Some fault
+grant_of : (peers : Peers) (n : Noted) (from to : Node) (body : Body) (fault : Fault) → peers.mirror ≡ true
+    → refusal_by true peers n (Deliver (record { from = from; to = to; body = body })) ≡ Some fault
     → (if is_client to && is_mirror from then granted_in body else []) ≡ []
 unfolding is_for_client is_from_server is_from_mirror
 grant_of peers n nodes.Mirror nodes.Client (bodies.Granted g) fault m h = let k = rw m at h in cc
@@ -77,7 +80,8 @@ on_parts true false h = cc
 on_parts false b h = cc
 
 -- A refused call leaves with whom the client is: a grant is never refused.
-pub refused_peers : (o : Opening) (past : List Entry) (c : Call) (left : Left) (fault : Fault) → refusal o past c ≡ Some fault → peers o (Met c left ∷ past) ≡ peers o past
+pub refused_peers : (o : Opening) (past : List Entry) (c : Call) (left : Left) (fault : Fault) → refusal o past c ≡ Some fault
+    → peers o (Met c left ∷ past) ≡ peers o past
 refused_peers o past c left fault r = by_parts o past c left (grants_if (is_on past && has_mirror past) (granted_by c) (granted_generations past) (λ b.
     let on = on_parts (is_on past) (has_mirror past) b in
     no_grant (peers o past) (words_noted o past) c fault on.1 (ap (λ x. refusal_by x (peers o past) (words_noted o past) c) (sym on.0) ∙ r)))
@@ -97,13 +101,15 @@ from_server_grants_none p h = by_sender (is_client p.to) (is_mirror p.from) h
     by_sender true false h = refl
     by_sender false b h = refl
 
-after : (generation : ℕ) (body : Body) (servers : ℕ) (mirror : Bool) (gs : List ℕ) → record { servers = servers; mirror = mirror; granted = list_any (λ g. g == generation) (granted_in body ++ gs) }
+after : (generation : ℕ) (body : Body) (servers : ℕ) (mirror : Bool) (gs : List ℕ)
+    → record { servers = servers; mirror = mirror; granted = list_any (λ g. g == generation) (granted_in body ++ gs) }
     ≡ after_grant generation body (record { servers = servers; mirror = mirror; granted = list_any (λ g. g == generation) gs })
 after generation (bodies.Granted g) servers mirror gs = refl
 after generation _ servers mirror gs = refl
 
 -- What the mirror says may grant the generation.
-pub heard_peers : (o : Opening) (past : List Entry) (p : PacketParts) (left : Left) → is_on past ≡ true → has_mirror past ≡ true → is_client p.to ≡ true → is_mirror p.from ≡ true
+pub heard_peers : (o : Opening) (past : List Entry) (p : PacketParts) (left : Left) → is_on past ≡ true → has_mirror past ≡ true → is_client p.to ≡ true
+    → is_mirror p.from ≡ true
     → peers o (Met (Deliver p) left ∷ past) ≡ after_grant (words_noted o past).generation p.body (peers o past)
 heard_peers o past p left on mirror to from =
     let e : granted_generations (Met (Deliver p) left ∷ past) ≡ granted_in p.body ++ granted_generations past = rw (on, mirror, to, from) refl in

@@ -8,7 +8,8 @@ some_is : {A : Type 0} {x y : A} → Some x ≡ Some y → x ≡ y
 some_is e = cc
 
 -- Where one place is set, P is left for Q: there, and at each other place.
-pub each_set : {A : Type 0} (xs : List A) (P Q : ℕ → A → Type 0) (i : ℕ) (d v : A) → (P i (slice_index_or xs i d) → Q i v) → ((j : ℕ) (x : A) → (i == j) ≡ false → P j x → Q j x) → Each xs P → Each (slice_set xs i v) Q
+pub each_set : {A : Type 0} (xs : List A) (P Q : ℕ → A → Type 0) (i : ℕ) (d v : A) → (P i (slice_index_or xs i d) → Q i v)
+    → ((j : ℕ) (x : A) → (i == j) ≡ false → P j x → Q j x) → Each xs P → Each (slice_set xs i v) Q
 each_set [] P Q i d v at other h j x e = cc
 each_set (y ∷ ys) P Q zero d v at other h zero x e = subst (Q 0) (some_is e) (at (h 0 y refl))
 each_set (y ∷ ys) P Q zero d v at other h (suc j) x e =

@@ -72,7 +72,8 @@ InRange (Verifies r a text) = (is_run r ≡ true) × (is_run a ≡ true) × (is_
 InRange (Hears s body) = Unit {0}
 
 deeds_in_range : (on : Bool) (servers : Peers) (n : Noted) (c : Call) → refusal_by on servers n c ≡ None → IsNoted n → AllByRecursion InRange (deeds_of n c)
-deeds_in_range on servers n (Begin text) h k = let p = begin_faults on (is_text text) (has_next servers n.generation n.runs) h in ((next_in_range servers n.generation n.runs p.1, p.0), tt)
+deeds_in_range on servers n (Begin text) h k =
+    let p = begin_faults on (is_text text) (has_next servers n.generation n.runs) h in ((next_in_range servers n.generation n.runs p.1, p.0), tt)
 deeds_in_range on servers n (Trigger run act) h k = (tt, tt)
 deeds_in_range on servers n (Stop run) h k = (tt, tt)
 deeds_in_range on servers n (Verify run text) h k =
@@ -81,7 +82,8 @@ deeds_in_range on servers n (Verify run text) h k =
 deeds_in_range on servers n (Deliver p) h k = (tt, tt)
 deeds_in_range on servers n Tick h k = tt
 
-more_done : (b : Bool) (deeds before : List Deed) → (b ≡ true → AllByRecursion InRange deeds) → AllByRecursion InRange before → AllByRecursion InRange (if b then deeds ++ before else before)
+more_done : (b : Bool) (deeds before : List Deed) → (b ≡ true → AllByRecursion InRange deeds) → AllByRecursion InRange before
+    → AllByRecursion InRange (if b then deeds ++ before else before)
 more_done true deeds before f k = all_append InRange deeds before (f refl) k
 more_done false deeds before f k = k
 
@@ -90,7 +92,8 @@ done_in_range ranges o [] k h = tt
 done_in_range ranges o (Met c left ∷ past) k h =
     let p = in_entry (Met c left) past h in
     more_done (is_answered o past c left) (deeds_of (words_noted o past) c) (deeds_done o past)
-    (λ a. deeds_in_range (is_on past) (peers o past) (words_noted o past) c (none_or (refusal o past c) (is_answer (due o past c) left) a) (ranges o past k p.1))
+    (λ a. deeds_in_range (is_on past) (peers o past) (words_noted o past) c (none_or (refusal o past c) (is_answer (due o past c) left) a)
+    (ranges o past k p.1))
     (done_in_range ranges o past k p.1)
 done_in_range ranges o (Cut ∷ past) k h = done_in_range ranges o past k h
 done_in_range ranges o (Restart mirror ∷ past) k h = done_in_range ranges o past k h
@@ -144,45 +147,57 @@ record Known (o : Opening) (past : List Entry) (c : Call) (left : Left) : Type 0
   answers : is_answered o past c left ≡ true
   taken : refusal o past c ≡ None
 
-run_of_call : (o : Opening) (past : List Entry) (c x : Call) (run : ℕ) → IsNoted (words_noted o past) → refusal o past c ≡ None → c ≡ x → (refusal o past x ≡ None → is_begun (words_noted o past) run ≡ true) → is_run run ≡ true
+run_of_call : (o : Opening) (past : List Entry) (c x : Call) (run : ℕ) → IsNoted (words_noted o past) → refusal o past c ≡ None → c ≡ x
+    → (refusal o past x ≡ None → is_begun (words_noted o past) run ≡ true) → is_run run ≡ true
 run_of_call o past c x run k taken e f = begun_in_range (words_noted o past) run (f (subst (λ d. refusal o past d ≡ None) e taken)) k.runs
 
-acked_fits : (o : Opening) (past : List Entry) (c : Call) (left : Left) (s run job : ℕ) → Known o past c left → Why (words_noted o past) (life o past) c s (bodies.StateAck run job) → is_body (bodies.StateAck run job) ≡ true
+acked_fits : (o : Opening) (past : List Entry) (c : Call) (left : Left) (s run job : ℕ) → Known o past c left
+    → Why (words_noted o past) (life o past) c s (bodies.StateAck run job) → is_body (bodies.StateAck run job) ≡ true
 acked_fits o past c left s run job k (inl w) =
     let f = said_fits c left s (bodies.State w.0 w.1) w.2 k.entry in
     subst (λ r. is_body (bodies.StateAck r job) ≡ true) (sym w.3) (subst (λ j. is_body (bodies.StateAck w.1.key.run j) ≡ true) (sym w.4) (ack_fits w.1 f.1))
 acked_fits o past c left s run job k (inr w) = no_state_fits run job w.0 ((said_fits c left s (bodies.NoState run job w.0) w.1 k.entry).0)
 
-triggered_fits : (o : Opening) (past : List Entry) (c : Call) (left : Left) (s run : ℕ) (act : Act) → Known o past c left → Why (words_noted o past) (life o past) c s (bodies.Trigger run act) → is_run run ≡ true
-triggered_fits o past c left s run act k (inl e) = run_of_call o past c (Trigger run act) run k.note k.taken e (λ h. run_faults (is_on past) (is_begun (words_noted o past) run) h)
+triggered_fits : (o : Opening) (past : List Entry) (c : Call) (left : Left) (s run : ℕ) (act : Act) → Known o past c left
+    → Why (words_noted o past) (life o past) c s (bodies.Trigger run act) → is_run run ≡ true
+triggered_fits o past c left s run act k (inl e) =
+    run_of_call o past c (Trigger run act) run k.note k.taken e (λ h. run_faults (is_on past) (is_begun (words_noted o past) run) h)
 triggered_fits o past c left s run act k (inr u) = run_within run (words_noted o past).runs u.0 u.1 k.note.runs
 
-stopped_fits : (o : Opening) (past : List Entry) (c : Call) (left : Left) (s run : ℕ) → Known o past c left → Why (words_noted o past) (life o past) c s (bodies.Stop run) → is_run run ≡ true
-stopped_fits o past c left s run k (inl e) = run_of_call o past c (Stop run) run k.note k.taken e (λ h. run_faults (is_on past) (is_begun (words_noted o past) run) h)
+stopped_fits : (o : Opening) (past : List Entry) (c : Call) (left : Left) (s run : ℕ) → Known o past c left
+    → Why (words_noted o past) (life o past) c s (bodies.Stop run) → is_run run ≡ true
+stopped_fits o past c left s run k (inl e) =
+    run_of_call o past c (Stop run) run k.note k.taken e (λ h. run_faults (is_on past) (is_begun (words_noted o past) run) h)
 stopped_fits o past c left s run k (inr u) = run_within run (words_noted o past).runs u.0 u.1 k.note.runs
 
-fits : (o : Opening) (past : List Entry) (c : Call) (left : Left) (s : ℕ) (body : Body) → Known o past c left → Why (words_noted o past) (life o past) c s body → Fits body
+fits : (o : Opening) (past : List Entry) (c : Call) (left : Left) (s : ℕ) (body : Body) → Known o past c left → Why (words_noted o past) (life o past) c s body
+    → Fits body
 fits o past c left s (bodies.Jobs run text) k w =
-    let d : InRange (Begins run text) = each_of InRange (deeds_done o (Met c left ∷ past)) (Begins run text) k.after (why_carries o past c left s (bodies.Jobs run text) k.answers w) in
+    let d : InRange (Begins run text) =
+    each_of InRange (deeds_done o (Met c left ∷ past)) (Begins run text) k.after (why_carries o past c left s (bodies.Jobs run text) k.answers w) in
     let a : is_run run ≡ true = d.0 in
     let b : is_text text ≡ true = d.1 in
     (rw (a, b) refl, tt)
 fits o past c left s (bodies.Start run) k w =
-    let d = each_of InRange (deeds_done o past) (Begins run (text_of run (life o past))) k.before (life_was_done o past (Begins run (text_of run (life o past))) (begun_was run s (life o past) w)) in
+    let d = each_of InRange (deeds_done o past) (Begins run (text_of run (life o past))) k.before
+    (life_was_done o past (Begins run (text_of run (life o past))) (begun_was run s (life o past) w)) in
     (d.0, tt)
 fits o past c left s (bodies.Trigger run act) k w = (triggered_fits o past c left s run act k w, tt)
 fits o past c left s (bodies.StateAck run job) k w = (acked_fits o past c left s run job k w, tt)
 fits o past c left s (bodies.Stop run) k w = (stopped_fits o past c left s run k w, tt)
 fits o past c left s (bodies.Verify run attempt text) k w =
-    let d : InRange (Verifies run attempt text) = each_of InRange (deeds_done o (Met c left ∷ past)) (Verifies run attempt text) k.after (why_carries o past c left s (bodies.Verify run attempt text) k.answers w) in
+    let d : InRange (Verifies run attempt text) = each_of InRange (deeds_done o (Met c left ∷ past)) (Verifies run attempt text) k.after
+    (why_carries o past c left s (bodies.Verify run attempt text) k.answers w) in
     let a : is_run run ≡ true = d.0 in
     let b : is_run attempt ≡ true = d.1 in
     let t : is_text text ≡ true = d.2 in
     (rw (a, b, t) refl, tt)
 fits o past c left s (bodies.Saved attempt state) k w =
     let f = said_fits c left s (bodies.WantState w.0 attempt w.1) w.2 k.entry in
-    let p = and_parts (is_run w.0 && is_attempt attempt) (is_job w.1) f.0 in
-    ((and_parts (is_run w.0) (is_attempt attempt) p.0).1, state_kept (record { run = w.0; server = s; job = w.1 }) (words_noted o past).kept state k.note.states w.3)
+    let p = and_parts (is_run w.0 && is_attempt attempt) (is_job w.1) f.0 in (
+      (and_parts (is_run w.0) (is_attempt attempt) p.0).1,
+      state_kept (record { run = w.0; server = s; job = w.1 }) (words_noted o past).kept state k.note.states w.3,
+    )
 fits o past c left s (bodies.NoSaved run attempt job) k w = ((said_fits c left s (bodies.WantState run attempt job) w k.entry).0, tt)
 fits o past c left s _ k w = absurd w
 

@@ -32,10 +32,12 @@ same_refusal true p q n m c f e = ap (λ x. refusal_by true x m c) (f refl) ∙ 
 same_refusal false p q n m c f e = refl
 
 -- What the client refuses is what the list says.
-pub refusal_is : {T : Type 0} (note : T → Note) (client : PacketClient T) (o : Opening) (past : List Entry) (c : Call) → StandsFor note client o past → refusal_by (not client.down) client.peers client.noted c ≡ refusal o past c
+pub refusal_is : {T : Type 0} (note : T → Note) (client : PacketClient T) (o : Opening) (past : List Entry) (c : Call) → StandsFor note client o past
+    → refusal_by (not client.down) client.peers client.noted c ≡ refusal o past c
 refusal_is note client o past c s =
     ap (λ on. refusal_by on client.peers client.noted c) (on_of client.down (is_on past) s.on)
-    ∙ same_refusal (is_on past) client.peers (peers o past) (words_noted o past) client.noted c (λ on. s.peers ∙ ap (peers o) (looks_at_all past on)) (λ on. s.knows ∙ ap (words_noted o) (looks_at_all past on))
+    ∙ same_refusal (is_on past) client.peers (peers o past) (words_noted o past) client.noted c (λ on. s.peers ∙ ap (peers o) (looks_at_all past on))
+    (λ on. s.knows ∙ ap (words_noted o) (looks_at_all past on))
 
 body_refusals : (n : Noted) (body : Body) → AllByRecursion IsRefusal (faults_of_body n body)
 body_refusals n (bodies.State jobs state) = state_refusals n.kept state
@@ -43,7 +45,8 @@ body_refusals n (bodies.Copy state) = state_refusals n.kept state
 body_refusals n _ = tt
 
 call_refusals : (servers : Peers) (n : Noted) (c : Call) → AllByRecursion IsRefusal (faults_of servers n c)
-call_refusals servers n (Begin text) = let spent = not (has_next servers n.generation n.runs) in more_refusals (not (is_text text)) JobTooLong (when spent NumbersSpent) refl (one_refusal spent NumbersSpent refl)
+call_refusals servers n (Begin text) = let spent = not (has_next servers n.generation n.runs) in
+    more_refusals (not (is_text text)) JobTooLong (when spent NumbersSpent) refl (one_refusal spent NumbersSpent refl)
 call_refusals servers n (Trigger run act) = one_refusal (not (is_begun n run)) NoSuchRun refl
 call_refusals servers n (Stop run) = one_refusal (not (is_begun n run)) NoSuchRun refl
 call_refusals servers n (Verify run text) =
@@ -59,7 +62,8 @@ refusal_sort on servers n c fault e = first_refusal _ fault (more_refusals (not 
 
 -- ---- what a call that isn't refused has
 
-pub begin_free : (down b c : Bool) → slice_get (when (not (not down)) Down ++ (when (not b) JobTooLong ++ when (not c) NumbersSpent)) 0 ≡ None → (down ≡ false) × (b ≡ true) × (c ≡ true)
+pub begin_free : (down b c : Bool) → slice_get (when (not (not down)) Down ++ (when (not b) JobTooLong ++ when (not c) NumbersSpent)) 0 ≡ None
+    → (down ≡ false) × (b ≡ true) × (c ≡ true)
 begin_free false true true h = (refl, refl, refl)
 begin_free false true false h = cc
 begin_free false false c h = cc
@@ -70,7 +74,8 @@ run_free false true h = (refl, refl)
 run_free false false h = cc
 run_free true b h = cc
 
-pub verify_free : (down a b c : Bool) → slice_get (when (not (not down)) Down ++ (when (not a) NoSuchRun ++ (when (not b) JobTooLong ++ when (not c) NumbersSpent))) 0 ≡ None → (down ≡ false) × (a ≡ true) × (b ≡ true) × (c ≡ true)
+pub verify_free : (down a b c : Bool) → slice_get (when (not (not down)) Down
+    ++ (when (not a) NoSuchRun ++ (when (not b) JobTooLong ++ when (not c) NumbersSpent))) 0 ≡ None → (down ≡ false) × (a ≡ true) × (b ≡ true) × (c ≡ true)
 verify_free false true true true h = (refl, refl, refl, refl)
 verify_free false true true false h = cc
 verify_free false true false c h = cc

@@ -25,7 +25,8 @@ renewed_with g h e = by_test (is_generation g) refl e
     by_test false is e = cc
 
 -- Over no bytes a list with a renewal says the generation.
-pub renewed_noted : (o : Opening) (past : List Entry) (bytes : List ℕ) (g : ℕ) → bytes ≡ [] → is_generation g ≡ true → Says bytes (words_noted o past) → words_noted o (Renew g Saved ∷ past) ≡ new_note g
+pub renewed_noted : (o : Opening) (past : List Entry) (bytes : List ℕ) (g : ℕ) → bytes ≡ [] → is_generation g ≡ true → Says bytes (words_noted o past)
+    → words_noted o (Renew g Saved ∷ past) ≡ new_note g
 renewed_noted o past bytes g none is says =
     let empty : words_noted o past ≡ blank = says_blank (words_noted o past) (subst (λ l. Says l (words_noted o past)) none says) in
     ap (renewed_after true g) empty ∙ ap (λ b. if b && true then new_note g else blank) is

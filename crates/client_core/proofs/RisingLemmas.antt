@@ -32,13 +32,16 @@ none_left f a (e ∷ es) h none =
     ap (λ ps. ps ++ flat_map (λ x. f x.0) es) (none e.0 low) ∙ none_left f (e.0 + 1) es h.1 (λ n l. none n (omega arith))
 
 -- What is sent for so many numbers is what is sent for those that have something to send.
-pub rising : {X : Type 0} (f : ℕ → List PacketParts) (k a : ℕ) (es : List (ℕ × X)) → Rises a es → ((n : ℕ) → Lacks n es → a ≤ n → f n ≡ []) → ((n : ℕ) → a + k ≤ n → f n ≡ []) → flat_map f (range_with_len a k) ≡ flat_map (λ e. f e.0) es
+pub rising : {X : Type 0} (f : ℕ → List PacketParts) (k a : ℕ) (es : List (ℕ × X)) → Rises a es → ((n : ℕ) → Lacks n es → a ≤ n → f n ≡ [])
+    → ((n : ℕ) → a + k ≤ n → f n ≡ []) → flat_map f (range_with_len a k) ≡ flat_map (λ e. f e.0) es
 rising f zero a es h lacks above = sym (none_left f a es h (λ n l. above n (omega arith)))
-rising {X} f (suc k) a [] h lacks above = ap (λ ps. ps ++ flat_map f (range_with_len (a + 1) k)) (lacks a tt (omega arith)) ∙ rising {X = X} f k (a + 1) [] tt (λ n l m. lacks n tt (omega arith)) (λ n l. above n (omega arith))
+rising {X} f (suc k) a [] h lacks above = ap (λ ps. ps ++ flat_map f (range_with_len (a + 1) k)) (lacks a tt (omega arith))
+    ∙ rising {X = X} f k (a + 1) [] tt (λ n l m. lacks n tt (omega arith)) (λ n l. above n (omega arith))
 rising {X} f (suc k) a (e ∷ es) h lacks above = by_first (a == e.0) refl (λ fs. rising f k (a + 1) fs)
   where
     by_first : (b : Bool) → (a == e.0) ≡ b
-        → ((fs : List (ℕ × X)) → Rises (a + 1) fs → ((n : ℕ) → Lacks n fs → a + 1 ≤ n → f n ≡ []) → ((n : ℕ) → a + 1 + k ≤ n → f n ≡ []) → flat_map f (range_with_len (a + 1) k) ≡ flat_map (λ x. f x.0) fs)
+        → ((fs : List (ℕ × X)) → Rises (a + 1) fs → ((n : ℕ) → Lacks n fs → a + 1 ≤ n → f n ≡ []) → ((n : ℕ) → a + 1 + k ≤ n → f n ≡ [])
+        → flat_map f (range_with_len (a + 1) k) ≡ flat_map (λ x. f x.0) fs)
         → flat_map f (range_with_len a (suc k)) ≡ flat_map (λ x. f x.0) (e ∷ es)
     by_first true is ih =
         let same : a ≡ e.0 = grind (arith, nat_tests) in
@@ -66,11 +69,13 @@ placed_rises : (a n : ℕ) (ns : List ℕ) → a ≤ n → Rises a (beside ns) �
 placed_rises a n [] l h = (l, tt)
 placed_rises a n (m ∷ ms) l h = by_less (nat_lt n m) refl (λ more. placed_rises (m + 1) n ms more h.1)
   where
-    by_equal : (b : Bool) → (n == m) ≡ b → nat_lt n m ≡ false → (m + 1 ≤ n → Rises (m + 1) (beside (with_number n ms))) → Rises a (beside (if b then m ∷ ms else m ∷ with_number n ms))
+    by_equal : (b : Bool) → (n == m) ≡ b → nat_lt n m ≡ false → (m + 1 ≤ n → Rises (m + 1) (beside (with_number n ms)))
+        → Rises a (beside (if b then m ∷ ms else m ∷ with_number n ms))
     by_equal true e o next = h
     by_equal false e o next = let more : m + 1 ≤ n = grind (arith, nat_tests) in (h.0, next more)
 
-    by_less : (b : Bool) → nat_lt n m ≡ b → (m + 1 ≤ n → Rises (m + 1) (beside (with_number n ms))) → Rises a (beside (if b then n ∷ m ∷ ms else (if n == m then m ∷ ms else m ∷ with_number n ms)))
+    by_less : (b : Bool) → nat_lt n m ≡ b → (m + 1 ≤ n → Rises (m + 1) (beside (with_number n ms)))
+        → Rises a (beside (if b then n ∷ m ∷ ms else (if n == m then m ∷ ms else m ∷ with_number n ms)))
     by_less true e next = let more : n + 1 ≤ m = grind (arith, nat_tests) in (l, (more, h.1))
     by_less false e next = by_equal (n == m) refl e next
 
@@ -86,11 +91,14 @@ lacks_placed : (n m : ℕ) (ns : List ℕ) → Lacks n (beside (with_number m ns
 lacks_placed n m [] h = h
 lacks_placed n m (k ∷ ks) h = by_less (nat_lt m k) h (λ l. lacks_placed n m ks l)
   where
-    by_equal : (b : Bool) → (m == k) ≡ b → Lacks n (beside (if b then k ∷ ks else k ∷ with_number m ks)) → (Lacks n (beside (with_number m ks)) → ((n == m) ≡ false) × Lacks n (beside ks)) → ((n == m) ≡ false) × Lacks n (beside (k ∷ ks))
-    by_equal true e h next = let first : (n == k) ≡ false = h.0 in let same : m ≡ k = grind (arith, nat_tests) in (subst (λ x. (n == x) ≡ false) (sym same) first, h)
+    by_equal : (b : Bool) → (m == k) ≡ b → Lacks n (beside (if b then k ∷ ks else k ∷ with_number m ks))
+        → (Lacks n (beside (with_number m ks)) → ((n == m) ≡ false) × Lacks n (beside ks)) → ((n == m) ≡ false) × Lacks n (beside (k ∷ ks))
+    by_equal true e h next =
+        let first : (n == k) ≡ false = h.0 in let same : m ≡ k = grind (arith, nat_tests) in (subst (λ x. (n == x) ≡ false) (sym same) first, h)
     by_equal false e h next = let r = next h.1 in (r.0, (h.0, r.1))
 
-    by_less : (b : Bool) → Lacks n (beside (if b then m ∷ k ∷ ks else (if m == k then k ∷ ks else k ∷ with_number m ks))) → (Lacks n (beside (with_number m ks)) → ((n == m) ≡ false) × Lacks n (beside ks)) → ((n == m) ≡ false) × Lacks n (beside (k ∷ ks))
+    by_less : (b : Bool) → Lacks n (beside (if b then m ∷ k ∷ ks else (if m == k then k ∷ ks else k ∷ with_number m ks)))
+        → (Lacks n (beside (with_number m ks)) → ((n == m) ≡ false) × Lacks n (beside ks)) → ((n == m) ≡ false) × Lacks n (beside (k ∷ ks))
     by_less true h next = (h.0, h.1)
     by_less false h next = by_equal (m == k) refl h next
 
@@ -108,13 +116,17 @@ past_all n [] l = tt
 past_all n (m ∷ ns) l = let d : (n == m) ≡ false = grind (arith, nat_tests) in (d, past_all n ns (omega arith))
 
 -- What is sent for some numbers in rising order is what is sent for as many from 0.
-pub order_spread : (f : ℕ → List PacketParts) (ns : List ℕ) → ((n : ℕ) → Misses n ns → f n ≡ []) → flat_map f (range_with_len 0 (above ns)) ≡ flat_map f (in_order ns)
+pub order_spread : (f : ℕ → List PacketParts) (ns : List ℕ) → ((n : ℕ) → Misses n ns → f n ≡ [])
+    → flat_map f (range_with_len 0 (above ns)) ≡ flat_map f (in_order ns)
 order_spread f ns none =
-    rising f (above ns) 0 (beside (in_order ns)) (order_rises ns) (λ n l z. none n (lacks_order n ns l)) (λ n l. none n (past_all n ns (omega (arith, l)))) ∙ beside_flat f (in_order ns)
+    rising f (above ns) 0 (beside (in_order ns)) (order_rises ns) (λ n l z. none n (lacks_order n ns l)) (λ n l. none n (past_all n ns (omega (arith, l))))
+    ∙ beside_flat f (in_order ns)
 
 -- What is sent for entries is what is sent for the numbers in rising order.
-pub entries_spread : {X : Type 0} (f : ℕ → List PacketParts) (ns : List ℕ) (es : List (ℕ × X)) → Rises 0 es → ((n : ℕ) → Misses n ns → f n ≡ []) → ((n : ℕ) → Lacks n es → f n ≡ []) → flat_map (λ e. f e.0) es ≡ flat_map f (in_order ns)
-entries_spread f ns es r none lacks = sym (rising f (above ns) 0 es r (λ n l z. lacks n l) (λ n l. none n (past_all n ns (omega (arith, l))))) ∙ order_spread f ns none
+pub entries_spread : {X : Type 0} (f : ℕ → List PacketParts) (ns : List ℕ) (es : List (ℕ × X)) → Rises 0 es → ((n : ℕ) → Misses n ns → f n ≡ [])
+    → ((n : ℕ) → Lacks n es → f n ≡ []) → flat_map (λ e. f e.0) es ≡ flat_map f (in_order ns)
+entries_spread f ns es r none lacks =
+    sym (rising f (above ns) 0 es r (λ n l z. lacks n l) (λ n l. none n (past_all n ns (omega (arith, l))))) ∙ order_spread f ns none
 
 placed_all : (P : ℕ → Type 0) (n : ℕ) (ns : List ℕ) → P n → AllByRecursion P ns → AllByRecursion P (with_number n ns)
 placed_all P n [] p h = (p, tt)

@@ -53,7 +53,8 @@ packets_go_to_peers o past (Restart mirror) p h = absurd (none_in p h)
 packets_go_to_peers o past (Renew g left) p h = absurd (none_in p h)
 packets_go_to_peers o past Lose p h = absurd (none_in p h)
 
-saved_by : FoundHasItsKey → (o : Opening) (past : List Entry) (c : Call) (p : PacketParts) (attempt : ℕ) (state : State) → SendsTo o.servers (words_noted o past) (life o past) c p → p.body ≡ bodies.Saved attempt state → kept_state o past state.key ≡ Some state
+saved_by : FoundHasItsKey → (o : Opening) (past : List Entry) (c : Call) (p : PacketParts) (attempt : ℕ) (state : State)
+    → SendsTo o.servers (words_noted o past) (life o past) c p → p.body ≡ bodies.Saved attempt state → kept_state o past state.key ≡ Some state
 saved_by has o past c p attempt state w e =
     let v : Why (words_noted o past) (life o past) c w.0 (bodies.Saved attempt state) = subst (Why (words_noted o past) (life o past) c w.0) e w.3 in
     let key : Key = record { run = v.0; server = w.0; job = v.1 } in
@@ -75,7 +76,12 @@ copy_by : (o : Opening) (past : List Entry) (c : Call) (left : Left) (state : St
     → Contains (words_noted o past).kept state ⊎ ((server jobs : ℕ) × Contains (packet_in (Met c left)) (from_server (bodies.State jobs state) server))
 copy_by o past c left state (inl kept) = inl kept
 copy_by o past c left state (inr said) =
-    inr (said.0, said.1, subst (λ d. Contains (packet_in (Met d left)) (from_server (bodies.State said.1 state) said.0)) (sym said.2) (first_of (from_server (bodies.State said.1 state) said.0) []))
+    inr (
+      said.0,
+      said.1,
+      subst (λ d. Contains (packet_in (Met d left)) (from_server (bodies.State said.1 state) said.0)) (sym said.2) (first_of
+          (from_server (bodies.State said.1 state) said.0) []),
+    )
 
 pub copies_are_of_states : CopiesAreOfStates
 copies_are_of_states o past (Met c left) p state h e = elim ((sent_why o past c left p h).why) [
@@ -88,26 +94,33 @@ copies_are_of_states o past (Renew g left) p state h e = absurd (none_in p h)
 copies_are_of_states o past Lose p state h e = absurd (none_in p h)
 
 -- a state that was answered is kept under its server's key
-answered_one : LastIsFound → (n : Noted) (left : Left) (state : State) (r : Option Fault) → (is_none r && is_answer (unless_refused r (unless_kept (kept_of state.key n.kept) state)) left) ≡ true
+answered_one : LastIsFound → (n : Noted) (left : Left) (state : State) (r : Option Fault)
+    → (is_none r && is_answer (unless_refused r (unless_kept (kept_of state.key n.kept) state)) left) ≡ true
     → (s : State) × (kept_of state.key (noted_after (has_new left) (unless_refused r (unless_kept (kept_of state.key n.kept) state)) n).kept ≡ Some s)
 answered_one last n left state None a = has_one last n left (kept_of state.key n.kept) state refl a
 answered_one last n left state (Some f) a = cc
 
-kept_by : LastIsFound → (o : Opening) (past : List Entry) (c : Call) (left : Left) (jobs s : ℕ) (state : State) → IsSaid c s (bodies.State jobs state) → is_answered o past c left ≡ true → refusal o past c ≡ None
+kept_by : LastIsFound → (o : Opening) (past : List Entry) (c : Call) (left : Left) (jobs s : ℕ) (state : State) → IsSaid c s (bodies.State jobs state)
+    → is_answered o past c left ≡ true → refusal o past c ≡ None
     → (state.key.server ≡ s) × ((x : State) × (kept_of state.key (words_noted o (Met c left ∷ past)).kept ≡ Some x))
 kept_by last o past c left jobs s state e a r =
     let p = from_server (bodies.State jobs state) s in
     let answers : is_answered o past (Deliver p) left ≡ true = subst (λ d. is_answered o past d left ≡ true) e a in
     let taken : refusal o past (Deliver p) ≡ None = subst (λ d. refusal o past d ≡ None) e r in
     let ours = (taken_in (is_on past) (peers o past) (words_noted o past) p taken).1 in
-    let own : state.key.server ≡ s = own_state (peers o past) p.from p.to jobs state ours in
-    (own, subst (λ d. (x : State) × (kept_of state.key (words_noted o (Met d left ∷ past)).kept ≡ Some x)) (sym e) (answered_one last (words_noted o past) left state (refusal o past (Deliver p)) answers))
+    let own : state.key.server ≡ s = own_state (peers o past) p.from p.to jobs state ours in (
+      own,
+      subst (λ d. (x : State) × (kept_of state.key (words_noted o (Met d left ∷ past)).kept ≡ Some x)) (sym e) (answered_one last
+          (words_noted o past) left state (refusal o past (Deliver p)) answers),
+    )
 
 abbrev AckedFor : Noted → Entry → ℕ → ℕ → ℕ → Type 0
 AckedFor after entry run server job =
-    ((state : State) × (kept_of (record { run = run; server = server; job = job }) after.kept ≡ Some state)) ⊎ ((jobs : ℕ) × Contains (packet_in entry) (from_server (bodies.NoState run job jobs) server))
+    ((state : State) × (kept_of (record { run = run; server = server; job = job }) after.kept ≡ Some state))
+    ⊎ ((jobs : ℕ) × Contains (packet_in entry) (from_server (bodies.NoState run job jobs) server))
 
-acked : LastIsFound → (o : Opening) (past : List Entry) (c : Call) (left : Left) (run server job : ℕ) → is_answered o past c left ≡ true → refusal o past c ≡ None → Why (words_noted o past) (life o past) c server (bodies.StateAck run job)
+acked : LastIsFound → (o : Opening) (past : List Entry) (c : Call) (left : Left) (run server job : ℕ) → is_answered o past c left ≡ true
+    → refusal o past c ≡ None → Why (words_noted o past) (life o past) c server (bodies.StateAck run job)
     → AckedFor (words_noted o (Met c left ∷ past)) (Met c left) run server job
 acked last o past c left run server job a r (inl w) =
     let state : State = w.1 in
@@ -128,7 +141,8 @@ acks_are_for last o past (Met c left) run server job h =
       | inl w ↦ (
           let to : nodes.Server server ≡ nodes.Server w.0 = ap (λ (p : PacketParts). p.to) w.2 in
           let s : server ≡ w.0 = cc in
-          acked last o past c left run server job x.answers x.taken (subst (λ t. Why (words_noted o past) (life o past) c t (bodies.StateAck run job)) (sym s) w.3))
+          acked last o past c left run server job x.answers x.taken
+          (subst (λ t. Why (words_noted o past) (life o past) c t (bodies.StateAck run job)) (sym s) w.3))
       | inr w ↦ absurd w.2
     ]
 acks_are_for last o past Cut run server job h = absurd (none_in (to_server (bodies.StateAck run job) server) h)

@@ -36,7 +36,8 @@ run_keeps new (Some f) n s h = h
 run_keeps true None n s h = h
 run_keeps false None n s h = h
 
-attempt_keeps : (new : Bool) (r : Option Fault) (n : Noted) (s : State) → Contains (noted_after new (unless_refused r (Some NextAttempt)) n).kept s → Contains n.kept s
+attempt_keeps : (new : Bool) (r : Option Fault) (n : Noted) (s : State) → Contains (noted_after new (unless_refused r (Some NextAttempt)) n).kept s
+    → Contains n.kept s
 attempt_keeps new (Some f) n s h = h
 attempt_keeps true None n s h = h
 attempt_keeps false None n s h = h
@@ -46,34 +47,42 @@ none_keeps new (Some f) n s h = h
 none_keeps new None n s h = h
 
 -- A state is in the note after a state was to be kept: it was there, or is that state.
-was_or_is : (n : Noted) (new : Bool) (state s : State) (before : Option State) → Contains (noted_after new (unless_kept before state) n).kept s → Contains n.kept s ⊎ (state ≡ s)
+was_or_is : (n : Noted) (new : Bool) (state s : State) (before : Option State) → Contains (noted_after new (unless_kept before state) n).kept s
+    → Contains n.kept s ⊎ (state ≡ s)
 was_or_is n new state s (Some before) h = inl h
 was_or_is n true state s None h = Contains-push_cases n.kept state s h
 was_or_is n false state s None h = inl h
 
-by_state : (peers : Peers) (n : Noted) (from to : Node) (jobs : ℕ) (state s : State) → is_for_client peers (record { from = from; to = to; body = bodies.State jobs state }) ≡ true
+by_state : (peers : Peers) (n : Noted) (from to : Node) (jobs : ℕ) (state s : State)
+    → is_for_client peers (record { from = from; to = to; body = bodies.State jobs state }) ≡ true
     → Contains n.kept s ⊎ (state ≡ s) → IsFrom n (record { from = from; to = to; body = bodies.State jobs state } ∷ []) s
 by_state peers n from to jobs state s ours (inl h) = inl h
 by_state peers n from to jobs state s ours (inr e) = inr (state_brought peers from to jobs state s s.key ours e (ap (λ (x : State). x.key) e))
 
-by_copy : (peers : Peers) (n : Noted) (from to : Node) (state s : State) → is_for_client peers (record { from = from; to = to; body = bodies.Copy state }) ≡ true
+by_copy : (peers : Peers) (n : Noted) (from to : Node) (state s : State)
+    → is_for_client peers (record { from = from; to = to; body = bodies.Copy state }) ≡ true
     → Contains n.kept s ⊎ (state ≡ s) → IsFrom n (record { from = from; to = to; body = bodies.Copy state } ∷ []) s
 by_copy peers n from to state s ours (inl h) = inl h
 by_copy peers n from to state s ours (inr e) = inr (copy_brought peers from to state s s.key ours e)
 
-by_packet : (peers : Peers) (n : Noted) (from to : Node) (body : Body) (s : State) (new : Bool) (r : Option Fault) → (r ≡ None → is_for_client peers (record { from = from; to = to; body = body }) ≡ true)
+by_packet : (peers : Peers) (n : Noted) (from to : Node) (body : Body) (s : State) (new : Bool) (r : Option Fault)
+    → (r ≡ None → is_for_client peers (record { from = from; to = to; body = body }) ≡ true)
     → Contains (noted_after new (unless_refused r (addition_by n body)) n).kept s → IsFrom n (record { from = from; to = to; body = body } ∷ []) s
 by_packet peers n from to body s new (Some f) ours h = inl h
-by_packet peers n from to (bodies.State jobs state) s new None ours h = by_state peers n from to jobs state s (ours refl) (was_or_is n new state s (kept_of state.key n.kept) h)
-by_packet peers n from to (bodies.Copy state) s new None ours h = by_copy peers n from to state s (ours refl) (was_or_is n new state s (kept_of state.key n.kept) h)
+by_packet peers n from to (bodies.State jobs state) s new None ours h =
+    by_state peers n from to jobs state s (ours refl) (was_or_is n new state s (kept_of state.key n.kept) h)
+by_packet peers n from to (bodies.Copy state) s new None ours h =
+    by_copy peers n from to state s (ours refl) (was_or_is n new state s (kept_of state.key n.kept) h)
 by_packet peers n from to _ s new None ours h = inl h
 
-by_call : (peers : Peers) (on : Bool) (n : Noted) (c : Call) (left : Left) (s : State) → Contains (noted_after (has_new left) (due_by on peers n c) n).kept s → IsFrom n (packet_in (Met c left)) s
+by_call : (peers : Peers) (on : Bool) (n : Noted) (c : Call) (left : Left) (s : State) → Contains (noted_after (has_new left) (due_by on peers n c) n).kept s
+    → IsFrom n (packet_in (Met c left)) s
 by_call peers on n (Begin text) left s h = inl (run_keeps (has_new left) (refusal_by on peers n (Begin text)) n s h)
 by_call peers on n (Trigger run act) left s h = inl (none_keeps (has_new left) (refusal_by on peers n (Trigger run act)) n s h)
 by_call peers on n (Stop run) left s h = inl (none_keeps (has_new left) (refusal_by on peers n (Stop run)) n s h)
 by_call peers on n (Verify run text) left s h = inl (attempt_keeps (has_new left) (refusal_by on peers n (Verify run text)) n s h)
-by_call peers on n (Deliver p) left s h = by_packet peers n p.from p.to p.body s (has_new left) (refusal_by on peers n (Deliver p)) (λ e. (taken_in on peers n p e).1) h
+by_call peers on n (Deliver p) left s h =
+    by_packet peers n p.from p.to p.body s (has_new left) (refusal_by on peers n (Deliver p)) (λ e. (taken_in on peers n p e).1) h
 by_call peers on n Tick left s h = inl (none_keeps (has_new left) (refusal_by on peers n Tick) n s h)
 
 renewal_keeps : (b : Bool) (g : ℕ) (n : Noted) (s : State) → Contains (if b then new_note g else n).kept s → Contains n.kept s
@@ -88,7 +97,8 @@ earlier : (o : Opening) (e : Entry) (past : List Entry) (s : State) → HasSourc
 earlier o e past s (inl h) = inl h
 earlier o e past s (inr h) = inr (brought_later (packet_in e) (packets_come past) s.key s h)
 
-now_or_earlier : (o : Opening) (e : Entry) (past : List Entry) (s : State) → IsFrom (words_noted o past) (packet_in e) s → (Contains (words_noted o past).kept s → HasSource o past s) → HasSource o (e ∷ past) s
+now_or_earlier : (o : Opening) (e : Entry) (past : List Entry) (s : State) → IsFrom (words_noted o past) (packet_in e) s
+    → (Contains (words_noted o past).kept s → HasSource o past s) → HasSource o (e ∷ past) s
 now_or_earlier o e past s (inl h) f = earlier o e past s (f h)
 now_or_earlier o e past s (inr h) f = inr (brought_now (packet_in e) (packets_come past) s.key s h)
 

@@ -1,5 +1,6 @@
 -- What is kept of a request is kept with one more answer.
-use Rattle.std.proofs.Common.{◌≡◌, refl, sym, ◌∙◌, ap, subst, ◌⊎◌, inl, inr, ℕ, zero, suc, ◌<◌, ◌≤◌, arith, Bool, true, false, ◌&&◌, ◌||◌, ◌==◌, List, [], ◌∷◌, ◌++◌, length, take, get_or}
+use Rattle.std.proofs.Common.{◌≡◌, refl, sym, ◌∙◌, ap, subst, ◌⊎◌, inl, inr, ℕ, zero, suc, ◌<◌, ◌≤◌, arith}
+use Rattle.std.proofs.Common.{Bool, true, false, ◌&&◌, ◌||◌, ◌==◌, List, [], ◌∷◌, ◌++◌, length, take, get_or}
 use Rattle.std.specs.Prelude.{if◌then◌else◌, nat_lt, nat_le, slice_set, slice_index_or}
 use Rattle.std.specs.List.{list_all, list_any}
 use Rattle.std.proofs.lemmas.Bool.{and_parts}
@@ -56,7 +57,8 @@ and_last : {X : Type 0} (f : X → Bool) (xs : List X) (x : X) → list_all f (x
 and_last f [] x = one (f x)
 and_last f (y ∷ xs) x = step (f y) (list_all f (xs ++ x ∷ [])) (list_all f xs) (f x) (and_last f xs x)
 
-all_places : (f : ℕ → Bool) (bs : List Bool) (n : ℕ) → n ≤ length bs → ((j : ℕ) → j < n → slice_index_or bs j false ≡ f j) → all_told n bs ≡ list_all f (numbers_below n)
+all_places : (f : ℕ → Bool) (bs : List Bool) (n : ℕ) → n ≤ length bs → ((j : ℕ) → j < n → slice_index_or bs j false ≡ f j)
+    → all_told n bs ≡ list_all f (numbers_below n)
 all_places f bs zero l h = refl
 all_places f bs (suc n) l h =
     let rest = all_places f bs n (omega arith) (λ j m. h j (omega arith)) in
@@ -73,7 +75,8 @@ or_none : (b : Bool) → b ≡ (b || false)
 or_none true = refl
 or_none false = refl
 
-misfits : (t : Telling) (ts : List Telling) (misfit : Bool) → misfit ≡ has_misfit ts → (ts ≡ []) ⊎ (1 ≤ jobs_told ts) → (misfit || (t.misfit && nat_lt t.job (jobs_told (t ∷ ts)))) ≡ has_misfit (t ∷ ts)
+misfits : (t : Telling) (ts : List Telling) (misfit : Bool) → misfit ≡ has_misfit ts → (ts ≡ []) ⊎ (1 ≤ jobs_told ts)
+    → (misfit || (t.misfit && nat_lt t.job (jobs_told (t ∷ ts)))) ≡ has_misfit (t ∷ ts)
 misfits t [] misfit e any = rw e (or_none (t.misfit && nat_lt t.job t.jobs))
 misfits t (u ∷ ts) misfit e any =
     let n = jobs_told (u ∷ ts) in
@@ -85,7 +88,8 @@ ends s t ts true true e f = e
 ends s t ts true false e f = e
 ends s t ts false misfit e f = f refl
 
-answers : (t : Telling) (s : Standing) (ts : List Telling) → 1 ≤ t.jobs → t.jobs ≤ MAX_JOBS → length s.told ≡ MAX_JOBS → IsOpen s ts → IsRequestKept (with_answer t s) (when_one_tells t (requests.Open ts))
+answers : (t : Telling) (s : Standing) (ts : List Telling) → 1 ≤ t.jobs → t.jobs ≤ MAX_JOBS → length s.told ≡ MAX_JOBS → IsOpen s ts
+    → IsRequestKept (with_answer t s) (when_one_tells t (requests.Open ts))
 answers t s ts some few long w =
     let more = slice_set s.told t.job true in
     let m = jobs_with s.jobs t.jobs in
@@ -96,9 +100,12 @@ answers t s ts some few long w =
     let fits : n ≤ length more = subst (λ k. k ≤ length more) jobs (omega arith) in
     let told_of : (job : ℕ) → job < length more → slice_index_or more job false ≡ tells_of (t ∷ ts) job =
     λ job l. set_at s.told t.job job (omega arith) ∙ ap (λ y. (t.job == job) || y) (w.told_of job (omega arith)) in
-    let all : all_told m more ≡ tells_all (t ∷ ts) = ap (λ k. all_told k more) jobs ∙ all_places (tells_of (t ∷ ts)) more n fits (λ job l. told_of job (omega arith)) in
-    let bad : (s.misfit || (t.misfit && nat_lt t.job m)) ≡ has_misfit (t ∷ ts) = ap (λ k. s.misfit || (t.misfit && nat_lt t.job k)) jobs ∙ misfits t ts s.misfit w.misfit w.any in
-    let outcome : (with_answer t s).outcome ≡ outcome_with (tells_all (t ∷ ts)) (has_misfit (t ∷ ts)) = ap (λ y. outcome_with y (s.misfit || (t.misfit && nat_lt t.job m))) all ∙ ap (outcome_with (tells_all (t ∷ ts))) bad in
+    let all : all_told m more ≡ tells_all (t ∷ ts) =
+    ap (λ k. all_told k more) jobs ∙ all_places (tells_of (t ∷ ts)) more n fits (λ job l. told_of job (omega arith)) in
+    let bad : (s.misfit || (t.misfit && nat_lt t.job m)) ≡ has_misfit (t ∷ ts) =
+    ap (λ k. s.misfit || (t.misfit && nat_lt t.job k)) jobs ∙ misfits t ts s.misfit w.misfit w.any in
+    let outcome : (with_answer t s).outcome ≡ outcome_with (tells_all (t ∷ ts)) (has_misfit (t ∷ ts)) =
+    ap (λ y. outcome_with y (s.misfit || (t.misfit && nat_lt t.job m))) all ∙ ap (outcome_with (tells_all (t ∷ ts))) bad in
     ends (with_answer t s) t ts (tells_all (t ∷ ts)) (has_misfit (t ∷ ts)) outcome
     (λ e. record {
       open_yet = outcome ∙ ap (λ y. outcome_with y (has_misfit (t ∷ ts))) e;
@@ -113,7 +120,8 @@ answers t s ts some few long w =
     below true x y h k = h
     below false x y h k = k
 
-pub tells : (t : Telling) (s : Standing) (q : Request) → is_job_of t.job t.jobs ≡ true → length s.told ≡ MAX_JOBS → s.outcome ≡ outcomes.Open → IsRequestKept s q → IsRequestKept (with_answer t s) (when_one_tells t q)
+pub tells : (t : Telling) (s : Standing) (q : Request) → is_job_of t.job t.jobs ≡ true → length s.told ≡ MAX_JOBS → s.outcome ≡ outcomes.Open
+    → IsRequestKept s q → IsRequestKept (with_answer t s) (when_one_tells t q)
 tells t s (requests.Open ts) ranges long o k =
     let p = and_parts (is_jobs t.jobs) (nat_lt t.job t.jobs) ranges in
     let q = and_parts (nat_le 1 t.jobs) (nat_le t.jobs MAX_JOBS) p.0 in

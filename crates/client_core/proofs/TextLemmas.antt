@@ -24,13 +24,15 @@ use Rattle.disk_model.proofs.ListLemmas.{all_append, all_weaker, each_of, first_
 use Rattle.client_core.proofs.ReasonLemmas.{IsSent, Why, WhyMirror, all_sent}
 
 -- all that was done in this life was done
-chosen : (b : Bool) (xs ys zs : List Deed) (d : Deed) → (Contains ys d → Contains zs d) → Contains (if b then xs ++ ys else ys) d → Contains (if b then xs ++ zs else zs) d
+chosen : (b : Bool) (xs ys zs : List Deed) (d : Deed) → (Contains ys d → Contains zs d) → Contains (if b then xs ++ ys else ys) d
+    → Contains (if b then xs ++ zs else zs) d
 chosen true xs ys zs d f h = elim (Contains-append_cases xs ys d h) [ inl a ↦ Contains-append_left xs zs d a | inr c ↦ Contains-append_right xs zs d (f c) ]
 chosen false xs ys zs d f h = f h
 
 pub life_was_done : (o : Opening) (past : List Entry) (d : Deed) → Contains (life o past) d → Contains (deeds_done o past) d
 life_was_done o [] d h = h
-life_was_done o (Met c left ∷ past) d h = chosen (is_answered o past c left) (deeds_of (words_noted o past) c) (life o past) (deeds_done o past) d (life_was_done o past d) h
+life_was_done o (Met c left ∷ past) d h =
+    chosen (is_answered o past c left) (deeds_of (words_noted o past) c) (life o past) (deeds_done o past) d (life_was_done o past d) h
 life_was_done o (Cut ∷ past) d h = absurd (none_in d h)
 life_was_done o (Restart mirror ∷ past) d h = absurd (none_in d h)
 life_was_done o (Renew g left ∷ past) d h = absurd (none_in d h)
@@ -47,7 +49,8 @@ done_stays o (Restart mirror) past d h = h
 done_stays o (Renew g left) past d h = h
 done_stays o Lose past d h = h
 
-now_done : (b : Bool) (c x : Call) (n : Noted) (d : Deed) (before : List Deed) → b ≡ true → c ≡ x → Contains (deeds_of n x) d → Contains (if b then deeds_of n c ++ before else before) d
+now_done : (b : Bool) (c x : Call) (n : Noted) (d : Deed) (before : List Deed) → b ≡ true → c ≡ x → Contains (deeds_of n x) d
+    → Contains (if b then deeds_of n c ++ before else before) d
 now_done true c x n d before t e h = Contains-append_left (deeds_of n c) before d (subst (λ y. Contains (deeds_of n y) d) (sym e) h)
 now_done false c x n d before t e h = cc
 
@@ -62,36 +65,45 @@ carries_more o e past (bodies.Jobs run text) h = done_stays o e past (Begins run
 carries_more o e past (bodies.Verify run attempt text) h = done_stays o e past (Verifies run attempt text) h
 carries_more o e past _ h = tt
 
-jobs_carry : (o : Opening) (past : List Entry) (c : Call) (left : Left) (s run : ℕ) (text : List ℕ) → is_answered o past c left ≡ true → Why (words_noted o past) (life o past) c s (bodies.Jobs run text) → Carries (deeds_done o (Met c left ∷ past)) (bodies.Jobs run text)
+jobs_carry : (o : Opening) (past : List Entry) (c : Call) (left : Left) (s run : ℕ) (text : List ℕ) → is_answered o past c left ≡ true
+    → Why (words_noted o past) (life o past) c s (bodies.Jobs run text) → Carries (deeds_done o (Met c left ∷ past)) (bodies.Jobs run text)
 jobs_carry o past c left s run text a (inl w) =
     subst (λ r. Carries (deeds_done o (Met c left ∷ past)) (bodies.Jobs r text)) (sym w.1)
-    (now_done (is_answered o past c left) c (Begin text) (words_noted o past) (Begins ((words_noted o past).runs + 1) text) (deeds_done o past) a w.0 (first_of (Begins ((words_noted o past).runs + 1) text) []))
+    (now_done (is_answered o past c left) c (Begin text) (words_noted o past) (Begins ((words_noted o past).runs + 1) text) (deeds_done o past) a w.0
+    (first_of (Begins ((words_noted o past).runs + 1) text) []))
 jobs_carry o past c left s run text a (inr w) =
     let d = life_was_done o past (Begins run (text_of run (life o past))) (begun_was run s (life o past) w.1) in
     done_stays o (Met c left) past (Begins run text) (subst (λ t. Contains (deeds_done o past) (Begins run t)) (sym w.0) d)
 
-verify_carries : (o : Opening) (past : List Entry) (c : Call) (left : Left) (s run attempt : ℕ) (text : List ℕ) → is_answered o past c left ≡ true → Why (words_noted o past) (life o past) c s (bodies.Verify run attempt text) → Carries (deeds_done o (Met c left ∷ past)) (bodies.Verify run attempt text)
+verify_carries : (o : Opening) (past : List Entry) (c : Call) (left : Left) (s run attempt : ℕ) (text : List ℕ) → is_answered o past c left ≡ true
+    → Why (words_noted o past) (life o past) c s (bodies.Verify run attempt text) → Carries (deeds_done o (Met c left ∷ past)) (bodies.Verify run attempt text)
 verify_carries o past c left s run attempt text a (inl w) =
     subst (λ x. Carries (deeds_done o (Met c left ∷ past)) (bodies.Verify run x text)) (sym w.1)
-    (now_done (is_answered o past c left) c (Verify run text) (words_noted o past) (Verifies run ((words_noted o past).attempts + 1) text) (deeds_done o past) a w.0 (first_of (Verifies run ((words_noted o past).attempts + 1) text) []))
+    (now_done (is_answered o past c left) c (Verify run text) (words_noted o past) (Verifies run ((words_noted o past).attempts + 1) text)
+    (deeds_done o past) a w.0 (first_of (Verifies run ((words_noted o past).attempts + 1) text) []))
 verify_carries o past c left s run attempt text a (inr w) =
     let d = life_was_done o past (Verifies (run_of attempt (life o past)) attempt (check_of attempt (life o past))) (asked_was attempt s (life o past) w.2) in
     done_stays o (Met c left) past (Verifies run attempt text)
-    (subst (λ r. Contains (deeds_done o past) (Verifies r attempt text)) (sym w.0) (subst (λ t. Contains (deeds_done o past) (Verifies (run_of attempt (life o past)) attempt t)) (sym w.1) d))
+    (subst (λ r. Contains (deeds_done o past) (Verifies r attempt text)) (sym w.0)
+    (subst (λ t. Contains (deeds_done o past) (Verifies (run_of attempt (life o past)) attempt t)) (sym w.1) d))
 
-pub why_carries : (o : Opening) (past : List Entry) (c : Call) (left : Left) (s : ℕ) (body : Body) → is_answered o past c left ≡ true → Why (words_noted o past) (life o past) c s body → Carries (deeds_done o (Met c left ∷ past)) body
+pub why_carries : (o : Opening) (past : List Entry) (c : Call) (left : Left) (s : ℕ) (body : Body) → is_answered o past c left ≡ true
+    → Why (words_noted o past) (life o past) c s body → Carries (deeds_done o (Met c left ∷ past)) body
 why_carries o past c left s (bodies.Jobs run text) a w = jobs_carry o past c left s run text a w
 why_carries o past c left s (bodies.Verify run attempt text) a w = verify_carries o past c left s run attempt text a w
 why_carries o past c left s _ a w = tt
 
-mirror_carries : (o : Opening) (past : List Entry) (c : Call) (left : Left) (body : Body) → WhyMirror (words_noted o past) c body → Carries (deeds_done o (Met c left ∷ past)) body
+mirror_carries : (o : Opening) (past : List Entry) (c : Call) (left : Left) (body : Body) → WhyMirror (words_noted o past) c body
+    → Carries (deeds_done o (Met c left ∷ past)) body
 mirror_carries o past c left (bodies.Copy state) w = tt
 mirror_carries o past c left (bodies.Fetch generation) w = tt
 mirror_carries o past c left _ w = absurd w
 
 now : (o : Opening) (past : List Entry) (e : Entry) → AllByRecursion (λ p. Carries (deeds_done o (e ∷ past)) p.body) (packets o past e)
 now o past (Met c left) =
-    all_weaker (IsSent o past c left) (λ p. Carries (deeds_done o (Met c left ∷ past)) p.body) (packets o past (Met c left)) (λ p x. elim (x.why) [ inl w ↦ why_carries o past c left w.0 p.body x.answers w.3 | inr w ↦ mirror_carries o past c left p.body w.2 ]) (all_sent o past c left)
+    all_weaker (IsSent o past c left) (λ p. Carries (deeds_done o (Met c left ∷ past)) p.body) (packets o past (Met c left))
+    (λ p x. elim (x.why) [ inl w ↦ why_carries o past c left w.0 p.body x.answers w.3 | inr w ↦ mirror_carries o past c left p.body w.2 ])
+    (all_sent o past c left)
 now o past Cut = tt
 now o past (Restart mirror) = tt
 now o past (Renew g left) = tt
@@ -101,10 +113,12 @@ ever : (o : Opening) (past : List Entry) → AllByRecursion (λ p. Carries (deed
 ever o [] = tt
 ever o (e ∷ past) =
     all_append (λ p. Carries (deeds_done o (e ∷ past)) p.body) (sent_packets o past) (packets o past e)
-    (all_weaker (λ p. Carries (deeds_done o past) p.body) (λ p. Carries (deeds_done o (e ∷ past)) p.body) (sent_packets o past) (λ p h. carries_more o e past p.body h) (ever o past))
+    (all_weaker (λ p. Carries (deeds_done o past) p.body) (λ p. Carries (deeds_done o (e ∷ past)) p.body) (sent_packets o past)
+    (λ p h. carries_more o e past p.body h) (ever o past))
     (now o past e)
 
-carried : (o : Opening) (past : List Entry) (p : PacketParts) (body : Body) → Contains (sent_packets o past) p → p.body ≡ body → Carries (deeds_done o past) body
+carried : (o : Opening) (past : List Entry) (p : PacketParts) (body : Body) → Contains (sent_packets o past) p → p.body ≡ body
+    → Carries (deeds_done o past) body
 carried o past p body h e = subst (Carries (deeds_done o past)) e (each_of (λ p. Carries (deeds_done o past) p.body) (sent_packets o past) p (ever o past) h)
 
 -- two deeds that give one number are one, where the numbers are fresh
@@ -132,7 +146,8 @@ gives_number pick (x ∷ deeds) d k h e = elim (first_or_behind x deeds d h) [
   | inr t ↦ has_later (pick x) (flat_map pick deeds) k (gives_number pick deeds d k t e)
 ]
 
-once_only : (pick : Deed → List ℕ) (x d : Deed) (deeds : List Deed) (k : ℕ) → pick x ≡ k ∷ [] → is_distinct (pick x ++ flat_map pick deeds) ≡ true → Contains deeds d → pick d ≡ k ∷ [] → ⊥
+once_only : (pick : Deed → List ℕ) (x d : Deed) (deeds : List Deed) (k : ℕ) → pick x ≡ k ∷ [] → is_distinct (pick x ++ flat_map pick deeds) ≡ true
+    → Contains deeds d → pick d ≡ k ∷ [] → ⊥
 once_only pick x d deeds k here u h e =
     let v : is_distinct (k ∷ flat_map pick deeds) ≡ true = subst (λ l. is_distinct (l ++ flat_map pick deeds) ≡ true) here u in
     let a = (and_parts (not (has (flat_map pick deeds) k)) (is_distinct (flat_map pick deeds)) v).0 in
@@ -143,7 +158,8 @@ once_only pick x d deeds k here u h e =
     clash true a b = cc
     clash false a b = cc
 
-one_of_number : (pick : Deed → List ℕ) (deeds : List Deed) (d e : Deed) (k : ℕ) → is_distinct (flat_map pick deeds) ≡ true → Contains deeds d → Contains deeds e → pick d ≡ k ∷ [] → pick e ≡ k ∷ [] → d ≡ e
+one_of_number : (pick : Deed → List ℕ) (deeds : List Deed) (d e : Deed) (k : ℕ) → is_distinct (flat_map pick deeds) ≡ true → Contains deeds d → Contains deeds e
+    → pick d ≡ k ∷ [] → pick e ≡ k ∷ [] → d ≡ e
 one_of_number pick [] d e k u h g a b = absurd (none_in d h)
 one_of_number pick (x ∷ deeds) d e k u h g a b = elim (first_or_behind x deeds d h) [
   | inl s ↦ elim (first_or_behind x deeds e g) [
@@ -160,7 +176,8 @@ pub one_text_of_a_run : OneTextOfARun
 one_text_of_a_run o past p q run text other apart h e g f =
     let d = carried o past p (bodies.Jobs run text) h e in
     let c = carried o past q (bodies.Jobs run other) g f in
-    let same : Begins run text ≡ Begins run other = one_of_number run_in (deeds_done o past) (Begins run text) (Begins run other) run (numbers_are_given_once o past apart).runs d c refl refl in
+    let same : Begins run text ≡ Begins run other =
+    one_of_number run_in (deeds_done o past) (Begins run text) (Begins run other) run (numbers_are_given_once o past apart).runs d c refl refl in
     cc
 
 pub one_text_of_an_attempt : OneTextOfAnAttempt
@@ -168,5 +185,6 @@ one_text_of_an_attempt o past p q attempt run run_there text other apart h e g f
     let d = carried o past p (bodies.Verify run attempt text) h e in
     let c = carried o past q (bodies.Verify run_there attempt other) g f in
     let same : Verifies run attempt text ≡ Verifies run_there attempt other =
-    one_of_number attempt_in (deeds_done o past) (Verifies run attempt text) (Verifies run_there attempt other) attempt (numbers_are_given_once o past apart).attempts d c refl refl in
+    one_of_number attempt_in (deeds_done o past) (Verifies run attempt text) (Verifies run_there attempt other) attempt
+    (numbers_are_given_once o past apart).attempts d c refl refl in
     (cc, cc)

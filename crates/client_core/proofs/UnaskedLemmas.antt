@@ -11,7 +11,8 @@ use Rattle.client_core.specs.declared.beginning.Beginning.TheVariants.{Unbegun}
 use Rattle.client_core.specs.Begins.{begin_heard, begin_refused, jobs_refused, start_refused}
 use Rattle.client_core.specs.Life.{Deed, Hears, run_of}
 use Rattle.client_core.specs.Lives.{Unnamed, Unmade}
-use Rattle.client_core.specs.Requests.{Unasked, trigger_heard, stop_heard, verify_heard, trigger_refused, stop_refused, verify_refused, when_refused, check_refused, Telling}
+use Rattle.client_core.specs.Requests.{Unasked, trigger_heard, stop_heard, verify_heard, trigger_refused}
+use Rattle.client_core.specs.Requests.{stop_refused, verify_refused, when_refused, check_refused, Telling}
 
 if_both : {A : Type 0} (b : Bool) (x y : A) → x ≡ y → (if b then x else y) ≡ y
 if_both true x y e = e
@@ -124,5 +125,6 @@ pub unmade_hears : (attempt server : ℕ) (body : Body) (deeds : List Deed) → 
 unmade_hears attempt server body deeds h = record {
   run = h.run;
   text = h.text;
-  verifies = λ s. if_same _ _ _ _ (ap (verify_heard (run_of attempt deeds) attempt body) (h.verifies s) ∙ verify_unasked (run_of attempt deeds) attempt body) (h.verifies s);
+  verifies = λ s. if_same _ _ _ _ (ap (verify_heard (run_of attempt deeds) attempt body) (h.verifies s) ∙ verify_unasked (run_of attempt deeds) attempt body)
+      (h.verifies s);
 }

@@ -62,7 +62,8 @@ own on servers n (Verify run text) h = tt
 own on servers n (Deliver p) h = tt
 own on servers n Tick h = tt
 
-either : (runs attempts : ℕ) (b : Bool) (d : Deed) (ds : List Deed) → Within runs attempts d → AllByRecursion (Within runs attempts) ds → AllByRecursion (Within runs attempts) (if b then d ∷ ds else ds)
+either : (runs attempts : ℕ) (b : Bool) (d : Deed) (ds : List Deed) → Within runs attempts d → AllByRecursion (Within runs attempts) ds
+    → AllByRecursion (Within runs attempts) (if b then d ∷ ds else ds)
 either runs attempts true d ds w k = (w, k)
 either runs attempts false d ds w k = k
 
@@ -71,7 +72,9 @@ same runs attempts true ds k = k
 same runs attempts false ds k = k
 
 step : (n : Noted) (c : Call) (r : Option Fault) (left : Left) (ds : List Deed) → (r ≡ None → Own n c) → AllByRecursion (Within n.runs n.attempts) ds
-    → AllByRecursion (Within (noted_after (has_new left) (unless_refused r (addition_of n c)) n).runs (noted_after (has_new left) (unless_refused r (addition_of n c)) n).attempts) (if is_none r && is_answer (unless_refused r (addition_of n c)) left then deeds_of n c ++ ds else ds)
+    → AllByRecursion (Within (noted_after (has_new left) (unless_refused r (addition_of n c)) n).runs
+    (noted_after (has_new left) (unless_refused r (addition_of n c)) n).attempts)
+    (if is_none r && is_answer (unless_refused r (addition_of n c)) left then deeds_of n c ++ ds else ds)
 step n c (Some f) left ds o k = k
 step n (Begin text) None NoSave ds o k = k
 step n (Begin text) None Saved ds o k = ((omega arith, omega arith), weaker n.runs n.attempts (n.runs + 1) n.attempts ds (omega arith) (omega arith) k)
@@ -86,13 +89,16 @@ step n (Stop run) None left ds o k = either n.runs n.attempts (is_answer {D = Ad
 step n (Deliver p) None left ds o k =
     let e = body_only (has_new left) n p.body in
     let b = is_answer (addition_by n p.body) left in
-    subst (λ m. AllByRecursion (Within m (noted_after (has_new left) (addition_by n p.body) n).attempts) (if b then Hears (node_number p.from) p.body ∷ ds else ds)) (sym e.0)
-    (subst (λ m. AllByRecursion (Within n.runs m) (if b then Hears (node_number p.from) p.body ∷ ds else ds)) (sym e.1) (either n.runs n.attempts b (Hears (node_number p.from) p.body) ds tt k))
+    subst (λ m. AllByRecursion (Within m (noted_after (has_new left) (addition_by n p.body) n).attempts)
+    (if b then Hears (node_number p.from) p.body ∷ ds else ds)) (sym e.0)
+    (subst (λ m. AllByRecursion (Within n.runs m) (if b then Hears (node_number p.from) p.body ∷ ds else ds)) (sym e.1)
+    (either n.runs n.attempts b (Hears (node_number p.from) p.body) ds tt k))
 step n Tick None left ds o k = same n.runs n.attempts (is_answer {D = Addition} None left) ds k
 
 life_within : (o : Opening) (past : List Entry) → AllByRecursion (Within (words_noted o past).runs (words_noted o past).attempts) (life o past)
 life_within o [] = tt
-life_within o (Met c left ∷ past) = step (words_noted o past) c (refusal o past c) left (life o past) (own (is_on past) (peers o past) (words_noted o past) c) (life_within o past)
+life_within o (Met c left ∷ past) =
+    step (words_noted o past) c (refusal o past c) left (life o past) (own (is_on past) (peers o past) (words_noted o past) c) (life_within o past)
 life_within o (Cut ∷ past) = tt
 life_within o (Restart mirror ∷ past) = tt
 life_within o (Renew g left ∷ past) = tt

@@ -28,7 +28,8 @@ jobs_refused reasons.Misfit b = b
 jobs_refused reason Staging = Denied reason
 jobs_refused reason b = b
 
--- It is the same with an open Start, but that a server which has no jobs of the run is sent them again.
+-- It is the same with an open Start, but that a server which has no jobs of the run is sent them
+-- again.
 abbrev pub start_refused : Reason → Beginning → Beginning
 start_refused reasons.Busy b = b
 start_refused reasons.Misfit b = b

@@ -25,8 +25,8 @@ requests o past = length (filter is_request (life o past))
 abbrev pub most_copies : Opening → List Entry → ℕ
 most_copies o past = if has_mirror past then 1 + length (words_noted o past).kept else 0
 
--- A tick sends at most one packet to each server for each request of this life, and those to the mirror;
--- any other call at most 8 packets.
+-- A tick sends at most one packet to each server for each request of this life, and those to the
+-- mirror; any other call at most 8 packets.
 abbrev pub most_packets : Opening → List Entry → Call → ℕ
 most_packets o past Tick = o.servers * requests o past + most_copies o past
 most_packets o past _ = MAX_SERVERS

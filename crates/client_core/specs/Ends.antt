@@ -20,8 +20,8 @@ use Rattle.client_core.specs.Stands.{StandsFor}
 abbrev pub answered_entry : Opening → List Entry → Call → Entry
 answered_entry o past c = Met c (saved_for (due o past c))
 
--- The steps of a client that takes packets: its note, what its list says of a call, and what is sent.
--- A refused call leaves it as it was.
+-- The steps of a client that takes packets: its note, what its list says of a call, and what is
+-- sent. A refused call leaves it as it was.
 abbrev pub steps : {T : Type 0} → (T → Note) → Opening →
     Steps (PacketClient T) Call Entry Addition (List (List ℕ))
 steps note o = record {

@@ -18,13 +18,13 @@ use Rattle.client_core.specs.declared.call.Call.TheVariants.{Begin, Trigger, Sto
 use Rattle.client_core.specs.declared.outcome.Outcome.TheVariants as outcomes
 use Rattle.client_core.specs.declared.outcome.RequestKind.TheVariants as kinds
 use Rattle.client_core.specs.Note.{blank}
-use Rattle.client_core.specs.History.{Opening, Entry, Met, Cut, Restart, Renew, Lose}
+use Rattle.client_core.specs.History.{Opening, Entry, Met, Cut, Restart}
 use Rattle.client_core.specs.Words.{refusal, due, kept_state}
 use Rattle.client_core.specs.Life.{life}
 use Rattle.client_core.specs.Outcomes.{outcome, is_settled}
 use Rattle.client_core.specs.Packets.{packets}
 use Rattle.client_core.specs.Reports.{reports}
-use Rattle.client_core.specs.Laws.{from_server, from_mirror}
+use Rattle.client_core.specs.Laws.{from_server}
 
 -- One server, and a blank note.
 abbrev pub opening : Opening
@@ -72,25 +72,29 @@ after_begin = with_calls (Restart false ∷ []) (Begin text ∷ [])
 abbrev pub after_jobs : List Entry
 after_jobs = with_calls after_begin (server_says (bodies.JobsOk 1 2) ∷ [])
 
--- The jobs are sent until they are staged, and then the start, once, until it is answered; a server that
--- lacks the jobs gets them again.
+-- The jobs are sent until they are staged, and then the start, once, until it is answered; a server
+-- that lacks the jobs gets them again.
 pub record Begins : Type 0 where
   pub jobs : sent_bodies (Restart false ∷ []) (Begin text) ≡ bodies.Jobs 1 text ∷ []
   pub again : sent_bodies after_begin Tick ≡ bodies.Jobs 1 text ∷ []
   pub start : sent_bodies after_begin (server_says (bodies.JobsOk 1 2)) ≡ bodies.Start 1 ∷ []
   pub once : sent_bodies after_jobs (server_says (bodies.JobsOk 1 2)) ≡ []
   pub start_again : sent_bodies after_jobs Tick ≡ bodies.Start 1 ∷ []
-  pub lacks_jobs : sent_bodies after_jobs (server_refuses asks.Start reasons.NoJobs 0) ≡ bodies.Jobs 1 text ∷ []
+  pub lacks_jobs : sent_bodies after_jobs (server_refuses asks.Start reasons.NoJobs 0)
+      ≡ bodies.Jobs 1 text ∷ []
   pub good :
-      outcome opening (with_calls after_jobs (server_says (bodies.Started 1) ∷ [])) kinds.Begin 1 0 ≡ outcomes.Good
+      outcome opening (with_calls after_jobs (server_says (bodies.Started 1) ∷ [])) kinds.Begin 1 0
+      ≡ outcomes.Good
 
 -- A server that is busy is asked again; any other refusal ends the request.
 pub record WaitsForTheBusy : Type 0 where
   pub busy :
-      outcome opening (with_calls after_begin (server_refuses asks.Jobs reasons.Busy 0 ∷ [])) kinds.Begin 1 0
+      outcome opening (with_calls after_begin (server_refuses asks.Jobs reasons.Busy 0 ∷ []))
+      kinds.Begin 1 0
       ≡ outcomes.Open
   pub ended :
-      outcome opening (with_calls after_begin (server_refuses asks.Jobs reasons.BadJobs 0 ∷ [])) kinds.Begin 1 0
+      outcome opening (with_calls after_begin (server_refuses asks.Jobs reasons.BadJobs 0 ∷ []))
+      kinds.Begin 1 0
       ≡ outcomes.Refused reasons.BadJobs
 
 -- Run 1 is triggered.
@@ -101,27 +105,32 @@ after_trigger = with_calls after_begin (Trigger 1 acts.Cut ∷ [])
 abbrev pub kept_one : List Entry
 kept_one = with_calls after_trigger (server_says (bodies.State 2 (state 1 2)) ∷ [])
 
--- A state is kept and then acknowledged; it is acknowledged again without a save; another state of its
--- key, and one of another server, are refused.
+-- A state is kept and then acknowledged; it is acknowledged again without a save; another state of
+-- its key, and one of another server, are refused.
 pub record KeepsTheFirst : Type 0 where
   pub acknowledged :
-      sent_bodies after_trigger (server_says (bodies.State 2 (state 1 2))) ≡ bodies.StateAck 1 1 ∷ []
+      sent_bodies after_trigger (server_says (bodies.State 2 (state 1 2)))
+      ≡ bodies.StateAck 1 1 ∷ []
   pub kept :
       kept_state opening kept_one (record { run = 1; server = 0; job = 1 }) ≡ Some (state 1 2)
   pub saved_once : due opening kept_one (server_says (bodies.State 2 (state 1 2))) ≡ None
-  pub again : sent_bodies kept_one (server_says (bodies.State 2 (state 1 2))) ≡ bodies.StateAck 1 1 ∷ []
+  pub again : sent_bodies kept_one (server_says (bodies.State 2 (state 1 2)))
+      ≡ bodies.StateAck 1 1 ∷ []
   pub conflict : refusal opening kept_one (server_says (bodies.State 2 (state 1 1))) ≡ Some Conflict
   pub misdirected :
-      refusal opening kept_one (Deliver (from_server (bodies.State 2 (state 0 2)) 1)) ≡ Some Misdirected
+      refusal opening kept_one (Deliver (from_server (bodies.State 2 (state 0 2)) 1))
+      ≡ Some Misdirected
 
 -- A trigger is open until each job has an answer.
 pub record TriggersToTheEnd : Type 0 where
   pub one : outcome opening kept_one kinds.Trigger 1 0 ≡ outcomes.Open
   pub unsettled : is_settled opening kept_one 1 ≡ false
   pub both :
-      outcome opening (with_calls kept_one (server_says (bodies.NoState 1 0 2) ∷ [])) kinds.Trigger 1 0
+      outcome opening (with_calls kept_one (server_says (bodies.NoState 1 0 2) ∷ [])) kinds.Trigger
+      1 0
       ≡ outcomes.Good
-  pub settled : is_settled opening (with_calls kept_one (server_says (bodies.NoState 1 0 2) ∷ [])) 1 ≡ true
+  pub settled : is_settled opening (with_calls kept_one (server_says (bodies.NoState 1 0 2) ∷ [])) 1
+      ≡ true
 
 -- Run 1 is verified, in attempt 1.
 abbrev pub after_verify : List Entry
@@ -131,13 +140,16 @@ after_verify = with_calls kept_one (Verify 1 text ∷ [])
 abbrev pub found_report : ReportParts
 found_report = record { checked = 1; faults = 0; first = []; end = Whole }
 
--- A check gets each kept state that it asks for, and is told where there is none; its reports are kept,
--- each once; it ends as a misfit where a state didn't fit.
+-- A check gets each kept state that it asks for, and is told where there is none; its reports are
+-- kept, each once; it ends as a misfit where a state didn't fit.
 pub record Verifies : Type 0 where
-  pub kept : sent_bodies after_verify (server_says (bodies.WantState 1 1 1)) ≡ bodies.Saved 1 (state 1 2) ∷ []
-  pub none : sent_bodies after_verify (server_says (bodies.WantState 1 1 0)) ≡ bodies.NoSaved 1 1 0 ∷ []
+  pub kept : sent_bodies after_verify (server_says (bodies.WantState 1 1 1))
+      ≡ bodies.Saved 1 (state 1 2) ∷ []
+  pub none : sent_bodies after_verify (server_says (bodies.WantState 1 1 0))
+      ≡ bodies.NoSaved 1 1 0 ∷ []
   pub report :
-      reports (life opening (with_calls after_verify (server_says (bodies.Report 1 1 1 2 found_report)
+      reports (life opening (with_calls after_verify
+      (server_says (bodies.Report 1 1 1 2 found_report)
       ∷ server_says (bodies.Report 1 1 1 2 found_report) ∷ [])))
       ≡ record { run = 1; attempt = 1; server = 0; job = 1; report = found_report } ∷ []
   pub good :
@@ -160,22 +172,24 @@ pub record Verifies : Type 0 where
 abbrev pub after_lost_begin : Left → List Entry
 after_lost_begin left = Restart false ∷ (Met (Begin text) left ∷ (Restart false ∷ []))
 
--- A client whose save failed is down until it is restarted. The run's number is given again only where
--- the note has the old bytes.
+-- A client whose save failed is down until it is restarted. The run's number is given again only
+-- where the note has the old bytes.
 pub record GoesDown : Type 0 where
   pub sends_nothing : packets opening (Restart false ∷ []) (Met (Begin text) LostNew) ≡ []
   pub down : refusal opening (Met (Begin text) LostNew ∷ (Restart false ∷ [])) Tick ≡ Some Down
   pub next : sent_bodies (after_lost_begin LostNew) (Begin text) ≡ bodies.Jobs 2 text ∷ []
   pub again : sent_bodies (after_lost_begin LostOld) (Begin text) ≡ bodies.Jobs 1 text ∷ []
 
--- A state whose save failed is kept where the note has the new bytes, and is then acknowledged without a
--- save.
+-- A state whose save failed is kept where the note has the new bytes, and is then acknowledged
+-- without a save.
 pub record KeepsWhatIsNoted : Type 0 where
   pub acknowledged :
-      sent_bodies (Restart false ∷ (Met (server_says (bodies.State 2 (state 1 2))) LostNew ∷ after_trigger))
+      sent_bodies (Restart false ∷ (Met (server_says (bodies.State 2 (state 1 2))) LostNew
+      ∷ after_trigger))
       (server_says (bodies.State 2 (state 1 2))) ≡ bodies.StateAck 1 1 ∷ []
   pub saved :
-      due opening (Restart false ∷ (Met (server_says (bodies.State 2 (state 1 2))) LostNew ∷ after_trigger))
+      due opening (Restart false ∷ (Met (server_says (bodies.State 2 (state 1 2))) LostNew
+      ∷ after_trigger))
       (server_says (bodies.State 2 (state 1 2))) ≡ None
 
 -- A cut loses the requests, and neither numbers nor states.
@@ -186,95 +200,24 @@ cut_off = Restart false ∷ (Cut ∷ after_verify)
 pub record ForgetsByACut : Type 0 where
   pub quiet : sent_bodies cut_off Tick ≡ []
   pub next : sent_bodies cut_off (Begin text) ≡ bodies.Jobs 2 text ∷ []
-  pub kept : sent_bodies cut_off (server_says (bodies.WantState 1 1 1)) ≡ bodies.Saved 1 (state 1 2) ∷ []
+  pub kept : sent_bodies cut_off (server_says (bodies.WantState 1 1 1))
+      ≡ bodies.Saved 1 (state 1 2) ∷ []
   pub known : refusal opening cut_off (Trigger 1 acts.Cut) ≡ None
   pub unknown : refusal opening cut_off (Trigger 2 acts.Cut) ≡ Some NoSuchRun
 
--- All open requests are sent again: by run the jobs or the start, the trigger and the stop, and then the
--- verifies.
+-- All open requests are sent again: by run the jobs or the start, the trigger and the stop, and
+-- then the verifies.
 pub record AsksAgainInOrder : Type 0 where
   pub order :
       sent_bodies (with_calls after_verify (Stop 1 ∷ [])) Tick
-      ≡ bodies.Jobs 1 text ∷ (bodies.Trigger 1 acts.Cut ∷ (bodies.Stop 1 ∷ (bodies.Verify 1 1 text ∷ [])))
+      ≡ bodies.Jobs 1 text ∷ (bodies.Trigger 1 acts.Cut ∷
+      (bodies.Stop 1 ∷ (bodies.Verify 1 1 text ∷ [])))
 
 -- Numbers are spent.
 pub record SpendsNumbers : Type 0 where
   pub spent :
-      refusal (record { servers = 1; noted = record { generation = 0; runs = 18446744073709551615; attempts = 0; kept = [] } })
+      refusal (record {
+        servers = 1;
+        noted = record { generation = 0; runs = 18446744073709551615; attempts = 0; kept = [] };
+      })
       (Restart false ∷ []) (Begin text) ≡ Some NumbersSpent
-
--- A client with a mirror begins in generation 1.
-abbrev pub after_renewal : List Entry
-after_renewal = Renew 1 Saved ∷ []
-
--- The mirror says this.
-abbrev pub mirror_says : Body → Call
-mirror_says body = Deliver (from_mirror body)
-
--- Generation 1 is granted.
-abbrev pub after_grant : List Entry
-after_grant = with_calls after_renewal (mirror_says (bodies.Granted 1) ∷ [])
-
--- Numbers are given once the mirror granted the generation, which is asked for until then.
-pub record NumbersOnceGranted : Type 0 where
-  pub not_yet : refusal opening after_renewal (Begin text) ≡ Some NumbersSpent
-  pub asked : sent_bodies after_renewal Tick ≡ bodies.Fetch 1 ∷ []
-  pub quiet : sent_bodies after_renewal (mirror_says (bodies.Granted 1)) ≡ []
-  pub other : refusal opening (with_calls after_renewal (mirror_says (bodies.Granted 2) ∷ [])) (Begin text) ≡ Some NumbersSpent
-  pub asked_no_more : sent_bodies after_grant Tick ≡ []
-  pub given : sent_bodies after_grant (Begin text) ≡ bodies.Jobs 4294967297 text ∷ []
-  pub asked_in_each_life : sent_bodies (Restart true ∷ (Cut ∷ after_grant)) Tick ≡ bodies.Fetch 1 ∷ []
-  pub not_without : refusal opening (Restart false ∷ (Cut ∷ after_grant)) (Begin text) ≡ Some NumbersSpent
-
--- The first run of generation 1 is begun and triggered.
-abbrev pub begun_anew : List Entry
-begun_anew = with_calls after_grant (Trigger 4294967297 acts.None ∷ (Begin text ∷ []))
-
--- Its state.
-abbrev pub state_anew : State
-state_anew = record (state 0 2) { key = record { run = 4294967297; server = 0; job = 0 } }
-
--- It is kept.
-abbrev pub kept_anew : List Entry
-kept_anew = with_calls begun_anew (server_says (bodies.State 1 state_anew) ∷ [])
-
--- The mirror keeps it, too.
-abbrev pub copied_anew : List Entry
-copied_anew = with_calls kept_anew (mirror_says (bodies.CopyOk 4294967297 0 0) ∷ [])
-
--- A state that is newly kept is copied, and again by each tick until the mirror has it: first goes what
--- asks for the grant, then the open requests, and last the copies.
-pub record CopiesWhatIsKept : Type 0 where
-  pub acknowledged :
-      sent_bodies begun_anew (server_says (bodies.State 1 state_anew))
-      ≡ bodies.StateAck 4294967297 0 ∷ (bodies.Copy state_anew ∷ [])
-  pub once : sent_bodies kept_anew (server_says (bodies.State 1 state_anew)) ≡ bodies.StateAck 4294967297 0 ∷ []
-  pub again : sent_bodies kept_anew Tick ≡ bodies.Jobs 4294967297 text ∷ (bodies.Copy state_anew ∷ [])
-  pub no_more : sent_bodies copied_anew Tick ≡ bodies.Jobs 4294967297 text ∷ []
-  pub in_each_life :
-      sent_bodies (with_calls (Restart true ∷ (Cut ∷ copied_anew)) (Trigger 4294967297 acts.None ∷ [])) Tick
-      ≡ bodies.Fetch 1 ∷ (bodies.Trigger 4294967297 acts.None ∷ (bodies.Copy state_anew ∷ []))
-
--- The note is lost, and the client begins in generation 2.
-abbrev pub lost_and_renewed : List Entry
-lost_and_renewed = Renew 2 Saved ∷ (Lose ∷ (Cut ∷ copied_anew))
-
--- Generation 2 is granted, and the mirror gives the state.
-abbrev pub fetched_again : List Entry
-fetched_again =
-    with_calls lost_and_renewed
-    (mirror_says (bodies.Copy state_anew) ∷ (mirror_says (bodies.Granted 2) ∷ []))
-
--- A lost state is kept again once the mirror gives it, and no number is given again.
-pub record FetchesWhatWasLost : Type 0 where
-  pub lost : kept_state opening lost_and_renewed state_anew.key ≡ None
-  pub asked : sent_bodies lost_and_renewed Tick ≡ bodies.Fetch 2 ∷ []
-  pub kept : kept_state opening fetched_again state_anew.key ≡ Some state_anew
-  pub given : sent_bodies fetched_again (Begin text) ≡ bodies.Jobs 8589934593 text ∷ []
-
--- Copies, their answers and grants are taken from the mirror alone, where there is one, and nothing else
--- is taken from it.
-pub record HearsItsMirrorAlone : Type 0 where
-  pub from_a_server : refusal opening after_grant (server_says (bodies.Copy state_anew)) ≡ Some Misdirected
-  pub without : refusal opening after_begin (mirror_says (bodies.Granted 1)) ≡ Some Misdirected
-  pub nothing_else : refusal opening after_grant (mirror_says (bodies.Started 1)) ≡ Some Misdirected

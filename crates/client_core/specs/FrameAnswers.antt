@@ -20,8 +20,8 @@ use Rattle.client_core.specs.Words as words
 use Rattle.client_core.specs.Packets.{packets}
 use Rattle.client_core.specs.Hearing.{FrameEntry, Met, rules, coming_of, heard_at, packets_heard}
 
--- What comes is, to a client that hears packets: a call; a piece that is kept, and gives nothing yet; one
--- whose tag is dropped, since the bytes aren't its packet; or a piece that isn't for it.
+-- What comes is, to a client that hears packets: a call; a piece that is kept, and gives nothing
+-- yet; one whose tag is dropped, since the bytes aren't its packet; or a piece that isn't for it.
 pub data Sense : Type 0 where
   Hears : Call → Sense
   Keeps : PieceParts → Sense
@@ -50,8 +50,8 @@ abbrev pub is_drop : Sense → Bool
 is_drop (Drops q) = true
 is_drop _ = false
 
--- A piece that isn't for this client is misdirected, unless the client is down; where the bytes aren't
--- their tag's packet a field is bad; and what is heard is refused as the call is.
+-- A piece that isn't for this client is misdirected, unless the client is down; where the bytes
+-- aren't their tag's packet a field is bad; and what is heard is refused as the call is.
 abbrev pub refusal_in : Opening → List history.Entry → Sense → Option Fault
 refusal_in o past (Hears c) = words.refusal o past c
 refusal_in o past (Keeps q) = None

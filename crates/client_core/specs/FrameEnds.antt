@@ -22,14 +22,15 @@ use Rattle.client_core.specs.Stands as whole
 use Rattle.client_core.specs.Hearing.{FrameEntry, Met, Restart, Renew, packets_heard, assembly}
 use Rattle.client_core.specs.FrameAnswers.{is_drop, sense, frames, refusal, due, answered_entry}
 
--- A client stands for a list of frames where its core stands for the packets that are heard in it, and,
--- while it is on, keeps what has come together of pieces.
-pub record StandsFor {T : Type 0} (note : T → Note) (client : Client T) (o : Opening) (past : List FrameEntry) : Type 0 where
+-- A client stands for a list of frames where its core stands for the packets that are heard in it,
+-- and, while it is on, keeps what has come together of pieces.
+pub record StandsFor {T : Type 0} (note : T → Note) (client : Client T) (o : Opening)
+    (past : List FrameEntry) : Type 0 where
   pub core : whole.StandsFor note client.core o (packets_heard o past)
   pub pieces : words.is_on (packets_heard o past) ≡ true → client.pieces ≡ assembly o past
 
--- A tick sends at most one packet to each server for each request of this life, and those to the mirror;
--- any other input at most 8 packets.
+-- A tick sends at most one packet to each server for each request of this life, and those to the
+-- mirror; any other input at most 8 packets.
 abbrev pub most_packets : Opening → List FrameEntry → Input → ℕ
 most_packets o past Tick =
     o.servers * requests o (packets_heard o past) + most_copies o (packets_heard o past)
@@ -40,7 +41,8 @@ most_packets o past _ = MAX_SERVERS
 pub record Sends (o : Opening) (past : List FrameEntry) (e : Input)
     (sent : List (List ℕ)) : Type 0 where
   pub frames_are : sent ≡ map frame_spelling (frames o past (answered_entry o past e))
-  pub short : OpensInRange o → CameInRange (packets_heard o past) → AreShort (most_packets o past e) sent
+  pub short : OpensInRange o → CameInRange (packets_heard o past)
+      → AreShort (most_packets o past e) sent
 
 -- The steps of a client: its note, what its list says of what comes, and what is sent. What is
 -- refused leaves it as it was, but where it drops a tag: that alone changes.
@@ -58,9 +60,10 @@ steps note o = record {
 }
 
 -- For each list of which the durable bytes say what it says, the client stands for that list with a
--- restart. They say something, so there is such a list: the empty one; and with a mirror they aren't
--- empty. They stay as they were.
-pub record Opens {T : Type 0} (note : T → Note) (servers : ℕ) (mirror : Bool) (old : Note) (client : Client T) : Type 0 where
+-- restart. They say something, so there is such a list: the empty one; and with a mirror they
+-- aren't empty. They stay as they were.
+pub record Opens {T : Type 0} (note : T → Note) (servers : ℕ) (mirror : Bool) (old : Note)
+    (client : Client T) : Type 0 where
   pub same : note client.core.notes ≡ old
   pub some : mirror ≡ true → old.bytes ≢ []
   pub said : Noted
@@ -71,13 +74,15 @@ pub record Opens {T : Type 0} (note : T → Note) (servers : ℕ) (mirror : Bool
       StandsFor note client o (Restart mirror ∷ past)
 
 -- A client is opened, or the notes come back with the reason.
-abbrev pub Restarts : {T : Type 0} → (T → Note) → ℕ → Bool → Note → Result (Client T) (T × Fault) → Type 0
+abbrev pub Restarts : {T : Type 0} → (T → Note) → ℕ → Bool → Note → Result (Client T) (T × Fault)
+    → Type 0
 Restarts note servers mirror old (Ok client) = Opens note servers mirror old client
 Restarts note servers mirror old (Err back) = whole.NotOpened mirror old (note back.0) back.1
 
--- The note was empty, and says the generation. For each list of which the old bytes say what it says, the
--- client stands for that list with the renewal.
-pub record BeginsAnew {T : Type 0} (note : T → Note) (servers g : ℕ) (old : Note) (client : Client T) : Type 0 where
+-- The note was empty, and says the generation. For each list of which the old bytes say what it
+-- says, the client stands for that list with the renewal.
+pub record BeginsAnew {T : Type 0} (note : T → Note) (servers g : ℕ) (old : Note)
+    (client : Client T) : Type 0 where
   pub free : IsTrue (is_generation g)
   pub empty : old.bytes ≡ []
   pub stands :
@@ -86,6 +91,7 @@ pub record BeginsAnew {T : Type 0} (note : T → Note) (servers g : ℕ) (old : 
       StandsFor note client o (Renew g Saved ∷ past)
 
 -- A client is renewed, or the notes come back with the reason.
-abbrev pub Renews : {T : Type 0} → (T → Note) → ℕ → ℕ → Note → Result (Client T) (T × Fault) → Type 0
+abbrev pub Renews : {T : Type 0} → (T → Note) → ℕ → ℕ → Note → Result (Client T) (T × Fault)
+    → Type 0
 Renews note servers g old (Ok client) = BeginsAnew note servers g old client
 Renews note servers g old (Err back) = whole.NotRenewed g old (note back.0) back.1

@@ -14,8 +14,8 @@ use Rattle.client_core.specs.History.{Opening}
 use Rattle.client_core.specs.Refusals.{is_server_of}
 use Rattle.client_core.specs.Words.{is_on, refusal}
 
--- What came to a client, with what its save left; a cut; a restart, which makes no save, with a mirror or
--- without one; a renewal with what its save left; the loss of the note.
+-- What came to a client, with what its save left; a cut; a restart, which makes no save, with a
+-- mirror or without one; a renewal with what its save left; the loss of the note.
 pub data FrameEntry : Type 0 where
   Met : Input → Left → FrameEntry
   Cut : FrameEntry
@@ -23,8 +23,8 @@ pub data FrameEntry : Type 0 where
   Renew : ℕ → Left → FrameEntry
   Lose : FrameEntry
 
--- A piece is for a client of so many servers: it is from one of them to it, of a kind that servers send.
--- The mirror sends no pieces.
+-- A piece is for a client of so many servers: it is from one of them to it, of a kind that servers
+-- send. The mirror sends no pieces.
 abbrev pub is_piece_for : ℕ → PieceParts → Bool
 is_piece_for servers q = is_client q.to && (is_server_of servers q.from && is_of_server q.tag.whole)
 

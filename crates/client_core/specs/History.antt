@@ -9,9 +9,9 @@ pub record Opening : Type 0 where
   pub servers : ℕ
   pub noted : Noted
 
--- A call with what its save left in the note; a cut; a restart, which makes no save, with a mirror or
--- without one; a renewal with this generation, which has a mirror, with what its save left; the loss of
--- the note of a client that is off.
+-- A call with what its save left in the note; a cut; a restart, which makes no save, with a mirror
+-- or without one; a renewal with this generation, which has a mirror, with what its save left; the
+-- loss of the note of a client that is off.
 pub data Entry : Type 0 where
   Met : Call → Left → Entry
   Cut : Entry

@@ -48,29 +48,34 @@ FirstKeptStays =
     IsTrue (loses_nothing newer) →
     kept_state o past key ≡ Some state → kept_state o (newer ++ past) key ≡ Some state
 
--- A state that is kept, and was not at the opening, came in a State from its server, or in a Copy from
--- the mirror.
+-- A state that is kept, and was not at the opening, came in a State from its server, or in a Copy
+-- from the mirror.
 abbrev pub KeptWasSent : Type 0
 KeptWasSent =
-    (o : Opening) (past : List Entry) (key : Key) (state : State) → kept_state o past key ≡ Some state →
+    (o : Opening) (past : List Entry) (key : Key) (state : State) →
+    kept_state o past key ≡ Some state →
     (kept_state o [] key ≡ Some state)
-    ⊎ (((jobs : ℕ) × Contains (packets_come past) (from_server (bodies.State jobs state) key.server))
+    ⊎ (((jobs : ℕ) × Contains (packets_come past)
+    (from_server (bodies.State jobs state) key.server))
     ⊎ Contains (packets_come past) (from_mirror (bodies.Copy state)))
 
--- Each state in the note was there at the opening, or came in a State from its server, or in a Copy from
--- the mirror.
+-- Each state in the note was there at the opening, or came in a State from its server, or in a Copy
+-- from the mirror.
 abbrev pub NotedWasSent : Type 0
 NotedWasSent =
     (o : Opening) (past : List Entry) (state : State) → Contains (words_noted o past).kept state →
     Contains o.noted.kept state
-    ⊎ (((jobs : ℕ) × Contains (packets_come past) (from_server (bodies.State jobs state) state.key.server))
+    ⊎ (((jobs : ℕ) × Contains (packets_come past)
+    (from_server (bodies.State jobs state) state.key.server))
     ⊎ Contains (packets_come past) (from_mirror (bodies.Copy state)))
 
 -- After the loss of its note a client goes on as one that opens with a blank note.
 pub record GoesOnAsBlank (o : Opening) (newer past : List Entry) : Type 0 where
-  pub noted_is : words_noted o (newer ++ Lose ∷ past) ≡ words_noted (record o { noted = blank }) newer
+  pub noted_is : words_noted o (newer ++ Lose ∷ past)
+      ≡ words_noted (record o { noted = blank }) newer
   pub life_is : life o (newer ++ Lose ∷ past) ≡ life (record o { noted = blank }) newer
-  pub done_is : deeds_done o (newer ++ Lose ∷ past) ≡ deeds_done (record o { noted = blank }) newer ++ deeds_done o past
+  pub done_is : deeds_done o (newer ++ Lose ∷ past)
+      ≡ deeds_done (record o { noted = blank }) newer ++ deeds_done o past
 
 -- Behind the loss of its note a client goes on as one with a blank note.
 abbrev pub LossBeginsAnew : Type 0
@@ -79,7 +84,8 @@ LossBeginsAnew = (o : Opening) (newer past : List Entry) → GoesOnAsBlank o new
 -- Each Saved that is sent has the kept state of its key.
 abbrev pub SavedIsKept : Type 0
 SavedIsKept =
-    (o : Opening) (past : List Entry) (entry : Entry) (p : PacketParts) (attempt : ℕ) (state : State) →
+    (o : Opening) (past : List Entry) (entry : Entry) (p : PacketParts) (attempt : ℕ)
+    (state : State) →
     Contains (packets o past entry) p → p.body ≡ bodies.Saved attempt state
     → kept_state o past state.key ≡ Some state
 
@@ -89,7 +95,8 @@ CopiesAreOfStates =
     (o : Opening) (past : List Entry) (entry : Entry) (p : PacketParts) (state : State) →
     Contains (packets o past entry) p → p.body ≡ bodies.Copy state →
     Contains (words_noted o past).kept state
-    ⊎ ((server jobs : ℕ) × Contains (packet_in entry) (from_server (bodies.State jobs state) server))
+    ⊎ ((server jobs : ℕ) × Contains (packet_in entry)
+    (from_server (bodies.State jobs state) server))
 
 -- A StateAck is sent only for a state that is kept by then, or to a server that says that there is
 -- none.
@@ -143,8 +150,8 @@ generations [] = []
 generations (Renew g left ∷ past) = g ∷ generations past
 generations (_ ∷ past) = generations past
 
--- The client is one with a mirror: a blank note opens it, each restart has the mirror and a note of a
--- generation, and no two renewals are of one.
+-- The client is one with a mirror: a blank note opens it, each restart has the mirror and a note of
+-- a generation, and no two renewals are of one.
 abbrev pub is_mirrored : Opening → List Entry → Bool
 is_mirrored o [] = is_blank o.noted
 is_mirrored o (Restart mirror ∷ past) =
@@ -193,12 +200,14 @@ LooksAtAll = (past : List Entry) → is_on past ≡ true → shown_entries past 
 abbrev pub TickOnlyLooks : Type 0
 TickOnlyLooks =
     (o : Opening) (past : List Entry) (left : Left) →
-    (words_noted o (Met Tick left ∷ past) ≡ words_noted o past) × (life o (Met Tick left ∷ past) ≡ life o past)
+    (words_noted o (Met Tick left ∷ past) ≡ words_noted o past)
+    × (life o (Met Tick left ∷ past) ≡ life o past)
 
 -- A note that keeps its ranges goes on to, where the packets that come keep theirs.
 abbrev pub NotesKeepRanges : Type 0
 NotesKeepRanges =
-    (o : Opening) (past : List Entry) → IsNoted o.noted → CameInRange past → IsNoted (words_noted o past)
+    (o : Opening) (past : List Entry) → IsNoted o.noted → CameInRange past
+    → IsNoted (words_noted o past)
 
 -- A state of the job is kept, or the server has said that there is none.
 abbrev pub HasAnswer : Noted → List PacketParts → ℕ → ℕ → ℕ → Type 0
@@ -224,7 +233,8 @@ pub record EndsWell (n : Noted) (packets : List PacketParts) (run server : ℕ) 
 abbrev pub TriggersEndWell : Type 0
 TriggersEndWell =
     (o : Opening) (past : List Entry) (run server : ℕ) →
-    trigger_at run server (life o past) ≡ Served → EndsWell (words_noted o past) (packets_come past) run server
+    trigger_at run server (life o past) ≡ Served
+    → EndsWell (words_noted o past) (packets_come past) run server
 
 -- The kinds of packets that are for servers.
 abbrev pub is_for_server : PacketKind → Bool
@@ -255,7 +265,8 @@ abbrev pub GoesToMirror : Bool → PacketParts → Type 0
 GoesToMirror mirror p =
     (mirror ≡ true) × (p ≡ to_mirror p.body) × IsTrue (is_for_mirror (kind_of p.body))
 
--- What a client sends goes to a server that it drives or to its mirror, and is of a kind that is for it.
+-- What a client sends goes to a server that it drives or to its mirror, and is of a kind that is
+-- for it.
 abbrev pub PacketsGoToPeers : Type 0
 PacketsGoToPeers =
     (o : Opening) (past : List Entry) (entry : Entry) (p : PacketParts) →
@@ -272,7 +283,8 @@ abbrev pub ReportsCame : Type 0
 ReportsCame =
     (o : Opening) (past : List Entry) (r : Received) → Contains (reports (life o past)) r →
     (jobs : ℕ)
-    × Contains (packets_come past) (from_server (bodies.Report r.run r.attempt r.job jobs r.report) r.server)
+    × Contains (packets_come past) (from_server
+    (bodies.Report r.run r.attempt r.job jobs r.report) r.server)
 
 -- No two reports are of one attempt, server and job.
 abbrev pub has_distinct_reports : List Received → Bool

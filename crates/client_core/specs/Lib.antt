@@ -3,6 +3,7 @@ pub mod Begins
 pub mod Bounds
 pub mod Ends
 pub mod Examples
+pub mod MirrorExamples
 pub mod FrameAnswers
 pub mod FrameEnds
 pub mod Framed

@@ -32,7 +32,8 @@ deeds_of n Tick = []
 abbrev pub life : Opening → List Entry → List Deed
 life o [] = []
 life o (Met c left ∷ past) =
-    if is_answered o past c left then deeds_of (words_noted o past) c ++ life o past else life o past
+    if is_answered o past c left then deeds_of (words_noted o past) c ++ life o past
+    else life o past
 life o (Cut ∷ past) = []
 life o (Restart mirror ∷ past) = []
 life o (Renew g left ∷ past) = []
@@ -42,7 +43,8 @@ life o (Lose ∷ past) = []
 abbrev pub deeds_done : Opening → List Entry → List Deed
 deeds_done o [] = []
 deeds_done o (Met c left ∷ past) =
-    if is_answered o past c left then deeds_of (words_noted o past) c ++ deeds_done o past else deeds_done o past
+    if is_answered o past c left then deeds_of (words_noted o past) c ++ deeds_done o past
+    else deeds_done o past
 deeds_done o (Cut ∷ past) = deeds_done o past
 deeds_done o (Restart mirror ∷ past) = deeds_done o past
 deeds_done o (Renew g left ∷ past) = deeds_done o past

@@ -16,7 +16,8 @@ use Rattle.client_core.specs.declared.noted.Noted.{Noted}
 abbrev pub blank : Noted
 blank = record { generation = 0; runs = 0; attempts = 0; kept = [] }
 
--- What a note says that begins anew: the numbers of each generation are above those of the ones before.
+-- What a note says that begins anew: the numbers of each generation are above those of the ones
+-- before.
 abbrev pub new_note : ℕ → Noted
 new_note g = record { generation = g; runs = g * 2 ^ 32; attempts = g * 2 ^ 32; kept = [] }
 
@@ -25,8 +26,8 @@ abbrev pub is_blank : Noted → Bool
 is_blank n =
     (n.generation == 0) && ((n.runs == 0) && ((n.attempts == 0) && (length n.kept == 0)))
 
--- What stands behind a note's generation, with these bytes of states: the runs, the attempts, the number
--- of states, and the states in their order.
+-- What stands behind a note's generation, with these bytes of states: the runs, the attempts, the
+-- number of states, and the states in their order.
 unfoldable pub numbers_of : ℕ → ℕ → List (List ℕ) → List ℕ
 numbers_of runs attempts states =
     bytes_of w64 runs ++ (bytes_of w64 attempts ++ counted_states states)
@@ -44,8 +45,8 @@ old_note_of runs attempts states = codes "FCC1" ++ numbers_of runs attempts stat
 abbrev pub spelling : Noted → List ℕ
 spelling n = note_of n.generation n.runs n.attempts (map state_bytes n.kept)
 
--- What every note keeps: a generation of four bytes, numbers of eight, and at most 1,024 states, all of
--- different keys.
+-- What every note keeps: a generation of four bytes, numbers of eight, and at most 1,024 states,
+-- all of different keys.
 pub record IsNoted (n : Noted) : Type 0 where
   pub generation : n.generation ≤ MAX_GENERATION
   pub runs : n.runs < 2 ^ 64
@@ -87,7 +88,8 @@ abbrev pub Reads : List ℕ → Option Noted → Type 0
 Reads bytes (Some n) = Says bytes n
 Reads bytes None = (n : Noted) → Says bytes n → ⊥
 
--- What stands behind a note's generation tells of 1 to 1,024 states, and the first of them is sound.
+-- What stands behind a note's generation tells of 1 to 1,024 states, and the first of them is
+-- sound.
 pub record TellsStates (bytes : List ℕ) : Type 0 where
   pub few : number_in w32 (drop 16 bytes) ≤ KEPT_LIMIT
   pub first : HasFirst (number_in w32 (drop 16 bytes)) (drop 20 bytes)

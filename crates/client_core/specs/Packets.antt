@@ -76,7 +76,8 @@ replies mirror n deeds server (bodies.State jobs state) =
 replies mirror n deeds server (bodies.NoState run job jobs) =
     to_server (bodies.StateAck run job) server ∷ []
 replies mirror n deeds server (bodies.WantState run attempt job) =
-    state_for run attempt job server (kept_of (record { run = run; server = server; job = job }) n.kept) ∷ []
+    state_for run attempt job server
+    (kept_of (record { run = run; server = server; job = job }) n.kept) ∷ []
 replies mirror n deeds server (bodies.Refused r) =
     if lacks_jobs r.asked r.reason
     then jobs_once_more r.run (text_of r.run deeds) server (begin_at r.run server deeds) else []
@@ -96,15 +97,19 @@ packets_again body server _ = []
 -- The open requests of a run: its begin, its trigger and its stop, each by server.
 abbrev pub run_again : ℕ → List Deed → ℕ → List PacketParts
 run_again servers deeds run =
-    flat_map (λ s. begin_again run (text_of run deeds) s (begin_at run s deeds)) (numbers_below servers)
-    ++ (flat_map (λ s. packets_again (bodies.Trigger run (act_of run deeds)) s (trigger_at run s deeds))
+    flat_map (λ s. begin_again run (text_of run deeds) s (begin_at run s deeds))
     (numbers_below servers)
-    ++ flat_map (λ s. packets_again (bodies.Stop run) s (stop_at run s deeds)) (numbers_below servers))
+    ++ (flat_map (λ s. packets_again (bodies.Trigger run (act_of run deeds)) s
+    (trigger_at run s deeds))
+    (numbers_below servers)
+    ++ flat_map (λ s. packets_again (bodies.Stop run) s (stop_at run s deeds))
+    (numbers_below servers))
 
 -- The open verifies of an attempt, by server.
 abbrev pub attempt_again : ℕ → List Deed → ℕ → List PacketParts
 attempt_again servers deeds attempt =
-    flat_map (λ s. packets_again (bodies.Verify (run_of attempt deeds) attempt (check_of attempt deeds)) s
+    flat_map (λ s. packets_again (bodies.Verify (run_of attempt deeds) attempt
+    (check_of attempt deeds)) s
     (verify_at attempt s deeds)) (numbers_below servers)
 
 -- Every open request again: by run, and then the verifies by attempt.
@@ -160,7 +165,8 @@ packets_for peers n deeds Tick = all_again peers n deeds
 -- The packets that an event sends.
 abbrev pub packets : Opening → List Entry → Entry → List PacketParts
 packets o past (Met c left) =
-    if is_answered o past c left then packets_for (peers o past) (words_noted o past) (life o past) c else []
+    if is_answered o past c left then packets_for (peers o past) (words_noted o past)
+    (life o past) c else []
 packets o past Cut = []
 packets o past (Restart mirror) = []
 packets o past (Renew g left) = []

@@ -58,8 +58,8 @@ is_of_generation mirror generation number =
 unfoldable pub is_free_to_number : Bool → ℕ → Bool
 is_free_to_number granted generation = (generation == 0) || granted
 
--- Above the numbers that were used there is one more of eight bytes, which is of the generation; and this
--- was granted.
+-- Above the numbers that were used there is one more of eight bytes, which is of the generation;
+-- and this was granted.
 unfoldable pub has_next : Peers → ℕ → ℕ → Bool
 has_next peers generation used =
     nat_lt (used + 1) (2 ^ 64)

@@ -19,19 +19,27 @@ has_report attempt server job reports =
 
 -- The reports with one more, unless there is one of its attempt, server and job.
 abbrev pub with_report : Received → List Received → List Received
-with_report r reports = if has_report r.attempt r.server r.job reports then reports else reports ++ r ∷ []
+with_report r reports =
+    if has_report r.attempt r.server r.job reports then reports else reports ++ r ∷ []
 
 -- A report counts for its attempt: it is of the run that this verifies, and of a job that counts.
 abbrev pub report_counts : ℕ → ℕ → ℕ → ℕ → ℕ → List Deed → Bool
 report_counts run attempt server job jobs deeds =
     (run == run_of attempt deeds)
-    && counts_for (record { job = job; jobs = jobs; misfit = false }) (verify_at attempt server deeds)
+    && counts_for (record { job = job; jobs = jobs; misfit = false })
+    (verify_at attempt server deeds)
 
 -- A report is kept where it counts for its attempt.
 abbrev pub reports_heard : List Deed → ℕ → Body → List Received → List Received
 reports_heard deeds server (bodies.Report run attempt job jobs report) reports =
     if report_counts run attempt server job jobs deeds
-    then with_report (record { run = run; attempt = attempt; server = server; job = job; report = report })
+    then with_report (record {
+      run = run;
+      attempt = attempt;
+      server = server;
+      job = job;
+      report = report;
+    })
     reports
     else reports
 reports_heard deeds server _ reports = reports

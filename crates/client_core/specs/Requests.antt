@@ -53,7 +53,8 @@ has_misfit told = list_any (λ t. t.misfit && counts told t) told
 -- A request ends once each job has an answer: well, but where a state didn't fit.
 abbrev pub when_told : List Telling → Request
 when_told told =
-    if tells_all told then (if has_misfit told then Denied reasons.Misfit else Served) else Open told
+    if tells_all told then (if has_misfit told then Denied reasons.Misfit else Served)
+    else Open told
 
 -- An open request gets one more answer.
 abbrev pub when_one_tells : Telling → Request → Request
@@ -65,8 +66,8 @@ abbrev pub when_answered : Request → Request
 when_answered (Open ts) = Served
 when_answered q = q
 
--- A server that is busy is asked again, and a misfit is an answer for one job; any other reason ends an
--- open request.
+-- A server that is busy is asked again, and a misfit is an answer for one job; any other reason
+-- ends an open request.
 abbrev pub when_refused : Reason → Request → Request
 when_refused reasons.Busy q = q
 when_refused reasons.Misfit q = q
@@ -96,10 +97,12 @@ verify_refused _ t reason q = q
 -- What a server says of a triggered run.
 abbrev pub trigger_heard : ℕ → Body → Request → Request
 trigger_heard run (bodies.State jobs state) q =
-    if state.key.run == run then when_one_tells (record { job = state.key.job; jobs = jobs; misfit = false }) q else q
+    if state.key.run == run then when_one_tells
+    (record { job = state.key.job; jobs = jobs; misfit = false }) q else q
 trigger_heard run (bodies.NoState r job jobs) q =
     if r == run then when_one_tells (record { job = job; jobs = jobs; misfit = false }) q else q
-trigger_heard run (bodies.Refused r) q = if r.run == run then trigger_refused r.asked r.reason q else q
+trigger_heard run (bodies.Refused r) q =
+    if r.run == run then trigger_refused r.asked r.reason q else q
 trigger_heard run _ q = q
 
 -- What a server says of a stopped run.
@@ -111,10 +114,12 @@ stop_heard run _ q = q
 -- What a server says of an attempt to verify a run.
 abbrev pub verify_heard : ℕ → ℕ → Body → Request → Request
 verify_heard run attempt (bodies.Report r a job jobs report) q =
-    if (r == run) && (a == attempt) then when_one_tells (record { job = job; jobs = jobs; misfit = false }) q else q
+    if (r == run) && (a == attempt)
+    then when_one_tells (record { job = job; jobs = jobs; misfit = false }) q else q
 verify_heard run attempt (bodies.Refused r) q =
     if (r.run == run) && (r.attempt == attempt)
-    then verify_refused r.asked (record { job = r.job; jobs = r.jobs; misfit = true }) r.reason q else q
+    then verify_refused r.asked (record { job = r.job; jobs = r.jobs; misfit = true }) r.reason q
+    else q
 verify_heard run attempt _ q = q
 
 -- What a deed makes of a trigger: a new call asks anew.

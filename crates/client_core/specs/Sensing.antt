@@ -12,9 +12,10 @@ use Rattle.client_core.specs.Words.{is_on}
 use Rattle.client_core.specs.Hearing.{FrameEntry, packets_heard}
 use Rattle.client_core.specs.FrameAnswers.{Hears, Keeps, Drops, Misses, sense}
 
--- The packet that the piece gives; that it gives none yet; or why it is refused, where memory didn't run
--- out.
-abbrev pub IsSensed : Opening → List FrameEntry → PieceParts → Result (Option PacketParts) Fault → Type 0
+-- The packet that the piece gives; that it gives none yet; or why it is refused, where memory
+-- didn't run out.
+abbrev pub IsSensed : Opening → List FrameEntry → PieceParts → Result (Option PacketParts) Fault
+    → Type 0
 IsSensed o past q (Ok (Some p)) = sense o past (Deliver (Piece q)) ≡ Hears (calls.Deliver p)
 IsSensed o past q (Ok None) = sense o past (Deliver (Piece q)) ≡ Keeps q
 IsSensed o past q (Err NoMemory) = Unit {0}

@@ -1,5 +1,6 @@
 -- How a trigger, a stop or a verify at a server is kept: without a list of the answers.
-use Rattle.std.specs.Prelude.{◌≡◌, ◌⊎◌, ℕ, ◌≤◌, ◌<◌, Bool, true, false, ◌&&◌, ◌||◌, ◌==◌, nat_lt, if◌then◌else◌, List, [], length, take, slice_set, slice_index_or}
+use Rattle.std.specs.Prelude.{◌≡◌, ◌⊎◌, ℕ, ◌≤◌, ◌<◌, Bool, true, false, ◌&&◌, ◌||◌, ◌==◌, nat_lt}
+use Rattle.std.specs.Prelude.{if◌then◌else◌, List, [], length, take, slice_set, slice_index_or}
 use Rattle.std.specs.List.{list_all}
 use Rattle.fc_base.specs.declared.limits.TheConstants.{MAX_JOBS}
 use Rattle.messages.specs.declared.refusal.Reason.TheVariants as reasons
@@ -9,14 +10,15 @@ use Rattle.client_core.specs.declared.standing.Standing.{Standing}
 use Rattle.client_core.specs.Requests as requests
 use Rattle.client_core.specs.Requests.{Request, Telling, jobs_told, tells_of, has_misfit}
 
--- What is kept of an open request: how many jobs there are, at most 16, which of them have an answer, and
--- whether one that counts tells of a misfit.
+-- What is kept of an open request: how many jobs there are, at most 16, which of them have an
+-- answer, and whether one that counts tells of a misfit.
 pub record IsOpen (s : Standing) (told : List Telling) : Type 0 where
   pub open_yet : s.outcome ≡ outcomes.Open
   pub jobs : s.jobs ≡ jobs_told told
   pub few : s.jobs ≤ MAX_JOBS
   pub any : (told ≡ []) ⊎ (1 ≤ jobs_told told)
-  pub told_of : (job : ℕ) → job < length s.told → slice_index_or s.told job false ≡ tells_of told job
+  pub told_of : (job : ℕ) → job < length s.told
+      → slice_index_or s.told job false ≡ tells_of told job
   pub misfit : s.misfit ≡ has_misfit told
 
 -- What is kept of a request.
@@ -37,7 +39,8 @@ all_told jobs told = list_all (λ has_answer. has_answer) (take jobs told)
 -- How a request ends once each job has an answer.
 abbrev pub outcome_with : Bool → Bool → Outcome
 outcome_with all misfit =
-    if all then (if misfit then outcomes.Refused reasons.Misfit else outcomes.Good) else outcomes.Open
+    if all then (if misfit then outcomes.Refused reasons.Misfit else outcomes.Good)
+    else outcomes.Open
 
 -- These answers.
 abbrev pub standing_of : ℕ → List Bool → Bool → Standing

@@ -1,5 +1,5 @@
--- The words of a client, each read from the list: whether it is on, with whom, what its note says, which
--- calls it refuses, and what they are due to save.
+-- The words of a client, each read from the list: whether it is on, with whom, what its note says,
+-- which calls it refuses, and what they are due to save.
 use Rattle.std.specs.Prelude.{ℕ, Bool, false, true, not, ◌&&◌, ◌||◌, ◌==◌, is_none, is_some, List, [], ◌∷◌, ◌++◌, Option, if◌then◌else◌}
 use Rattle.std.specs.List.{list_any}
 use Rattle.fc_base.specs.declared.numbers.Key.{Key}
@@ -53,7 +53,8 @@ granted_by _ = []
 abbrev pub granted_generations : List Entry → List ℕ
 granted_generations [] = []
 granted_generations (Met c left ∷ past) =
-    if is_on past && has_mirror past then granted_by c ++ granted_generations past else granted_generations past
+    if is_on past && has_mirror past then granted_by c ++ granted_generations past
+    else granted_generations past
 granted_generations (Cut ∷ past) = []
 granted_generations (Restart mirror ∷ past) = []
 granted_generations (Renew g left ∷ past) = []
@@ -81,21 +82,22 @@ may_renew g n = is_generation g && is_blank n
 abbrev pub renewed_after : Bool → ℕ → Noted → Noted
 renewed_after new g n = if new && may_renew g n then new_note g else n
 
--- What the note says: what it said at the opening, and what was added by each save that left the new
--- bytes; the generation of a renewal; and nothing once it is lost.
+-- What the note says: what it said at the opening, and what was added by each save that left the
+-- new bytes; the generation of a renewal; and nothing once it is lost.
 abbrev pub words_noted : Opening → List Entry → Noted
 words_noted o [] = o.noted
 words_noted o (Met c left ∷ past) =
     noted_after (has_new left)
-    (due_by (is_on past) (peers_at o.servers past (words_noted o past).generation) (words_noted o past) c)
+    (due_by (is_on past) (peers_at o.servers past (words_noted o past).generation)
+    (words_noted o past) c)
     (words_noted o past)
 words_noted o (Cut ∷ past) = words_noted o past
 words_noted o (Restart mirror ∷ past) = words_noted o past
 words_noted o (Renew g left ∷ past) = renewed_after (has_new left) g (words_noted o past)
 words_noted o (Lose ∷ past) = blank
 
--- With whom the client is: its servers, whether it has a mirror, and whether this granted the generation
--- of its note.
+-- With whom the client is: its servers, whether it has a mirror, and whether this granted the
+-- generation of its note.
 abbrev pub peers : Opening → List Entry → Peers
 peers o past = peers_at o.servers past (words_noted o past).generation
 
@@ -119,7 +121,8 @@ is_answered o past c left = is_none (refusal o past c) && is_answer (due o past 
 abbrev pub kept_state : Opening → List Entry → Key → Option State
 kept_state o past key = kept_of key (words_noted o past).kept
 
--- What the calls that only look answer from: all that came, but for what came from a failed save on.
+-- What the calls that only look answer from: all that came, but for what came from a failed save
+-- on.
 abbrev pub shown_entries : List Entry → List Entry
 shown_entries [] = []
 shown_entries (Met c left ∷ past) =

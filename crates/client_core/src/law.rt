@@ -2,7 +2,8 @@
 
 ghost use Rattle.client_core.specs.Laws.{FirstKeptStays, KeptWasSent, NotedWasSent, SavedIsKept, CopiesAreOfStates, AcksAreFor, RunsAreFresh, AttemptsAreFresh, NumbersAreGivenOnce, LossBeginsAnew, OneTextOfARun, OneTextOfAnAttempt, LooksAtAll, TickOnlyLooks, NotesKeepRanges, TriggersEndWell, PacketsGoToPeers, PacketsAreInRange, ReportsCame, OneReportEach};
 ghost use Rattle.client_core.specs.Bounds.{PacketsAreFew, FramesAreShort};
-ghost use Rattle.client_core.specs.Examples.{Begins, WaitsForTheBusy, KeepsTheFirst, TriggersToTheEnd, Verifies, GoesDown, KeepsWhatIsNoted, ForgetsByACut, AsksAgainInOrder, SpendsNumbers, NumbersOnceGranted, CopiesWhatIsKept, FetchesWhatWasLost, HearsItsMirrorAlone};
+ghost use Rattle.client_core.specs.Examples.{Begins, WaitsForTheBusy, KeepsTheFirst, TriggersToTheEnd, Verifies, GoesDown, KeepsWhatIsNoted, ForgetsByACut, AsksAgainInOrder, SpendsNumbers};
+ghost use Rattle.client_core.specs.MirrorExamples.{NumbersOnceGranted, CopiesWhatIsKept, FetchesWhatWasLost, HearsItsMirrorAlone};
 
 /// A kept state is never replaced, unless the note is lost.
 pub fn first_kept_stays()

@@ -180,7 +180,11 @@ impl Standing {
         requires refusal { IsTrue (is_refusal refusal.now) }
         ensures { (q : Request) → IsRequestKept self.old q →
             IsRequestKept self.new
-            (check_refused (record { job = refusal.now.job; jobs = refusal.now.jobs; misfit = true }) refusal.now.reason q) }
+            (check_refused (record {
+              job = refusal.now.job;
+              jobs = refusal.now.jobs;
+              misfit = true;
+            }) refusal.now.reason q) }
     {
         if let Reason::Misfit = refusal.reason {
             self.tell(refusal.job.0, refusal.jobs, true);

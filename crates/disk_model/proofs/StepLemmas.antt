@@ -33,7 +33,8 @@ off_lost false true l h = cc
 off_lost on false l h = cc
 
 -- what a core shows that is on behind an entry: all entries
-pub shows_all : {X : Type 0} (on lost : Bool) (x : X) (past shown : List X) → (on && not lost) ≡ true → (if on then (if lost then past else x ∷ past) else shown) ≡ x ∷ past
+pub shows_all : {X : Type 0} (on lost : Bool) (x : X) (past shown : List X) → (on && not lost) ≡ true
+    → (if on then (if lost then past else x ∷ past) else shown) ≡ x ∷ past
 shows_all true false x past shown h = refl
 shows_all true true x past shown h = cc
 shows_all false lost x past shown h = cc

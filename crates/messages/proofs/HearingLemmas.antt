@@ -14,7 +14,8 @@ use Rattle.messages.specs.FramesOf.{spelled_frames}
 use Rattle.messages.specs.Pieces.{frames_of}
 
 -- a piece that fills the last place takes the tag out
-whole_gone : (q : PieceParts) (fs : List Filled) (rows : List Row) (body : Option (List ℕ)) → (look_by_body q body ≡ looks.Waits → ⊥) → rows_after_body body q fs rows ≡ without_tag q.tag rows
+whole_gone : (q : PieceParts) (fs : List Filled) (rows : List Row) (body : Option (List ℕ)) → (look_by_body q body ≡ looks.Waits → ⊥)
+    → rows_after_body body q fs rows ≡ without_tag q.tag rows
 whole_gone q fs rows None ne = absurd (ne refl)
 whole_gone q fs rows (Some bytes) ne = refl
 
@@ -34,7 +35,8 @@ spoiled_gone rows q is = gone rows q (λ e. waits_no (sym is ∙ e))
     waits_no e = cc
 
 -- a packet that is refused leaves what has come together
-pub refused_piece : (rows : List Row) (q : PieceParts) (x : Option Fault) (fault : Fault) → x ≡ Some fault → (if is_some x then rows else rows_after_piece rows q) ≡ rows
+pub refused_piece : (rows : List Row) (q : PieceParts) (x : Option Fault) (fault : Fault) → x ≡ Some fault
+    → (if is_some x then rows else rows_after_piece rows q) ≡ rows
 refused_piece rows q None fault h = absurd cc
 refused_piece rows q (Some f) fault h = refl
 

@@ -1,5 +1,6 @@
 -- What the bytes of a note say.
-use Rattle.std.proofs.Common.{◌≡◌, refl, sym, ◌∙◌, ap, subst, ◌⊎◌, inl, inr, ℕ, ◌+◌, ◌-◌, ◌<◌, ◌≤◌, arith, true, false, ◌==◌, List, [], ◌∷◌, ◌++◌, length, None, Some, take, drop}
+use Rattle.std.proofs.Common.{◌≡◌, refl, sym, ◌∙◌, ap, subst, ◌⊎◌, inl, inr, ℕ, ◌+◌, ◌-◌, ◌<◌, ◌≤◌, arith}
+use Rattle.std.proofs.Common.{true, false, ◌==◌, List, [], ◌∷◌, ◌++◌, length, None, Some, take, drop}
 use Rattle.std.specs.Prelude.{◌^◌, map, bytes_eq, codes}
 use Rattle.std.specs.List.{flat_map}
 use Rattle.std.specs.Int.{w32, w64}
@@ -84,25 +85,30 @@ says_what_is_written back n k = record {
 }
 
 -- what is read says the note
-pub read_says : SpelledAreRead → ReadWereSpelled → (bytes : List ℕ) (generation count : ℕ) (kept : List State) → IsBytes bytes → take 4 bytes ≡ codes "FCM1" → 16 ≤ length bytes
+pub read_says : SpelledAreRead → ReadWereSpelled → (bytes : List ℕ) (generation count : ℕ) (kept : List State) → IsBytes bytes → take 4 bytes ≡ codes "FCM1"
+    → 16 ≤ length bytes
     → generation ≡ number_in w64 (after_magic bytes) → count ≡ number_in w32 (after_generation bytes)
-    → generation ≤ MAX_GENERATION → count ≤ KEPT_LIMIT → states_at count (drop 4 (after_generation bytes)) ≡ Some kept → has_distinct_keys kept ≡ true → Says bytes (record { generation = generation; kept = kept })
+    → generation ≤ MAX_GENERATION → count ≤ KEPT_LIMIT → states_at count (drop 4 (after_generation bytes)) ≡ Some kept → has_distinct_keys kept ≡ true
+    → Says bytes (record { generation = generation; kept = kept })
 unfolding note_of bytes_of number_in field
 read_says reads spelled bytes generation count kept h mark long g c low few states keys =
     let left : length (after_magic bytes) ≡ length bytes - 4 = length-drop 4 bytes in
     let least : length (after_generation bytes) ≡ length (after_magic bytes) - 8 = length-drop 8 (after_magic bytes) in
     let one = bytes_drop 4 bytes h in
     let s = counted_spelled reads spelled (after_generation bytes) count kept (bytes_drop 8 (after_magic bytes) one) (omega arith) c states in
-    let front : bytes_of w64 generation ++ after_generation bytes ≡ after_magic bytes = ap (λ m. bytes_of w64 m ++ after_generation bytes) g ∙ piece64 0 (after_magic bytes) one (omega arith) in
+    let front : bytes_of w64 generation ++ after_generation bytes ≡ after_magic bytes =
+    ap (λ m. bytes_of w64 m ++ after_generation bytes) g ∙ piece64 0 (after_magic bytes) one (omega arith) in
     let whole : bytes ≡ codes "FCM1" ++ (bytes_of w64 generation ++ counted_states s.0.parts) =
-    sym (take-append-drop 4 bytes) ∙ (ap (λ l. l ++ after_magic bytes) mark ∙ ap (λ l. codes "FCM1" ++ l) (sym front ∙ ap (λ l. bytes_of w64 generation ++ l) (sym s.1))) in
+    sym (take-append-drop 4 bytes) ∙ (ap (λ l. l ++ after_magic bytes) mark
+    ∙ ap (λ l. codes "FCM1" ++ l) (sym front ∙ ap (λ l. bytes_of w64 generation ++ l) (sym s.1))) in
     record {
       note = record { generation = low; count = subst (λ m. m ≤ KEPT_LIMIT) (sym s.2) few; states = s.0.ranges; keys = keys };
       spelled = inl (record { parts = s.0.parts; spelled = whole; states = s.0.says });
     }
 
 -- what is put together is the spelling
-pub encoded : (n : Noted) (count : ℕ) (states : List State) (a b c e f : List ℕ) → count ≡ length n.kept → states ≡ n.kept → a ≡ [] → b ≡ a ++ codes "FCM1" → c ≡ b ++ bytes_of w64 n.generation
+pub encoded : (n : Noted) (count : ℕ) (states : List State) (a b c e f : List ℕ) → count ≡ length n.kept → states ≡ n.kept → a ≡ [] → b ≡ a ++ codes "FCM1"
+    → c ≡ b ++ bytes_of w64 n.generation
     → e ≡ c ++ bytes_of w32 count → f ≡ e ++ flat_map (λ s. counted_bytes (state_bytes s)) states → f ≡ spelling n
 unfolding note_of bytes_of number_in
 encoded n count states a b c e f many all a_is b_is c_is e_is f_is =
@@ -124,15 +130,18 @@ no_magic reads bytes n some h s =
 pub too_short : SpelledAreRead → (bytes : List ℕ) (n : Noted) → (bytes ≡ [] → ⊥) → length bytes < 16 → Says bytes n → ⊥
 too_short reads bytes n some h s = let l : 16 ≤ length bytes = (says_read reads bytes n s some).long in absurd (omega arith)
 
-pub too_great : SpelledAreRead → (bytes : List ℕ) (n : Noted) (generation : ℕ) → (bytes ≡ [] → ⊥) → generation ≡ number_in w64 (after_magic bytes) → MAX_GENERATION < generation → Says bytes n → ⊥
+pub too_great : SpelledAreRead → (bytes : List ℕ) (n : Noted) (generation : ℕ) → (bytes ≡ [] → ⊥) → generation ≡ number_in w64 (after_magic bytes)
+    → MAX_GENERATION < generation → Says bytes n → ⊥
 too_great reads bytes n generation some g h s =
     let e : generation ≡ n.generation = g ∙ (says_read reads bytes n s some).generation in
     let few : n.generation ≤ 4294967295 = s.note.generation in
     let more : 4294967295 < generation = h in
     absurd (omega arith)
 
-pub too_many : SpelledAreRead → (bytes : List ℕ) (n : Noted) (count : ℕ) → (bytes ≡ [] → ⊥) → count ≡ number_in w32 (after_generation bytes) → KEPT_LIMIT < count → Says bytes n → ⊥
+pub too_many : SpelledAreRead → (bytes : List ℕ) (n : Noted) (count : ℕ) → (bytes ≡ [] → ⊥) → count ≡ number_in w32 (after_generation bytes)
+    → KEPT_LIMIT < count → Says bytes n → ⊥
 too_many reads bytes n count some c h s = too_many_states (after_generation bytes) n.kept count c h (says_read reads bytes n s some).kept s.note.count
 
-pub no_states : SpelledAreRead → (bytes : List ℕ) (n : Noted) (count : ℕ) → (bytes ≡ [] → ⊥) → count ≡ number_in w32 (after_generation bytes) → ReadsStates count (drop 4 (after_generation bytes)) None → Says bytes n → ⊥
+pub no_states : SpelledAreRead → (bytes : List ℕ) (n : Noted) (count : ℕ) → (bytes ≡ [] → ⊥) → count ≡ number_in w32 (after_generation bytes)
+    → ReadsStates count (drop 4 (after_generation bytes)) None → Says bytes n → ⊥
 no_states reads bytes n count some c h s = no_states_read (after_generation bytes) n.kept count c h (says_read reads bytes n s some).kept s.note.keys

@@ -30,7 +30,8 @@ use Rattle.mirror_core.proofs.RequestLemmas.{asked_range, taken_in}
 
 -- ---- an addition fits
 
-pub kept_fits : KeysStayApart → (n : Noted) (s : State) → kept_of s.key n.kept ≡ None → length n.kept < KEPT_LIMIT → IsState s → IsNoted n → IsNoted (with_addition (Keep s) n)
+pub kept_fits : KeysStayApart → (n : Noted) (s : State) → kept_of s.key n.kept ≡ None → length n.kept < KEPT_LIMIT → IsState s → IsNoted n
+    → IsNoted (with_addition (Keep s) n)
 kept_fits apart n s none room h k = record {
   generation = k.generation;
   count = omega (arith, length-append n.kept (s ∷ []), room);
@@ -67,7 +68,8 @@ granted_newly n g h = let e : nat_lt n.generation g ≡ true = grind (arith, nat
 
 -- ---- a note keeps its ranges
 
-copy_step : KeysStayApart → (new : Bool) (n : Noted) (s : State) (x : Option State) → kept_of s.key n.kept ≡ x → faults_of_request n (Copy s) ≡ [] → IsState s → IsNoted n → IsNoted (noted_after new (unless_kept x s) n)
+copy_step : KeysStayApart → (new : Bool) (n : Noted) (s : State) (x : Option State) → kept_of s.key n.kept ≡ x → faults_of_request n (Copy s) ≡ [] → IsState s
+    → IsNoted n → IsNoted (noted_after new (unless_kept x s) n)
 copy_step apart new n s (Some k) e free h i = i
 copy_step apart true n s None e free h i = kept_fits apart n s e (has_room n.kept s e free) h i
 copy_step apart false n s None e free h i = i
@@ -77,16 +79,20 @@ fetch_step true true n g h i = grant_fits n g h i
 fetch_step false true n g h i = i
 fetch_step new false n g h i = i
 
-request_step : KeysStayApart → (new : Bool) (n : Noted) (r : Request) → faults_of_request n r ≡ [] → IsRequest r → IsNoted n → IsNoted (noted_after new (addition_by n r) n)
+request_step : KeysStayApart → (new : Bool) (n : Noted) (r : Request) → faults_of_request n r ≡ [] → IsRequest r → IsNoted n
+    → IsNoted (noted_after new (addition_by n r) n)
 request_step apart new n (Copy s) free h i = copy_step apart new n s (kept_of s.key n.kept) refl free h i
 request_step apart new n (Fetch g) free h i = fetch_step new (nat_lt n.generation g) n g h i
 
-step : KeysStayApart → (new : Bool) (n : Noted) (r : Option Fault) (q : Option Request) → (r ≡ None → (a : Request) → q ≡ Some a → (faults_of_request n a ≡ []) × IsRequest a) → IsNoted n → IsNoted (noted_after new (unless_refused r (addition_of n q)) n)
+step : KeysStayApart → (new : Bool) (n : Noted) (r : Option Fault) (q : Option Request)
+    → (r ≡ None → (a : Request) → q ≡ Some a → (faults_of_request n a ≡ []) × IsRequest a) → IsNoted n
+    → IsNoted (noted_after new (unless_refused r (addition_of n q)) n)
 step apart new n (Some f) q h i = i
 step apart new n None None h i = i
 step apart new n None (Some a) h i = let k = h refl a refl in request_step apart new n a k.0 k.1 i
 
-pub in_entry : (e : Entry) (past : List Entry) → AllByRecursion IsPacket (packet_in e ++ packets_come past) → AllByRecursion IsPacket (packet_in e) × AllByRecursion IsPacket (packets_come past)
+pub in_entry : (e : Entry) (past : List Entry) → AllByRecursion IsPacket (packet_in e ++ packets_come past)
+    → AllByRecursion IsPacket (packet_in e) × AllByRecursion IsPacket (packets_come past)
 in_entry (Met (Whole p) left) past h = ((h.0, tt), h.1)
 in_entry (Met (Piece q) left) past h = (tt, h)
 in_entry Cut past h = (tt, h)
@@ -104,17 +110,20 @@ notes_keep_ranges apart o (Restart ∷ past) k h = notes_keep_ranges apart o pas
 
 -- ---- keys stay apart, whatever comes
 
-copy_apart : KeysStayApart → (new : Bool) (n : Noted) (s : State) (x : Option State) → kept_of s.key n.kept ≡ x → has_distinct_keys n.kept ≡ true → has_distinct_keys (noted_after new (unless_kept x s) n).kept ≡ true
+copy_apart : KeysStayApart → (new : Bool) (n : Noted) (s : State) (x : Option State) → kept_of s.key n.kept ≡ x → has_distinct_keys n.kept ≡ true
+    → has_distinct_keys (noted_after new (unless_kept x s) n).kept ≡ true
 copy_apart apart new n s (Some k) e h = h
 copy_apart apart true n s None e h = apart n.kept s e h
 copy_apart apart false n s None e h = h
 
-fetch_apart : (new b : Bool) (n : Noted) (g : ℕ) → has_distinct_keys n.kept ≡ true → has_distinct_keys (noted_after new (if b then Some (Grant g) else None) n).kept ≡ true
+fetch_apart : (new b : Bool) (n : Noted) (g : ℕ) → has_distinct_keys n.kept ≡ true
+    → has_distinct_keys (noted_after new (if b then Some (Grant g) else None) n).kept ≡ true
 fetch_apart true true n g h = h
 fetch_apart false true n g h = h
 fetch_apart new false n g h = h
 
-apart_step : KeysStayApart → (new : Bool) (n : Noted) (r : Option Fault) (q : Option Request) → has_distinct_keys n.kept ≡ true → has_distinct_keys (noted_after new (unless_refused r (addition_of n q)) n).kept ≡ true
+apart_step : KeysStayApart → (new : Bool) (n : Noted) (r : Option Fault) (q : Option Request) → has_distinct_keys n.kept ≡ true
+    → has_distinct_keys (noted_after new (unless_refused r (addition_of n q)) n).kept ≡ true
 apart_step apart new n (Some f) q h = h
 apart_step apart new n None None h = h
 apart_step apart new n None (Some (Copy s)) h = copy_apart apart new n s (kept_of s.key n.kept) refl h
@@ -122,6 +131,7 @@ apart_step apart new n None (Some (Fetch g)) h = fetch_apart new (nat_lt n.gener
 
 pub keys_apart : KeysStayApart → (o : Noted) (past : List Entry) → has_distinct_keys o.kept ≡ true → has_distinct_keys (words_noted o past).kept ≡ true
 keys_apart apart o [] h = h
-keys_apart apart o (Met f left ∷ past) h = apart_step apart (has_new left) (words_noted o past) (refusal_by (is_on past) (words_noted o past) f) (request_in f) (keys_apart apart o past h)
+keys_apart apart o (Met f left ∷ past) h =
+    apart_step apart (has_new left) (words_noted o past) (refusal_by (is_on past) (words_noted o past) f) (request_in f) (keys_apart apart o past h)
 keys_apart apart o (Cut ∷ past) h = keys_apart apart o past h
 keys_apart apart o (Restart ∷ past) h = keys_apart apart o past h

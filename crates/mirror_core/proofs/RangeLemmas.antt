@@ -1,5 +1,6 @@
 -- The packets that a mirror sends are within their ranges, and their frames are short.
-use Rattle.std.proofs.Common.{◌≡◌, refl, sym, subst, ℕ, ◌+◌, ◌*◌, ◌<◌, ◌≤◌, arith, Bool, true, false, ◌&&◌, List, [], ◌∷◌, length, Option, None, Some, length-append}
+use Rattle.std.proofs.Common.{◌≡◌, refl, sym, subst, ℕ, ◌+◌, ◌*◌, ◌<◌, ◌≤◌, arith, Bool, true}
+use Rattle.std.proofs.Common.{false, ◌&&◌, List, [], ◌∷◌, length, Option, None, Some, length-append}
 use Rattle.std.specs.Prelude.{if◌then◌else◌, nat_lt, nat_le, ◌^◌, map, sum_by}
 use Rattle.std.specs.List.{AllByRecursion}
 use Rattle.std.proofs.lemmas.Bool.{and_parts}
@@ -118,6 +119,7 @@ short_where false ps h = no_frames
 
 pub frames_are_short : NotesKeepRanges → LengthsAreBounded → FramesAreShort
 frames_are_short ranges bounded o past (Met f left) i h =
-    short_where (is_answered o past f left) (packets_for (words_noted o past) (request_in f)) (asked_short bounded (words_noted o past) (request_in f) (ranges o past i (in_entry (Met f left) past h).1))
+    short_where (is_answered o past f left) (packets_for (words_noted o past) (request_in f))
+    (asked_short bounded (words_noted o past) (request_in f) (ranges o past i (in_entry (Met f left) past h).1))
 frames_are_short ranges bounded o past Cut i h = no_frames
 frames_are_short ranges bounded o past Restart i h = no_frames

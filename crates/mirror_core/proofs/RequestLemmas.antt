@@ -34,7 +34,8 @@ copy_said (bodies.Copy s) state h = let e : s ≡ state = cc in ap bodies.Copy e
 copy_said (bodies.Fetch generation) state h = cc
 copy_said _ state h = cc
 
-whole_copy : (from to : Node) (body : Body) (state : State) → request_in (Whole (record { from = from; to = to; body = body })) ≡ Some (Copy state) → record { from = from; to = to; body = body } ≡ from_client state
+whole_copy : (from to : Node) (body : Body) (state : State) → request_in (Whole (record { from = from; to = to; body = body })) ≡ Some (Copy state)
+    → record { from = from; to = to; body = body } ≡ from_client state
 whole_copy nodes.Client nodes.Mirror body state h = ap (λ b. record { from = nodes.Client; to = nodes.Mirror; body = b }) (copy_said body state h)
 whole_copy nodes.Mirror nodes.Mirror body state h = cc
 whole_copy (nodes.Server s) nodes.Mirror body state h = cc
@@ -65,7 +66,8 @@ no_fault true [] h = (refl, refl)
 no_fault true (f ∷ fs) h = cc
 no_fault false fs h = cc
 
-pub taken_in : (on : Bool) (n : Noted) (q : Option Request) (r : Request) → slice_get (when (not on) Down ++ faults_of n q) 0 ≡ None → q ≡ Some r → (on ≡ true) × (faults_of_request n r ≡ [])
+pub taken_in : (on : Bool) (n : Noted) (q : Option Request) (r : Request) → slice_get (when (not on) Down ++ faults_of n q) 0 ≡ None → q ≡ Some r
+    → (on ≡ true) × (faults_of_request n r ≡ [])
 taken_in on n q r h e =
     let p = no_fault on (faults_of n q) h in
     (p.0, sym (ap (faults_of n) e) ∙ p.1)
@@ -74,7 +76,8 @@ pub not_when : (b : Bool) (f : Fault) → when b f ≡ [] → b ≡ false
 not_when true f h = cc
 not_when false f h = refl
 
-pub answered_due : (r : Option Fault) (d : Option Addition) (left : Left) → (is_none r && is_answer (unless_refused r d) left) ≡ true → (r ≡ None) × (is_answer d left ≡ true)
+pub answered_due : (r : Option Fault) (d : Option Addition) (left : Left) → (is_none r && is_answer (unless_refused r d) left) ≡ true
+    → (r ≡ None) × (is_answer d left ≡ true)
 answered_due None d left h = (refl, h)
 answered_due (Some f) d left h = cc
 
@@ -85,5 +88,6 @@ asked_refusals n None = (refl, tt)
 asked_refusals n (Some (Copy state)) = state_refusals n.kept state
 asked_refusals n (Some (Fetch generation)) = one_refusal _ Old refl
 
-pub refusal_sort : (on : Bool) (n : Noted) (q : Option Request) (fault : Fault) → slice_get (when (not on) Down ++ faults_of n q) 0 ≡ Some fault → IsRefusal fault
+pub refusal_sort : (on : Bool) (n : Noted) (q : Option Request) (fault : Fault) → slice_get (when (not on) Down ++ faults_of n q) 0 ≡ Some fault
+    → IsRefusal fault
 refusal_sort on n q fault e = first_refusal _ fault (more_refusals (not on) Down (faults_of n q) refl (asked_refusals n q)) e

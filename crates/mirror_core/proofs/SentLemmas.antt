@@ -39,7 +39,8 @@ asked_goes n (Some (Copy state)) = ((refl, refl, refl), tt)
 asked_goes n (Some (Fetch g)) = ((refl, refl, refl), all_map GoesToClient copy_of n.kept (λ s. (refl, refl, refl)))
 
 pub packets_go_to_the_client : PacketsGoToTheClient
-packets_go_to_the_client o past (Met f left) = all_where GoesToClient (is_answered o past f left) (packets_for (words_noted o past) (request_in f)) (λ a. asked_goes (words_noted o past) (request_in f))
+packets_go_to_the_client o past (Met f left) =
+    all_where GoesToClient (is_answered o past f left) (packets_for (words_noted o past) (request_in f)) (λ a. asked_goes (words_noted o past) (request_in f))
 packets_go_to_the_client o past Cut = tt
 packets_go_to_the_client o past Restart = tt
 
@@ -68,7 +69,8 @@ replied o past f left p h =
       free = (taken_in (is_on past) n (request_in f) r.0 a.0 r.1).1;
       answers = ap (λ q. is_answer (addition_of n q) left) (sym r.1) ∙ a.1;
       sent = r.2;
-      noted_is = ap (λ x. noted_after (has_new left) (unless_refused x (addition_of n (request_in f))) n) a.0 ∙ ap (λ q. noted_after (has_new left) (addition_of n q) n) r.1;
+      noted_is = ap (λ x. noted_after (has_new left) (unless_refused x (addition_of n (request_in f))) n) a.0
+          ∙ ap (λ q. noted_after (has_new left) (addition_of n q) n) r.1;
     }
 
 mapped : (states : List State) (p : PacketParts) → Contains (map copy_of states) p → (s : State) × (p ≡ copy_of s) × Contains states s
@@ -83,7 +85,8 @@ only_ok : (n : Noted) (s : State) (p : PacketParts) → Contains (replies n (Cop
 only_ok n s p h = elim (first_or_behind (to_client (bodies.CopyOk s.key.run s.key.server s.key.job)) [] p h) [ inl e ↦ e | inr b ↦ absurd (none_in p b) ]
 
 -- The replies to a Fetch.
-grant_or_copy : (n : Noted) (g : ℕ) (p : PacketParts) → Contains (replies n (Fetch g)) p → (to_client (bodies.Granted g) ≡ p) ⊎ ((s : State) × (p ≡ copy_of s) × Contains n.kept s)
+grant_or_copy : (n : Noted) (g : ℕ) (p : PacketParts) → Contains (replies n (Fetch g)) p
+    → (to_client (bodies.Granted g) ≡ p) ⊎ ((s : State) × (p ≡ copy_of s) × Contains n.kept s)
 grant_or_copy n g p h = elim (first_or_behind (to_client (bodies.Granted g)) (map copy_of n.kept) p h) [ inl e ↦ inl e | inr b ↦ inr (mapped n.kept p b) ]
 
 body_of : (a b : Body) → to_client a ≡ to_client b → a ≡ b
@@ -92,13 +95,15 @@ body_of a b e = ap (λ (p : PacketParts). p.body) e
 -- ---- a grant
 
 granted_by : (n : Noted) (r : Request) (g : ℕ) → Contains (replies n r) (to_client (bodies.Granted g)) → r ≡ Fetch g
-granted_by n (Copy s) g h = let e = body_of (bodies.CopyOk s.key.run s.key.server s.key.job) (bodies.Granted g) (only_ok n s (to_client (bodies.Granted g)) h) in cc
+granted_by n (Copy s) g h =
+    let e = body_of (bodies.CopyOk s.key.run s.key.server s.key.job) (bodies.Granted g) (only_ok n s (to_client (bodies.Granted g)) h) in cc
 granted_by n (Fetch x) g h = elim (grant_or_copy n x (to_client (bodies.Granted g)) h) [
   | inl a ↦ (let e = body_of (bodies.Granted x) (bodies.Granted g) a in let same : x ≡ g = cc in ap Fetch same)
   | inr b ↦ (let e = body_of (bodies.Granted g) (bodies.Copy b.0) b.1 in cc)
 ]
 
-granted_noted : (n : Noted) (g : ℕ) (left : Left) (b : Bool) → nat_lt n.generation g ≡ b → nat_lt g n.generation ≡ false → is_answer (if b then Some (Grant g) else None) left ≡ true → (noted_after (has_new left) (if b then Some (Grant g) else None) n).generation ≡ g
+granted_noted : (n : Noted) (g : ℕ) (left : Left) (b : Bool) → nat_lt n.generation g ≡ b → nat_lt g n.generation ≡ false
+    → is_answer (if b then Some (Grant g) else None) left ≡ true → (noted_after (has_new left) (if b then Some (Grant g) else None) n).generation ≡ g
 granted_noted n g Saved true e f a = refl
 granted_noted n g NoSave true e f a = cc
 granted_noted n g LostNew true e f a = cc
@@ -112,7 +117,8 @@ grants_are_noted o past (Met f left) g h =
     let is : r.request ≡ Fetch g = granted_by n r.request g r.sent in
     let free : faults_of_request n (Fetch g) ≡ [] = subst (λ x. faults_of_request n x ≡ []) is r.free in
     let answers : is_answer (addition_by n (Fetch g)) left ≡ true = subst (λ x. is_answer (addition_by n x) left ≡ true) is r.answers in
-    ap (λ (m : Noted). m.generation) r.noted_is ∙ (ap (λ x. (noted_after (has_new left) (addition_by n x) n).generation) is ∙ granted_noted n g left (nat_lt n.generation g) refl (not_when (nat_lt g n.generation) Old free) answers)
+    ap (λ (m : Noted). m.generation) r.noted_is ∙ (ap (λ x. (noted_after (has_new left) (addition_by n x) n).generation) is
+    ∙ granted_noted n g left (nat_lt n.generation g) refl (not_when (nat_lt g n.generation) Old free) answers)
 grants_are_noted o past Cut g h = absurd (none_in (to_client (bodies.Granted g)) h)
 grants_are_noted o past Restart g h = absurd (none_in (to_client (bodies.Granted g)) h)
 
@@ -122,7 +128,8 @@ grants_are_noted o past Restart g h = absurd (none_in (to_client (bodies.Granted
 abbrev CopyOf : Request → ℕ → ℕ → ℕ → Type 0
 CopyOf r run server job = (s : State) × (r ≡ Copy s) × (s.key ≡ record { run = run; server = server; job = job })
 
-same_key : (key : Key) (run server job : ℕ) → bodies.CopyOk key.run key.server key.job ≡ bodies.CopyOk run server job → key ≡ record { run = run; server = server; job = job }
+same_key : (key : Key) (run server job : ℕ) → bodies.CopyOk key.run key.server key.job ≡ bodies.CopyOk run server job
+    → key ≡ record { run = run; server = server; job = job }
 same_key key run server job e =
     let a : key.run ≡ run = cc in
     let b : key.server ≡ server = cc in
@@ -130,15 +137,20 @@ same_key key run server job e =
     λ i. record { run = a i; server = b i; job = c i }
 
 copied_by : (n : Noted) (r : Request) (run server job : ℕ) → Contains (replies n r) (to_client (bodies.CopyOk run server job)) → CopyOf r run server job
-copied_by n (Copy s) run server job h =
-    (s, refl, same_key s.key run server job (body_of (bodies.CopyOk s.key.run s.key.server s.key.job) (bodies.CopyOk run server job) (only_ok n s (to_client (bodies.CopyOk run server job)) h)))
+copied_by n (Copy s) run server job h = (
+  s,
+  refl,
+  same_key s.key run server job (body_of (bodies.CopyOk s.key.run s.key.server s.key.job) (bodies.CopyOk run server job)
+      (only_ok n s (to_client (bodies.CopyOk run server job)) h)),
+)
 copied_by n (Fetch g) run server job h = elim (grant_or_copy n g (to_client (bodies.CopyOk run server job)) h) [
   | inl a ↦ (let e = body_of (bodies.Granted g) (bodies.CopyOk run server job) a in cc)
   | inr b ↦ (let e = body_of (bodies.CopyOk run server job) (bodies.Copy b.0) b.1 in cc)
 ]
 
 -- After a copy that was answered its key has a state.
-has_one : LastIsFound → (n : Noted) (left : Left) (x : Option State) (s : State) → kept_of s.key n.kept ≡ x → is_answer (unless_kept x s) left ≡ true → (k : State) × (kept_of s.key (noted_after (has_new left) (unless_kept x s) n).kept ≡ Some k)
+has_one : LastIsFound → (n : Noted) (left : Left) (x : Option State) (s : State) → kept_of s.key n.kept ≡ x → is_answer (unless_kept x s) left ≡ true
+    → (k : State) × (kept_of s.key (noted_after (has_new left) (unless_kept x s) n).kept ≡ Some k)
 has_one last n left (Some k) s h a = (k, h)
 has_one last n NoSave None s h a = cc
 has_one last n Saved None s h a = (s, last n.kept s h)
@@ -152,8 +164,11 @@ copy_oks_are_for last o past (Met f left) run server job h =
     let c = copied_by n r.request run server job r.sent in
     let s : State = c.0 in
     let answers : is_answer (addition_by n (Copy s)) left ≡ true = subst (λ x. is_answer (addition_by n x) left ≡ true) c.1 r.answers in
-    let k = has_one last n left (kept_of s.key n.kept) s refl answers in
-    (k.0, subst (λ (key : Key). kept_of key (words_noted o (Met f left ∷ past)).kept ≡ Some k.0) c.2 (ap (λ (m : Noted). kept_of s.key m.kept) (r.noted_is ∙ ap (λ x. noted_after (has_new left) (addition_by n x) n) c.1) ∙ k.1))
+    let k = has_one last n left (kept_of s.key n.kept) s refl answers in (
+      k.0,
+      subst (λ (key : Key). kept_of key (words_noted o (Met f left ∷ past)).kept
+          ≡ Some k.0) c.2 (ap (λ (m : Noted). kept_of s.key m.kept) (r.noted_is ∙ ap (λ x. noted_after (has_new left) (addition_by n x) n) c.1) ∙ k.1),
+    )
 copy_oks_are_for last o past Cut run server job h = absurd (none_in (to_client (bodies.CopyOk run server job)) h)
 copy_oks_are_for last o past Restart run server job h = absurd (none_in (to_client (bodies.CopyOk run server job)) h)
 
@@ -181,7 +196,8 @@ own_key last s = by (is_same_key s.key s.key) (last [] s refl)
 found_first : LastIsFound → (k s : State) (kept : List State) → k ≡ s → kept_of s.key (k ∷ kept) ≡ Some s
 found_first last k s kept e = subst (λ x. kept_of s.key (x ∷ kept) ≡ Some s) (sym e) (ap (λ b. if b then Some s else kept_of s.key kept) (own_key last s))
 
-found_behind : FoundHasItsKey → (k s : State) (kept : List State) (b : Bool) → is_same_key s.key k.key ≡ b → is_none (kept_of k.key kept) ≡ true → kept_of s.key kept ≡ Some s → (if b then Some k else kept_of s.key kept) ≡ Some s
+found_behind : FoundHasItsKey → (k s : State) (kept : List State) (b : Bool) → is_same_key s.key k.key ≡ b → is_none (kept_of k.key kept) ≡ true
+    → kept_of s.key kept ≡ Some s → (if b then Some k else kept_of s.key kept) ≡ Some s
 found_behind has k s kept false e none h = h
 found_behind has k s kept true e none h =
     let same : k.key ≡ s.key = has s.key (k ∷ []) k (ap (λ b. if b then Some k else None) e) in
@@ -202,4 +218,5 @@ found_apart has last (k ∷ kept) s h d =
     ]
 
 pub copies_are_kept : FoundHasItsKey → LastIsFound → KeysStayApart → CopiesAreKept
-copies_are_kept has last apart o past entry s i h = found_apart has last (words_noted o past).kept s (copies_are_noted o past entry s h) (keys_apart apart o past i.keys)
+copies_are_kept has last apart o past entry s i h =
+    found_apart has last (words_noted o past).kept s (copies_are_noted o past entry s h) (keys_apart apart o past i.keys)

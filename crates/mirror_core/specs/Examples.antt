@@ -55,24 +55,27 @@ kept_one = with_frames after_grant (client_says (bodies.Copy (state 2)) ∷ [])
 abbrev pub granted_next : List Entry
 granted_next = with_frames kept_one (client_says (bodies.Fetch 2) ∷ [])
 
--- A generation is saved before it is granted, and is granted again without a save; the kept states follow;
--- an older one is refused.
+-- A generation is saved before it is granted, and is granted again without a save; the kept states
+-- follow; an older one is refused.
 pub record Grants : Type 0 where
   pub saves : due blank after_opening (client_says (bodies.Fetch 1)) ≡ Some (Grant 1)
   pub first : sent_bodies after_opening (client_says (bodies.Fetch 1)) ≡ bodies.Granted 1 ∷ []
   pub saved_once : due blank kept_one (client_says (bodies.Fetch 1)) ≡ None
   pub again :
-      sent_bodies kept_one (client_says (bodies.Fetch 1)) ≡ bodies.Granted 1 ∷ (bodies.Copy (state 2) ∷ [])
+      sent_bodies kept_one (client_says (bodies.Fetch 1))
+      ≡ bodies.Granted 1 ∷ (bodies.Copy (state 2) ∷ [])
   pub saves_next : due blank kept_one (client_says (bodies.Fetch 2)) ≡ Some (Grant 2)
   pub next :
-      sent_bodies kept_one (client_says (bodies.Fetch 2)) ≡ bodies.Granted 2 ∷ (bodies.Copy (state 2) ∷ [])
+      sent_bodies kept_one (client_says (bodies.Fetch 2))
+      ≡ bodies.Granted 2 ∷ (bodies.Copy (state 2) ∷ [])
   pub old : refusal blank granted_next (client_says (bodies.Fetch 1)) ≡ Some Old
 
 -- A state is saved and then reported as kept, and again without a save; another state of its key is
 -- refused.
 pub record KeepsTheFirst : Type 0 where
   pub saves : due blank after_grant (client_says (bodies.Copy (state 2))) ≡ Some (Keep (state 2))
-  pub told : sent_bodies after_grant (client_says (bodies.Copy (state 2))) ≡ bodies.CopyOk 1 0 1 ∷ []
+  pub told : sent_bodies after_grant (client_says (bodies.Copy (state 2)))
+      ≡ bodies.CopyOk 1 0 1 ∷ []
   pub kept : kept_state blank kept_one (record { run = 1; server = 0; job = 1 }) ≡ Some (state 2)
   pub saved_once : due blank kept_one (client_says (bodies.Copy (state 2))) ≡ None
   pub again : sent_bodies kept_one (client_says (bodies.Copy (state 2))) ≡ bodies.CopyOk 1 0 1 ∷ []
@@ -81,12 +84,15 @@ pub record KeepsTheFirst : Type 0 where
 -- What isn't the client's, isn't the mirror's, is of another kind, or is a piece is misdirected.
 pub record TakesItsOwn : Type 0 where
   pub from_a_server :
-      refusal blank after_grant (Whole (record { from = nodes.Server 0; to = nodes.Mirror; body = bodies.Fetch 1 }))
+      refusal blank after_grant (Whole
+      (record { from = nodes.Server 0; to = nodes.Mirror; body = bodies.Fetch 1 }))
       ≡ Some Misdirected
   pub to_the_client :
-      refusal blank after_grant (Whole (record { from = nodes.Client; to = nodes.Client; body = bodies.Fetch 1 }))
+      refusal blank after_grant (Whole
+      (record { from = nodes.Client; to = nodes.Client; body = bodies.Fetch 1 }))
       ≡ Some Misdirected
-  pub of_another_kind : refusal blank after_grant (client_says (bodies.Granted 1)) ≡ Some Misdirected
+  pub of_another_kind : refusal blank after_grant (client_says (bodies.Granted 1))
+      ≡ Some Misdirected
   pub in_pieces :
       refusal blank after_grant (Piece (record {
         from = nodes.Client;
@@ -100,16 +106,19 @@ pub record TakesItsOwn : Type 0 where
 abbrev pub after_lost_copy : Left → List Entry
 after_lost_copy left = Met (client_says (bodies.Copy (state 2))) left ∷ after_grant
 
--- A mirror whose save failed sends nothing and is down until it is restarted; it then keeps the state where
--- the note has the new bytes. What only looks answers as before.
+-- A mirror whose save failed sends nothing and is down until it is restarted; it then keeps the
+-- state where the note has the new bytes. What only looks answers as before.
 pub record GoesDown : Type 0 where
-  pub sends_nothing : packets blank after_grant (Met (client_says (bodies.Copy (state 2))) LostNew) ≡ []
+  pub sends_nothing : packets blank after_grant (Met (client_says (bodies.Copy (state 2))) LostNew)
+      ≡ []
   pub off : is_on (after_lost_copy LostNew) ≡ false
   pub down : refusal blank (after_lost_copy LostNew) (client_says (bodies.Fetch 1)) ≡ Some Down
   pub looks : shown_entries (after_lost_copy LostNew) ≡ after_grant
-  pub has_new : due blank (Restart ∷ after_lost_copy LostNew) (client_says (bodies.Copy (state 2))) ≡ None
+  pub has_new : due blank (Restart ∷ after_lost_copy LostNew) (client_says (bodies.Copy (state 2)))
+      ≡ None
   pub has_old :
-      due blank (Restart ∷ after_lost_copy LostOld) (client_says (bodies.Copy (state 2))) ≡ Some (Keep (state 2))
+      due blank (Restart ∷ after_lost_copy LostOld) (client_says (bodies.Copy (state 2)))
+      ≡ Some (Keep (state 2))
 
 -- A cut loses neither the generation nor a state.
 pub record ForgetsNothing : Type 0 where

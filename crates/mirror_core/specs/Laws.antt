@@ -48,7 +48,8 @@ GenerationsRise =
 -- A state that is kept, and was not at the opening, came in a Copy of the client.
 abbrev pub KeptWasSent : Type 0
 KeptWasSent =
-    (o : Noted) (past : List Entry) (key : Key) (state : State) → kept_state o past key ≡ Some state →
+    (o : Noted) (past : List Entry) (key : Key) (state : State) →
+    kept_state o past key ≡ Some state →
     (kept_state o [] key ≡ Some state) ⊎ Contains (packets_come past) (from_client state)
 
 -- Each state in the note was there at the opening, or came in a Copy of the client.
@@ -92,7 +93,8 @@ GoesToClient p =
 -- So goes each packet.
 abbrev pub PacketsGoToTheClient : Type 0
 PacketsGoToTheClient =
-    (o : Noted) (past : List Entry) (entry : Entry) → AllByRecursion GoesToClient (packets o past entry)
+    (o : Noted) (past : List Entry) (entry : Entry)
+    → AllByRecursion GoesToClient (packets o past entry)
 
 -- A mirror that is on answers its looks from all that came.
 abbrev pub LooksAtAll : Type 0

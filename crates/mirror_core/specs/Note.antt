@@ -15,8 +15,8 @@ use Rattle.mirror_core.specs.declared.noted.Noted.{Noted}
 abbrev pub blank : Noted
 blank = record { generation = 0; kept = [] }
 
--- A note with these bytes of states: the magic, the generation, the number of states, and the states in
--- their order.
+-- A note with these bytes of states: the magic, the generation, the number of states, and the
+-- states in their order.
 unfoldable pub note_of : ℕ → List (List ℕ) → List ℕ
 note_of generation states =
     codes "FCM1" ++ (bytes_of w64 generation ++ counted_states states)
@@ -25,8 +25,8 @@ note_of generation states =
 abbrev pub spelling : Noted → List ℕ
 spelling n = note_of n.generation (map state_bytes n.kept)
 
--- What every note keeps: a generation that fits four bytes, and at most 1,024 states, all of different
--- keys.
+-- What every note keeps: a generation that fits four bytes, and at most 1,024 states, all of
+-- different keys.
 pub record IsNoted (n : Noted) : Type 0 where
   pub generation : n.generation ≤ MAX_GENERATION
   pub count : length n.kept ≤ KEPT_LIMIT

@@ -22,8 +22,8 @@ to_client body = record { from = nodes.Mirror; to = nodes.Client; body = body }
 abbrev pub copy_of : State → PacketParts
 copy_of state = to_client (bodies.Copy state)
 
--- What is replied to the client, by what was kept before: that the state of a key is kept; or that the
--- generation is granted, and then each kept state, in the order in which they came.
+-- What is replied to the client, by what was kept before: that the state of a key is kept; or that
+-- the generation is granted, and then each kept state, in the order in which they came.
 abbrev pub replies : Noted → Request → List PacketParts
 replies n (Copy state) =
     to_client (bodies.CopyOk state.key.run state.key.server state.key.job) ∷ []

@@ -10,8 +10,8 @@ use Rattle.mirror_core.specs.declared.request.Request.{Request}
 use Rattle.mirror_core.specs.declared.request.Request.TheVariants.{Copy, Fetch}
 use Rattle.mirror_core.specs.Requests.{request_in}
 
--- Why what is asked for is refused: another state of the key is kept, or there is no room for one more;
--- a greater generation was granted.
+-- Why what is asked for is refused: another state of the key is kept, or there is no room for one
+-- more; a greater generation was granted.
 abbrev pub faults_of_request : Noted → Request → List Fault
 faults_of_request n (Copy state) = faults_of_state n.kept state
 faults_of_request n (Fetch generation) = when (nat_lt generation n.generation) Old

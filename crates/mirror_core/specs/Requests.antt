@@ -11,8 +11,8 @@ use Rattle.messages.specs.Ranges.{is_generation}
 use Rattle.mirror_core.specs.declared.request.Request.{Request}
 use Rattle.mirror_core.specs.declared.request.Request.TheVariants.{Copy, Fetch}
 
--- What a packet asks for: a Copy, that its state is kept; a Fetch, that its generation is granted. No
--- other kind is for a mirror.
+-- What a packet asks for: a Copy, that its state is kept; a Fetch, that its generation is granted.
+-- No other kind is for a mirror.
 abbrev pub asked_by : Body → Option Request
 asked_by (bodies.Copy state) = Some (Copy state)
 asked_by (bodies.Fetch generation) = Some (Fetch generation)
@@ -22,8 +22,8 @@ asked_by _ = None
 abbrev pub is_for_mirror : PacketParts → Bool
 is_for_mirror p = is_mirror p.to && is_client p.from
 
--- What a frame asks of a mirror: nothing where it is a piece, or where its packet isn't for the mirror,
--- not from the client, or of another kind.
+-- What a frame asks of a mirror: nothing where it is a piece, or where its packet isn't for the
+-- mirror, not from the client, or of another kind.
 abbrev pub request_in : Frame → Option Request
 request_in (Whole p) = if is_for_mirror p then asked_by p.body else None
 request_in (Piece q) = None

@@ -25,11 +25,12 @@ abbrev pub unless_kept : Option State → State → Option Addition
 unless_kept None state = Some (Keep state)
 unless_kept (Some kept) state = None
 
--- What is added for what is asked for: a state of a key of which none is kept, or a generation that is
--- greater than the note's.
+-- What is added for what is asked for: a state of a key of which none is kept, or a generation that
+-- is greater than the note's.
 abbrev pub addition_by : Noted → Request → Option Addition
 addition_by n (Copy state) = unless_kept (kept_of state.key n.kept) state
-addition_by n (Fetch generation) = if nat_lt n.generation generation then Some (Grant generation) else None
+addition_by n (Fetch generation) =
+    if nat_lt n.generation generation then Some (Grant generation) else None
 
 -- What is added for a frame that isn't refused.
 abbrev pub addition_of : Noted → Option Request → Option Addition

@@ -9,9 +9,10 @@ use Rattle.mirror_core.specs.Note.{Says}
 use Rattle.mirror_core.specs.History.{Entry, Restart}
 use Rattle.mirror_core.specs.Words.{is_on, words_noted, shown_entries}
 
--- A mirror stands for a list where it is on as the list says, where the durable bytes say what the list
--- says, and where it knows of its note what that said before the first failed save.
-pub record StandsFor {T : Type 0} (note : T → Note) (mirror : Mirror T) (o : Noted) (past : List Entry) : Type 0 where
+-- A mirror stands for a list where it is on as the list says, where the durable bytes say what the
+-- list says, and where it knows of its note what that said before the first failed save.
+pub record StandsFor {T : Type 0} (note : T → Note) (mirror : Mirror T) (o : Noted)
+    (past : List Entry) : Type 0 where
   pub on : mirror.down ≡ not (is_on past)
   pub durable : Says (note mirror.notes).bytes (words_noted o past)
   pub knows : mirror.noted ≡ words_noted o (shown_entries past)
@@ -26,8 +27,8 @@ pub record Opens {T : Type 0} (note : T → Note) (old : Note) (mirror : Mirror 
       (o : Noted) (past : List Entry) → Says old.bytes (words_noted o past) →
       StandsFor note mirror o (Restart ∷ past)
 
--- Why no mirror is opened: the device failed, the bytes are no note, or memory ran out. The durable bytes
--- stay as they were.
+-- Why no mirror is opened: the device failed, the bytes are no note, or memory ran out. The durable
+-- bytes stay as they were.
 abbrev pub NotOpened : Note → Note → Fault → Type 0
 NotOpened old new LoadFault = (old.failures < new.failures) × (new.bytes ≡ old.bytes)
 NotOpened old new BadNote = (new ≡ old) × ((said : Noted) → Says old.bytes said → ⊥)

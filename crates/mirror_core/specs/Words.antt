@@ -1,5 +1,5 @@
--- The words of a mirror, each read from the list: whether it is on, what its note says, which frames it
--- refuses, and what they are due to save.
+-- The words of a mirror, each read from the list: whether it is on, what its note says, which
+-- frames it refuses, and what they are due to save.
 use Rattle.std.specs.Prelude.{ℕ, Bool, false, true, not, ◌&&◌, is_none, is_some, List, [], ◌∷◌, Option, if◌then◌else◌}
 use Rattle.fc_base.specs.declared.numbers.Key.{Key}
 use Rattle.fc_base.specs.declared.fault.Fault.{Fault}
@@ -20,8 +20,8 @@ is_on (Met f left ∷ past) = is_on past && not (is_lost left)
 is_on (Cut ∷ past) = false
 is_on (Restart ∷ past) = true
 
--- What the note says: what it said at the opening, and what was added by each save that left the new
--- bytes.
+-- What the note says: what it said at the opening, and what was added by each save that left the
+-- new bytes.
 abbrev pub words_noted : Noted → List Entry → Noted
 words_noted o [] = o
 words_noted o (Met f left ∷ past) =
@@ -53,7 +53,8 @@ generation o past = (words_noted o past).generation
 abbrev pub kept_state : Noted → List Entry → Key → Option State
 kept_state o past key = kept_of key (words_noted o past).kept
 
--- What the calls that only look answer from: all that came, but for what came from a failed save on.
+-- What the calls that only look answer from: all that came, but for what came from a failed save
+-- on.
 abbrev pub shown_entries : List Entry → List Entry
 shown_entries [] = []
 shown_entries (Met f left ∷ past) =

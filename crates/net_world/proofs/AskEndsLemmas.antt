@@ -50,12 +50,15 @@ met_here w t c h = rw h refl
 pub met_ok : (w : Setup) (t : List Step) (c : Call) (list : List client.Entry) → list ≡ of_client w t → words.refusal (client_opening w) list c ≡ None
     → met_by_client w t c ≡ Ok (OfClient (Happens (client.Met c (saved_for (words.due (client_opening w) list c)))))
 met_ok w t c list is =
-    subst (λ l. words.refusal (client_opening w) l c ≡ None → met_by_client w t c ≡ Ok (OfClient (Happens (client.Met c (saved_for (words.due (client_opening w) l c)))))) (sym is) (met_here w t c)
+    subst (λ l. words.refusal (client_opening w) l c ≡ None
+    → met_by_client w t c ≡ Ok (OfClient (Happens (client.Met c (saved_for (words.due (client_opening w) l c)))))) (sym is) (met_here w t c)
 
-err_here : (w : Setup) (t : List Step) (c : Call) (fault : Fault) → words.refusal (client_opening w) (of_client w t) c ≡ Some fault → met_by_client w t c ≡ Err fault
+err_here : (w : Setup) (t : List Step) (c : Call) (fault : Fault) → words.refusal (client_opening w) (of_client w t) c ≡ Some fault
+    → met_by_client w t c ≡ Err fault
 err_here w t c fault h = rw h refl
 
-pub met_err : (w : Setup) (t : List Step) (c : Call) (list : List client.Entry) (fault : Fault) → list ≡ of_client w t → words.refusal (client_opening w) list c ≡ Some fault → met_by_client w t c ≡ Err fault
+pub met_err : (w : Setup) (t : List Step) (c : Call) (list : List client.Entry) (fault : Fault) → list ≡ of_client w t
+    → words.refusal (client_opening w) list c ≡ Some fault → met_by_client w t c ≡ Err fault
 met_err w t c list fault is h = err_here w t c fault (ap (λ l. words.refusal (client_opening w) l c) (sym is) ∙ h)
 
 -- ---- an event that the client meets
@@ -75,34 +78,50 @@ no_act t (Some e) = refl
 pub client_act : (w : Setup) (past : List Change) (c : Coming client.Entry Left) → act w past (Met (OfClient c)) ≡ acts.None
 client_act w past c = no_act (trace w past) (entry_of (at_client w) (heard (at_client w) (frames.of_client w (steps past))) c)
 
-pub told_is : (w : Setup) (past : List Change) (e : Happening) (i : Input) (t : Told) (new : World) → IsAnswered w past i new t → answer_to (client_opening w) (entries w past) i ≡ answer w past e
+pub told_is : (w : Setup) (past : List Change) (e : Happening) (i : Input) (t : Told) (new : World) → IsAnswered w past i new t
+    → answer_to (client_opening w) (entries w past) i ≡ answer w past e
     → told_by w past e (Does (Met (step_by w past i))) ≡ Ok t
 told_is w past e i t new h is =
     ap (λ t. Ok t)
     (sym (h.told_is
-    ∙ ap (λ a. record { answer = a; first = length (frames_sent w (steps past)); sent = length (frames_of_step w (steps past) (step_by w past i)); act = acts.None }) is
-    ∙ ap (λ a. record { answer = answer w past e; first = length (frames_sent w (steps past)); sent = length (frames_of_step w (steps past) (step_by w past i)); act = a })
+    ∙ ap (λ a. record {
+      answer = a;
+      first = length (frames_sent w (steps past));
+      sent = length (frames_of_step w (steps past) (step_by w past i));
+      act = acts.None;
+    }) is
+    ∙ ap (λ a. record {
+      answer = answer w past e;
+      first = length (frames_sent w (steps past));
+      sent = length (frames_of_step w (steps past) (step_by w past i));
+      act = a;
+    })
     (sym (client_act w past (coming_of (answered_entry (client_opening w) (entries w past) i))))))
 
-answered_ends : (w : Setup) (past : List Change) (e : Happening) (i : Input) (t : Told) (new : World) → ComesToClient w past e i → ClientEnds w past i new (Ok t) → Ends w past e new (Ok t)
+answered_ends : (w : Setup) (past : List Change) (e : Happening) (i : Input) (t : Told) (new : World) → ComesToClient w past e i
+    → ClientEnds w past i new (Ok t) → Ends w past e new (Ok t)
 answered_ends w past e i t new c h =
     does w past e (Met (step_by w past i)) t new (goes w past e (c.bar ∙ h.on) ∙ c.ok h.free) (told_is w past e i t new h c.answers) h.stands
 
-refused_ends : (w : Setup) (past : List Change) (e : Happening) (i : Input) (fault : Fault) (new : World) → ComesToClient w past e i → IsBarred w past fault new ⊎ ClientRefuses w past i fault new
+refused_ends : (w : Setup) (past : List Change) (e : Happening) (i : Input) (fault : Fault) (new : World) → ComesToClient w past e i
+    → IsBarred w past fault new ⊎ ClientRefuses w past i fault new
     → (told_of_happening w past e ≡ Err fault) × StandsFor w (changes_after w past e) new
 refused_ends w past e i fault new c (inl b) = refusing w past e fault new (stops w past e fault (c.bar ∙ b.why)) b.unchanged
 refused_ends w past e i fault new c (inr r) = refusing w past e fault new (goes w past e (c.bar ∙ r.on) ∙ c.err fault r.why) (r.unchanged c.keeps)
 
-by_sort : (w : Setup) (past : List Change) (e : Happening) (i : Input) (fault : Fault) (new : World) → ComesToClient w past e i → (sort : FaultSort) → asking.Faults w past i sort fault new → ends.Faults w past e sort fault new
+by_sort : (w : Setup) (past : List Change) (e : Happening) (i : Input) (fault : Fault) (new : World) → ComesToClient w past e i → (sort : FaultSort)
+    → asking.Faults w past i sort fault new → ends.Faults w past e sort fault new
 by_sort w past e i fault new c sorts.Memory h = h
 by_sort w past e i fault new c sorts.Save h = h
 by_sort w past e i fault new c sorts.Refusal h = refused_ends w past e i fault new c h
 
-unanswered_ends : (w : Setup) (past : List Change) (e : Happening) (i : Input) (fault : Fault) (new : World) → ComesToClient w past e i → ClientEnds w past i new (Err fault) → Ends w past e new (Err fault)
+unanswered_ends : (w : Setup) (past : List Change) (e : Happening) (i : Input) (fault : Fault) (new : World) → ComesToClient w past e i
+    → ClientEnds w past i new (Err fault) → Ends w past e new (Err fault)
 unanswered_ends w past e i fault new c h = by_sort w past e i fault new c (sort_of fault) h
 
 -- A call of the client ends as the event that it comes from.
-pub asked_ends : (w : Setup) (past : List Change) (e : Happening) (i : Input) (result : Result Told Fault) (new : World) → ComesToClient w past e i → ClientEnds w past i new result → Ends w past e new result
+pub asked_ends : (w : Setup) (past : List Change) (e : Happening) (i : Input) (result : Result Told Fault) (new : World) → ComesToClient w past e i
+    → ClientEnds w past i new result → Ends w past e new result
 asked_ends w past e i (Ok t) new c h = answered_ends w past e i t new c h
 asked_ends w past e i (Err fault) new c h = unanswered_ends w past e i fault new c h
 
@@ -112,8 +131,10 @@ module _ (w : Setup) (past : List Change) where
   here : packets_heard (client_opening w) (entries w past) ≡ of_client w (trace w past)
   here = heard_is w past
 
-  ok_by : (e : Happening) (c : Call) → brings w past e ≡ outcome_of_step (met_by_client w (trace w past) c) → words.refusal (client_opening w) (packets_heard (client_opening w) (entries w past)) c ≡ None
-      → brings w past e ≡ Does (Met (OfClient (Happens (client.Met c (saved_for (words.due (client_opening w) (packets_heard (client_opening w) (entries w past)) c))))))
+  ok_by : (e : Happening) (c : Call) → brings w past e ≡ outcome_of_step (met_by_client w (trace w past) c)
+      → words.refusal (client_opening w) (packets_heard (client_opening w) (entries w past)) c ≡ None
+      → brings w past e ≡ Does (Met (OfClient (Happens (client.Met c
+      (saved_for (words.due (client_opening w) (packets_heard (client_opening w) (entries w past)) c))))))
   ok_by e c is free = is ∙ ap outcome_of_step (met_ok w (trace w past) c (packets_heard (client_opening w) (entries w past)) here free)
 
   err_by : (e : Happening) (c : Call) → brings w past e ≡ outcome_of_step (met_by_client w (trace w past) c) → (fault : Fault)

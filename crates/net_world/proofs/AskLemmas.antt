@@ -1,5 +1,6 @@
 -- What a call of the client comes to in a world.
-use Rattle.std.proofs.Common.{◌≡◌, refl, sym, ◌∙◌, ap, subst, inl, inr, ◌⊎◌, ℕ, ◌+◌, ◌*◌, true, false, List, [], ◌∷◌, ◌++◌, length, Option, Some, None, Result, Ok, Err, append-nil}
+use Rattle.std.proofs.Common.{◌≡◌, refl, sym, ◌∙◌, ap, subst, inl, inr, ◌⊎◌, ℕ, ◌+◌, ◌*◌, true, false}
+use Rattle.std.proofs.Common.{List, [], ◌∷◌, ◌++◌, length, Option, Some, None, Result, Ok, Err, append-nil}
 use Rattle.std.specs.Prelude.{map, slice_get, Vec}
 use Rattle.std.specs.declared.alloc.Global.{Global}
 use Rattle.std.proofs.lemmas.List.{length-map}
@@ -62,17 +63,20 @@ is_off w past h = ap (λ on. unless on NodeOff) (sym (up_is w past) ∙ h)
 
 -- ---- what is refused sends nothing
 
-none_sent : (o : client.Opening) (list : List client.Entry) (c : Call) (fault : Fault) → words.refusal o list c ≡ Some fault → answers.frames_by o list (Some (client.Met c NoSave)) ≡ []
+none_sent : (o : client.Opening) (list : List client.Entry) (c : Call) (fault : Fault) → words.refusal o list c ≡ Some fault
+    → answers.frames_by o list (Some (client.Met c NoSave)) ≡ []
 none_sent o list c fault h = rw h refl
 
-piece_sends : (o : client.Opening) (list : List client.Entry) (q : PieceParts) (m : Meaning) (fault : Fault) → answers.refusal_in o list (answers.sense_of q m) ≡ Some fault
+piece_sends : (o : client.Opening) (list : List client.Entry) (q : PieceParts) (m : Meaning) (fault : Fault)
+    → answers.refusal_in o list (answers.sense_of q m) ≡ Some fault
     → answers.frames_by o list (heard_by (rules o) NoSave m) ≡ []
 piece_sends o list q (Says p) fault h = none_sent o list (calls.Deliver p) fault h
 piece_sends o list q Waits fault h = refl
 piece_sends o list q Spoils fault h = refl
 piece_sends o list q Strays fault h = refl
 
-refused_sends : (o : client.Opening) (past : List FrameEntry) (e : Input) (fault : Fault) → answers.refusal o past e ≡ Some fault → answers.frames o past (Met e NoSave) ≡ []
+refused_sends : (o : client.Opening) (past : List FrameEntry) (e : Input) (fault : Fault) → answers.refusal o past e ≡ Some fault
+    → answers.frames o past (Met e NoSave) ≡ []
 refused_sends o past (inputs.Begin text) fault h = none_sent o (packets_heard o past) (calls.Begin text) fault h
 refused_sends o past (inputs.Trigger run act) fault h = none_sent o (packets_heard o past) (calls.Trigger run act) fault h
 refused_sends o past (inputs.Stop run) fault h = none_sent o (packets_heard o past) (calls.Stop run) fault h
@@ -104,7 +108,8 @@ pub record HasAsked (e : Input) (result : Result Asked Fault) (sent : List (List
 
 -- The client has made a step, for which its node stands and whose frames were added.
 pub client_passed : (w : Setup) (past : List Change) (e : FrameEntry) (sent : List (List ℕ)) (old new : World) → StandsFor w past old → HasPassed sent old new
-    → sent ≡ map frame_spelling (frames_of_step w (steps past) (step_of e)) → nodes.Stands (client_opening w) (e ∷ entries w past) new.client → IsGreatest new.mirror.greatest (handed_in (e ∷ entries w past)) → StandsFor w (changes.Met (step_of e) ∷ past) new
+    → sent ≡ map frame_spelling (frames_of_step w (steps past) (step_of e)) → nodes.Stands (client_opening w) (e ∷ entries w past) new.client
+    → IsGreatest new.mirror.greatest (handed_in (e ∷ entries w past)) → StandsFor w (changes.Met (step_of e) ∷ past) new
 client_passed w past e sent old new stands h is node_is greatest = record {
   some = stands.some;
   few = stands.few;
@@ -120,12 +125,14 @@ client_passed w past e sent old new stands h is node_is greatest = record {
 
 -- A step that hands in no generation.
 pub client_stepped : (w : Setup) (past : List Change) (e : FrameEntry) (sent : List (List ℕ)) (old new : World) → StandsFor w past old → HasMoved sent old new
-    → sent ≡ map frame_spelling (frames_of_step w (steps past) (step_of e)) → nodes.Stands (client_opening w) (e ∷ entries w past) new.client → handed_in (e ∷ entries w past) ≡ handed_in (entries w past) → StandsFor w (changes.Met (step_of e) ∷ past) new
+    → sent ≡ map frame_spelling (frames_of_step w (steps past) (step_of e)) → nodes.Stands (client_opening w) (e ∷ entries w past) new.client
+    → handed_in (e ∷ entries w past) ≡ handed_in (entries w past) → StandsFor w (changes.Met (step_of e) ∷ past) new
 client_stepped w past e sent old new stands h is node_is none =
     client_passed w past e sent old new stands
     (record { sent_is = h.sent_is; servers_are = h.servers_are; files_are = h.files_are; node_is = ap (λ (m : Mirrored). m.node) h.mirror_is })
     is node_is
-    (subst (IsGreatest new.mirror.greatest) (sym none) (subst (λ (m : Mirrored). IsGreatest m.greatest (handed_in (entries w past))) (sym h.mirror_is) stands.greatest_is))
+    (subst (IsGreatest new.mirror.greatest) (sym none) (subst (λ (m : Mirrored). IsGreatest m.greatest (handed_in (entries w past)))
+    (sym h.mirror_is) stands.greatest_is))
 
 -- The client stands for what it did, and nothing was sent.
 pub client_kept : (w : Setup) (past : List Change) (old new : World) → StandsFor w past old → HasMoved [] old new
@@ -143,11 +150,13 @@ client_kept w past old new stands h node_is = record {
   files_are = λ s j disk l at. stands.files_are s j disk l (ap (λ (v : Vec MemDisk Global). slice_get v.items (MAX_JOBS * s + j)) (sym h.files_are) ∙ at);
 }
 
-same_told : (first first' sent' : ℕ) (asked : Asked) (answer : WorldAnswer) → first ≡ first' → length asked.frames ≡ sent' → asked.answer ≡ answer → told_of first asked ≡ record { answer = answer; first = first'; sent = sent'; act = acts.None }
+same_told : (first first' sent' : ℕ) (asked : Asked) (answer : WorldAnswer) → first ≡ first' → length asked.frames ≡ sent' → asked.answer ≡ answer
+    → told_of first asked ≡ record { answer = answer; first = first'; sent = sent'; act = acts.None }
 same_told first first' sent' asked answer f k a = rw (f, k, a) refl
 
 -- It is answered.
-pub answered : (w : Setup) (past : List Change) (e : Input) (asked : Asked) (first : ℕ) (told : Told) (old new : World) → StandsFor w past old → HasAsked e (Ok asked) asked.frames old new
+pub answered : (w : Setup) (past : List Change) (e : Input) (asked : Asked) (first : ℕ) (told : Told) (old new : World) → StandsFor w past old
+    → HasAsked e (Ok asked) asked.frames old new
     → first ≡ length (sent_in old.sent) → told ≡ told_of first asked → ClientEnds w past e new (Ok told)
 answered w past e asked first told old new stands h is tells =
     let o = client_opening w in
@@ -168,7 +177,8 @@ answered w past e asked first told old new stands h is tells =
     }
 
 refused : (w : Setup) (past : List Change) (e : Input) (fault : Fault) (old new : World) → StandsFor w past old → HasAsked e (Err fault) [] old new
-    → any_node.IsOff (client_nodes (client_opening w)) (entries w past) fault new.client ⊎ any_node.Refuses (client_nodes (client_opening w)) (entries w past) e fault new.client
+    → any_node.IsOff (client_nodes (client_opening w)) (entries w past) fault new.client
+    ⊎ any_node.Refuses (client_nodes (client_opening w)) (entries w past) e fault new.client
     → IsBarred w past fault new ⊎ Refuses w past e fault new
 refused w past e fault old new stands h (inl off) =
     inl (record { why = is_off w past off.off ∙ ap Some (sym off.why); unchanged = client_kept w past old new stands h.moved off.unchanged })
@@ -189,5 +199,7 @@ by_sort w past e fault old new stands h sorts.Save f = f
 by_sort w past e fault old new stands h sorts.Refusal f = refused w past e fault old new stands h f
 
 -- It isn't answered.
-pub unanswered : (w : Setup) (past : List Change) (e : Input) (fault : Fault) (old new : World) → StandsFor w past old → HasAsked e (Err fault) [] old new → ClientEnds w past e new (Err fault)
-unanswered w past e fault old new stands h = by_sort w past e fault old new stands h (sort_of fault) (h.asks (client_opening w) (entries w past) stands.client_is)
+pub unanswered : (w : Setup) (past : List Change) (e : Input) (fault : Fault) (old new : World) → StandsFor w past old → HasAsked e (Err fault) [] old new
+    → ClientEnds w past e new (Err fault)
+unanswered w past e fault old new stands h =
+    by_sort w past e fault old new stands h (sort_of fault) (h.asks (client_opening w) (entries w past) stands.client_is)

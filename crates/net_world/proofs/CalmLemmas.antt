@@ -5,7 +5,8 @@ use Rattle.std.specs.Prelude.{if◌then◌else◌, slice_get, nat_lt, not, is_so
 use Rattle.std.specs.List.{list_all}
 use Rattle.std.specs.Option.{option_or}
 use Rattle.fc_base.specs.declared.fault.Fault.{Fault}
-use Rattle.fc_base.specs.declared.fault.Fault.TheVariants.{Conflict, NoServer, NoMirror, NodeOff, NodeOn, NoWrite, NumbersSpent, BadGeneration, UsedGeneration, JobTooLong, NoSuchRun, Down}
+use Rattle.fc_base.specs.declared.fault.Fault.TheVariants.{Conflict, NoServer, NoMirror, NodeOff, NodeOn, NoWrite, NumbersSpent}
+use Rattle.fc_base.specs.declared.fault.Fault.TheVariants.{BadGeneration, UsedGeneration, JobTooLong, NoSuchRun, Down}
 use Rattle.fc_base.specs.declared.limits.TheConstants.{MAX_JOBS}
 use Rattle.fc_base.specs.Faults.{when}
 use Rattle.messages.specs.declared.frame.Frame.{Frame}
@@ -14,7 +15,8 @@ use Rattle.messages.specs.declared.node.Node.TheVariants.{Server, Client, Mirror
 use Rattle.messages.specs.Ranges.{is_text, is_generation}
 use Rattle.server_core.specs.declared.event.Event.{Event}
 use Rattle.server_core.specs.History as server
-use Rattle.server_core.specs.Request.{Request, ToStage, ToStart, ToTrigger, ToMark, ToStop, ToVerify, ToHold, ToPassFully, ToIssue, ToEnd, ToReport, ToNobody, request_of}
+use Rattle.server_core.specs.Request.{Request, ToStage, ToStart, ToTrigger, ToMark, ToStop, ToVerify}
+use Rattle.server_core.specs.Request.{ToHold, ToPassFully, ToIssue, ToEnd, ToReport, ToNobody, request_of}
 use Rattle.server_core.specs.Words as servers
 use Rattle.server_core.specs.Replies.{Now}
 use Rattle.server_core.specs.Check.{progress_in}
@@ -26,12 +28,14 @@ use Rattle.client_core.specs.Refusals.{has_next, is_begun}
 use Rattle.client_core.specs.Laws.{generations}
 use Rattle.client_core.specs.Words as clients
 use Rattle.net_world.specs.Setup.{Setup}
-use Rattle.net_world.specs.Happenings.{Happening, Begin, Trigger, StopRun, Verify, Tick, Deliver, Issue, Land, Done, Fail, Rot, Cut, Restart, LoseNote, Renew, CutIn}
+use Rattle.net_world.specs.Happenings.{Happening, Begin, Trigger, StopRun, Verify, Tick, Deliver, Issue}
+use Rattle.net_world.specs.Happenings.{Land, Done, Fail, Rot, Cut, Restart, LoseNote, Renew, CutIn}
 use Rattle.net_world.specs.Happenings as happenings
 use Rattle.net_world.specs.Trace.{Step, of_client, opening_of, client_opening}
 use Rattle.net_world.specs.Frames.{FrameStep, to_of}
 use Rattle.net_world.specs.Writes.{open_at}
-use Rattle.net_world.specs.Barred.{unless, no_mirror, is_on, unless_on, unless_off, unless_sent, unless_open, no_file, unless_losable, unless_unused, barring_fault}
+use Rattle.net_world.specs.Barred.{unless, no_mirror, is_on, unless_on, unless_off, unless_sent}
+use Rattle.net_world.specs.Barred.{unless_open, no_file, unless_losable, unless_unused, barring_fault}
 use Rattle.net_world.specs.Outcomes.{Outcome, Refuses, outcome_of_step, unless_fault, where_saved, unless_barred}
 
 -- ---- no such refusal
@@ -119,7 +123,8 @@ fine_unlosable w t = fine_both (no_mirror w) (unless_off w t Client) (fine_one w
 
 pub fine_unfit : (w : Setup) (t : List Step) (g : ℕ) → Fine (unless_unused w t g)
 unfolding Fine
-fine_unfit w t g = fine_two (is_generation g) (list_all (λ earlier. nat_lt earlier g) (generations (of_client w t))) BadGeneration UsedGeneration (λ h. cc) (λ h. cc)
+fine_unfit w t g =
+    fine_two (is_generation g) (list_all (λ earlier. nat_lt earlier g) (generations (of_client w t))) BadGeneration UsedGeneration (λ h. cc) (λ h. cc)
 
 pub fine_bar : (w : Setup) (t : List Step) (fs : List Frame) (e : Happening) → Fine (barring_fault w t fs e)
 unfolding Fine
@@ -186,7 +191,8 @@ fine_if true x f h = f h
 fine_if false x f h = cc
 
 pub fine_server : (s : ℕ) (list : List server.Entry) (e : Event) → Fine (answers.refusal (opening_of s) list e)
-fine_server s list e = fine_if (servers.is_on list) (answers.refusal_of (answers.now (opening_of s) list) (request_of s e)) (fine_asked (answers.now (opening_of s) list) (request_of s e))
+fine_server s list e = fine_if (servers.is_on list) (answers.refusal_of (answers.now (opening_of s) list) (request_of s e))
+    (fine_asked (answers.now (opening_of s) list) (request_of s e))
 
 -- ---- what the client refuses, but for what comes
 
@@ -222,9 +228,15 @@ fine_tick false h = cc
 
 pub fine_call : (w : Setup) (list : List client.Entry) (c : Call) → NoPacket c → Fine (clients.refusal (client_opening w) list c)
 unfolding Fine NoPacket
-fine_call w list (calls.Begin text) k = fine_two_when (not (clients.is_on list)) (not (is_text text)) (not (has_next (clients.peers (client_opening w) list) (clients.words_noted (client_opening w) list).generation (clients.words_noted (client_opening w) list).runs)) JobTooLong NumbersSpent (λ h. cc) (λ h. cc)
-fine_call w list (calls.Trigger run act) k = fine_one_when (not (clients.is_on list)) (not (is_begun (clients.words_noted (client_opening w) list) run)) NoSuchRun (λ h. cc)
-fine_call w list (calls.Stop run) k = fine_one_when (not (clients.is_on list)) (not (is_begun (clients.words_noted (client_opening w) list) run)) NoSuchRun (λ h. cc)
-fine_call w list (calls.Verify run text) k = fine_three_when (not (clients.is_on list)) (not (is_begun (clients.words_noted (client_opening w) list) run)) (not (is_text text)) (not (has_next (clients.peers (client_opening w) list) (clients.words_noted (client_opening w) list).generation (clients.words_noted (client_opening w) list).attempts))
+fine_call w list (calls.Begin text) k = fine_two_when (not (clients.is_on list)) (not (is_text text))
+    (not (has_next (clients.peers (client_opening w) list) (clients.words_noted (client_opening w) list).generation
+    (clients.words_noted (client_opening w) list).runs)) JobTooLong NumbersSpent (λ h. cc) (λ h. cc)
+fine_call w list (calls.Trigger run act) k =
+    fine_one_when (not (clients.is_on list)) (not (is_begun (clients.words_noted (client_opening w) list) run)) NoSuchRun (λ h. cc)
+fine_call w list (calls.Stop run) k =
+    fine_one_when (not (clients.is_on list)) (not (is_begun (clients.words_noted (client_opening w) list) run)) NoSuchRun (λ h. cc)
+fine_call w list (calls.Verify run text) k = fine_three_when (not (clients.is_on list)) (not (is_begun (clients.words_noted (client_opening w) list) run))
+    (not (is_text text)) (not (has_next (clients.peers (client_opening w) list) (clients.words_noted (client_opening w) list).generation
+    (clients.words_noted (client_opening w) list).attempts))
 fine_call w list (calls.Deliver p) k = absurd k
 fine_call w list calls.Tick k = fine_tick (not (clients.is_on list))

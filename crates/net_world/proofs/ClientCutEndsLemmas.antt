@@ -32,7 +32,8 @@ use Rattle.net_world.specs.Frames.{OfClient, frames_sent, frames_of_step}
 use Rattle.net_world.specs.Changes as changes
 use Rattle.net_world.specs.Changes.{Change, steps, trace}
 use Rattle.net_world.specs.Barred.{unless_on, unless, barring_fault}
-use Rattle.net_world.specs.Outcomes.{Does, Refuses, outcome_of_step, client_cut_in, client_frame_cut, delivery_cut_in, frame_cut, said_to_client, brings, lost_by}
+use Rattle.net_world.specs.Outcomes.{Does, Refuses, outcome_of_step, client_cut_in, client_frame_cut}
+use Rattle.net_world.specs.Outcomes.{delivery_cut_in, frame_cut, said_to_client, brings, lost_by}
 use Rattle.net_world.specs.World.{answer, act}
 use Rattle.net_world.specs.declared.told.WorldAnswer.TheVariants.{Plain}
 use Rattle.net_world.specs.Setup.{Setup}
@@ -61,8 +62,10 @@ pub record CutsClient (w : Setup) (past : List Change) (landed : Bool) (e : Happ
   pub asks : act w past (changes.Met (step_of (Met i (lost_by landed)))) ≡ acts.None
 
 -- It was cut.
-pub cut_ends : (w : Setup) (past : List Change) (landed : Bool) (e : Happening) (i : Input) (first : ℕ) (t : Told) (old new : World) → StandsFor w past old → HasMoved [] old new → CutsClient w past landed e i
-    → CutsIn (client_nodes (client_opening w)) (entries w past) landed i new.client (Ok tt) → first ≡ length (sent_in old.sent) → t ≡ plainly_told first → Ends w past e new (Ok t)
+pub cut_ends : (w : Setup) (past : List Change) (landed : Bool) (e : Happening) (i : Input) (first : ℕ) (t : Told) (old new : World) → StandsFor w past old
+    → HasMoved [] old new → CutsClient w past landed e i
+    → CutsIn (client_nodes (client_opening w)) (entries w past) landed i new.client (Ok tt) → first ≡ length (sent_in old.sent) → t ≡ plainly_told first
+    → Ends w past e new (Ok t)
 cut_ends w past landed e i first t old new stands moved c cut f tells =
     plain_ends w past e (Met i (lost_by landed)) first t old new stands moved cut.2
     (record {
@@ -73,12 +76,15 @@ cut_ends w past landed e i first t old new stands moved c cut f tells =
     }) refl f tells
 
 -- It wasn't.
-pub uncut_ends : (w : Setup) (past : List Change) (landed : Bool) (e : Happening) (i : Input) (fault : Fault) (old new : World) → StandsFor w past old → HasMoved [] old new → CutsClient w past landed e i
+pub uncut_ends : (w : Setup) (past : List Change) (landed : Bool) (e : Happening) (i : Input) (fault : Fault) (old new : World) → StandsFor w past old
+    → HasMoved [] old new → CutsClient w past landed e i
     → CutsIn (client_nodes (client_opening w)) (entries w past) landed i new.client (Err fault) → Ends w past e new (Err fault)
 uncut_ends w past landed e i NodeOff old new stands moved c cut =
-    refuses w past e NodeOff new refl (stops w past e NodeOff (c.bar ∙ ap (λ on. unless on NodeOff) (sym (up_is w past) ∙ cut.0))) (client_kept w past old new stands moved cut.1)
+    refuses w past e NodeOff new refl (stops w past e NodeOff (c.bar ∙ ap (λ on. unless on NodeOff) (sym (up_is w past) ∙ cut.0)))
+    (client_kept w past old new stands moved cut.1)
 uncut_ends w past landed e i NoSave old new stands moved c cut =
-    refuses w past e NoSave new refl (goes w past e (c.bar ∙ ap (λ on. unless on NodeOff) (sym (up_is w past) ∙ cut.0)) ∙ c.none cut.1) (client_kept w past old new stands moved cut.2)
+    refuses w past e NoSave new refl (goes w past e (c.bar ∙ ap (λ on. unless on NodeOff) (sym (up_is w past) ∙ cut.0)) ∙ c.none cut.1)
+    (client_kept w past old new stands moved cut.2)
 uncut_ends w past landed e i NoMemory old new stands moved c cut = (refl, client_kept w past old new stands moved cut.1)
 uncut_ends w past landed e i _ old new stands moved c cut = absurd cut
 
@@ -93,9 +99,11 @@ no_answer false x landed = refl
 
 call_silent : (o : client.Opening) (list : List client.Entry) (c : Call) (landed : Bool) → framed.frames_by o list (Some (client.Met c (lost_by landed))) ≡ []
 call_silent o list c landed =
-    ap (λ b. flat_map frames_of (if b then packets_for (words.peers o list) (words.words_noted o list) (life o list) c else [])) (no_answer (is_none (words.refusal o list c)) (words.due o list c) landed)
+    ap (λ b. flat_map frames_of (if b then packets_for (words.peers o list) (words.words_noted o list) (life o list) c else []))
+    (no_answer (is_none (words.refusal o list c)) (words.due o list c) landed)
 
-piece_silent : (o : client.Opening) (list : List client.Entry) (landed : Bool) (m : Meaning) → framed.frames_by o list (heard_by (rules o) (lost_by landed) m) ≡ []
+piece_silent : (o : client.Opening) (list : List client.Entry) (landed : Bool) (m : Meaning)
+    → framed.frames_by o list (heard_by (rules o) (lost_by landed) m) ≡ []
 piece_silent o list landed (Says p) = call_silent o list (calls.Deliver p) landed
 piece_silent o list landed Waits = refl
 piece_silent o list landed Spoils = refl
@@ -110,7 +118,8 @@ module _ (w : Setup) (past : List Change) (landed : Bool) where
       ap outcome_of_step (some_save (words.due (client_opening w) (of_client w (trace w past)) c) (OfClient (Happens (client.Met c (lost_by landed))))
       (ap (λ l. is_some (words.due (client_opening w) l c)) (sym (heard_is w past)) ∙ h))
 
-  call_none : (c : Call) → is_some (words.due (client_opening w) (packets_heard (client_opening w) (entries w past)) c) ≡ false → outcome_of_step (client_cut_in w (trace w past) landed c) ≡ Refuses NoSave
+  call_none : (c : Call) → is_some (words.due (client_opening w) (packets_heard (client_opening w) (entries w past)) c) ≡ false
+      → outcome_of_step (client_cut_in w (trace w past) landed c) ≡ Refuses NoSave
   call_none c h =
       ap outcome_of_step (no_save (words.due (client_opening w) (of_client w (trace w past)) c) (OfClient (Happens (client.Met c (lost_by landed))))
       (ap (λ l. is_some (words.due (client_opening w) l c)) (sym (heard_is w past)) ∙ h))
@@ -121,7 +130,8 @@ module _ (w : Setup) (past : List Change) (landed : Bool) where
     saves = call_saves (calls.Begin text);
     none = call_none (calls.Begin text);
     answered = refl;
-    silent = sym (frames_are w past (Met (inputs.Begin text) (lost_by landed))) ∙ call_silent (client_opening w) (packets_heard (client_opening w) (entries w past)) (calls.Begin text) landed;
+    silent = sym (frames_are w past (Met (inputs.Begin text) (lost_by landed)))
+        ∙ call_silent (client_opening w) (packets_heard (client_opening w) (entries w past)) (calls.Begin text) landed;
     asks = refl;
   }
 
@@ -131,18 +141,21 @@ module _ (w : Setup) (past : List Change) (landed : Bool) where
     saves = call_saves (calls.Verify run text);
     none = call_none (calls.Verify run text);
     answered = refl;
-    silent = sym (frames_are w past (Met (inputs.Verify run text) (lost_by landed))) ∙ call_silent (client_opening w) (packets_heard (client_opening w) (entries w past)) (calls.Verify run text) landed;
+    silent = sym (frames_are w past (Met (inputs.Verify run text) (lost_by landed)))
+        ∙ call_silent (client_opening w) (packets_heard (client_opening w) (entries w past)) (calls.Verify run text) landed;
     asks = refl;
   }
 
   -- A frame's packet.
-  said_saves : (f : Frame) (p : PacketParts) → is_some (words.due (client_opening w) (packets_heard (client_opening w) (entries w past)) (calls.Deliver p)) ≡ true
+  said_saves : (f : Frame) (p : PacketParts) → is_some (words.due (client_opening w) (packets_heard (client_opening w) (entries w past)) (calls.Deliver p))
+      ≡ true
       → client_frame_cut w (trace w past) landed f (Says p) ≡ Ok (OfClient (Comes f (lost_by landed)))
   said_saves f p h =
       some_save (words.due (client_opening w) (of_client w (trace w past)) (calls.Deliver p)) (OfClient (Comes f (lost_by landed)))
       (ap (λ l. is_some (words.due (client_opening w) l (calls.Deliver p))) (sym (heard_is w past)) ∙ h)
 
-  said_none : (f : Frame) (p : PacketParts) → is_some (words.due (client_opening w) (packets_heard (client_opening w) (entries w past)) (calls.Deliver p)) ≡ false
+  said_none : (f : Frame) (p : PacketParts) → is_some (words.due (client_opening w) (packets_heard (client_opening w) (entries w past)) (calls.Deliver p))
+      ≡ false
       → client_frame_cut w (trace w past) landed f (Says p) ≡ Err NoSave
   said_none f p h =
       no_save (words.due (client_opening w) (of_client w (trace w past)) (calls.Deliver p)) (OfClient (Comes f (lost_by landed)))
@@ -178,10 +191,13 @@ module _ (w : Setup) (past : List Change) (landed : Bool) where
 
   frame_silent : (f : Frame) → framed.frames (client_opening w) (entries w past) (Met (inputs.Deliver f) (lost_by landed)) ≡ []
   frame_silent (Whole p) = call_silent (client_opening w) (packets_heard (client_opening w) (entries w past)) (calls.Deliver p) landed
-  frame_silent (Piece q) = piece_silent (client_opening w) (packets_heard (client_opening w) (entries w past)) landed (meaning (rules (client_opening w)) (heard_at (client_opening w) (entries w past)) (Piece q))
+  frame_silent (Piece q) = piece_silent (client_opening w) (packets_heard (client_opening w) (entries w past)) landed
+      (meaning (rules (client_opening w)) (heard_at (client_opening w) (entries w past)) (Piece q))
 
-  brings_is : (number : ℕ) (f : Frame) → GoesTo w past number f → brings w past (CutIn landed (Deliver number)) ≡ outcome_of_step (client_frame_cut w (trace w past) landed f (said_to_client w (steps past) f))
-  brings_is number f g = ap (λ x. outcome_of_step (delivery_cut_in w past landed x)) g.is_sent ∙ ap (λ node. outcome_of_step (frame_cut w past landed node f)) g.goes_to
+  brings_is : (number : ℕ) (f : Frame) → GoesTo w past number f
+      → brings w past (CutIn landed (Deliver number)) ≡ outcome_of_step (client_frame_cut w (trace w past) landed f (said_to_client w (steps past) f))
+  brings_is number f g =
+      ap (λ x. outcome_of_step (delivery_cut_in w past landed x)) g.is_sent ∙ ap (λ node. outcome_of_step (frame_cut w past landed node f)) g.goes_to
 
   pub cuts_delivery : (number : ℕ) (f : Frame) → GoesTo w past number f → CutsClient w past landed (CutIn landed (Deliver number)) (inputs.Deliver f)
   cuts_delivery number f g = record {

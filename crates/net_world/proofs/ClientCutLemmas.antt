@@ -33,10 +33,12 @@ use Rattle.net_world.proofs.NodeLemmas.{Saves, never}
 said : Opening → List FrameEntry → Noted
 said o past = words_noted o (packets_heard o past)
 
-call_left : (o : Opening) (list : List client.Entry) (c : Call) (a b : Left) → has_new a ≡ has_new b → words_noted o (client.Met c a ∷ list) ≡ words_noted o (client.Met c b ∷ list)
+call_left : (o : Opening) (list : List client.Entry) (c : Call) (a b : Left) → has_new a ≡ has_new b
+    → words_noted o (client.Met c a ∷ list) ≡ words_noted o (client.Met c b ∷ list)
 call_left o list c a b h = ap (λ new. noted_after new (words.due o list c) (words_noted o list)) h
 
-piece_left : (o : Opening) (list : List client.Entry) (a b : Left) (m : Meaning) → has_new a ≡ has_new b → words_noted o (with_entry (heard_by (rules o) a m) list) ≡ words_noted o (with_entry (heard_by (rules o) b m) list)
+piece_left : (o : Opening) (list : List client.Entry) (a b : Left) (m : Meaning) → has_new a ≡ has_new b
+    → words_noted o (with_entry (heard_by (rules o) a m) list) ≡ words_noted o (with_entry (heard_by (rules o) b m) list)
 piece_left o list a b (Says p) h = call_left o list (calls.Deliver p) a b h
 piece_left o list a b Waits h = refl
 piece_left o list a b Spoils h = refl
@@ -79,13 +81,15 @@ falls true true h = refl
 falls false true h = refl
 falls on false h = absurd cc
 
-piece_falls : (o : Opening) (list : List client.Entry) (q : PieceParts) (left : Left) (m : Meaning) → is_lost left ≡ true → is_some (due_in o list (sense_of q m)) ≡ true → words.is_on (with_entry (heard_by (rules o) left m) list) ≡ false
+piece_falls : (o : Opening) (list : List client.Entry) (q : PieceParts) (left : Left) (m : Meaning) → is_lost left ≡ true
+    → is_some (due_in o list (sense_of q m)) ≡ true → words.is_on (with_entry (heard_by (rules o) left m) list) ≡ false
 piece_falls o list q left (Says p) h d = falls (words.is_on list) (is_lost left) h
 piece_falls o list q left Waits h d = absurd cc
 piece_falls o list q left Spoils h d = absurd cc
 piece_falls o list q left Strays h d = absurd cc
 
-down : (o : Opening) (past : List FrameEntry) (e : Input) (left : Left) → is_lost left ≡ true → is_some (due o past e) ≡ true → is_up o (Met e left ∷ past) ≡ false
+down : (o : Opening) (past : List FrameEntry) (e : Input) (left : Left) → is_lost left ≡ true → is_some (due o past e) ≡ true
+    → is_up o (Met e left ∷ past) ≡ false
 down o past (inputs.Begin text) left h d = falls (is_up o past) (is_lost left) h
 down o past (inputs.Trigger run act) left h d = falls (is_up o past) (is_lost left) h
 down o past (inputs.Stop run) left h d = falls (is_up o past) (is_lost left) h
@@ -96,7 +100,8 @@ down o past inputs.Tick left h d = falls (is_up o past) (is_lost left) h
 
 -- ---- a node that is off stands for each list that says so, with what its note says
 
-off_again : (o : Opening) (a b : List FrameEntry) (node : ClientNode) → Stands o a node → is_up o a ≡ false → is_up o b ≡ false → said o a ≡ said o b → Stands o b node
+off_again : (o : Opening) (a b : List FrameEntry) (node : ClientNode) → Stands o a node → is_up o a ≡ false → is_up o b ≡ false → said o a ≡ said o b
+    → Stands o b node
 unfolding said
 off_again o a b (On client) s up off same = absurd (never (is_up o a) s.1 up)
 off_again o a b (Off notes) s up off same = (

@@ -53,19 +53,24 @@ says_here : (w : Setup) (t : List Step) (f : Frame) (p : PacketParts) → words.
 unfolding come
 says_here w t f p h = rw h refl
 
-says_ok : (w : Setup) (t : List Step) (f : Frame) (p : PacketParts) (list : List client.Entry) → list ≡ of_client w t → words.refusal (client_opening w) list (calls.Deliver p) ≡ None
+says_ok : (w : Setup) (t : List Step) (f : Frame) (p : PacketParts) (list : List client.Entry) → list ≡ of_client w t
+    → words.refusal (client_opening w) list (calls.Deliver p) ≡ None
     → comes_to_client w t f (Says p) ≡ come f (saved_for (words.due (client_opening w) list (calls.Deliver p)))
 says_ok w t f p list is =
-    subst (λ l. words.refusal (client_opening w) l (calls.Deliver p) ≡ None → comes_to_client w t f (Says p) ≡ come f (saved_for (words.due (client_opening w) l (calls.Deliver p)))) (sym is) (says_here w t f p)
+    subst (λ l. words.refusal (client_opening w) l (calls.Deliver p) ≡ None
+    → comes_to_client w t f (Says p) ≡ come f (saved_for (words.due (client_opening w) l (calls.Deliver p)))) (sym is) (says_here w t f p)
 
-refused_here : (w : Setup) (t : List Step) (f : Frame) (p : PacketParts) (fault : Fault) → words.refusal (client_opening w) (of_client w t) (calls.Deliver p) ≡ Some fault → comes_to_client w t f (Says p) ≡ Refuses fault
+refused_here : (w : Setup) (t : List Step) (f : Frame) (p : PacketParts) (fault : Fault)
+    → words.refusal (client_opening w) (of_client w t) (calls.Deliver p) ≡ Some fault → comes_to_client w t f (Says p) ≡ Refuses fault
 refused_here w t f p fault h = rw h refl
 
-says_err : (w : Setup) (t : List Step) (f : Frame) (p : PacketParts) (list : List client.Entry) (fault : Fault) → list ≡ of_client w t → words.refusal (client_opening w) list (calls.Deliver p) ≡ Some fault
+says_err : (w : Setup) (t : List Step) (f : Frame) (p : PacketParts) (list : List client.Entry) (fault : Fault) → list ≡ of_client w t
+    → words.refusal (client_opening w) list (calls.Deliver p) ≡ Some fault
     → comes_to_client w t f (Says p) ≡ Refuses fault
 says_err w t f p list fault is h = refused_here w t f p fault (ap (λ l. words.refusal (client_opening w) l (calls.Deliver p)) (sym is) ∙ h)
 
-piece_ok : (w : Setup) (t : List Step) (q : PieceParts) (list : List client.Entry) → list ≡ of_client w t → (m : Meaning) → refusal_in (client_opening w) list (sense_of q m) ≡ None
+piece_ok : (w : Setup) (t : List Step) (q : PieceParts) (list : List client.Entry) → list ≡ of_client w t → (m : Meaning)
+    → refusal_in (client_opening w) list (sense_of q m) ≡ None
     → comes_to_client w t (Piece q) m ≡ come (Piece q) (saved_for (due_in (client_opening w) list (sense_of q m)))
 unfolding come
 piece_ok w t q list is (Says p) h = says_ok w t (Piece q) p list is h
@@ -77,7 +82,8 @@ piece_ok w t q list is Strays h = absurd (misses (words.is_on list) h)
 DroppedOr : Frame → Fault → Bool → Outcome → Type 0
 DroppedOr f fault drops out = ((drops ≡ false) × (out ≡ Refuses fault)) ⊎ ((drops ≡ true) × (fault ≡ FrameBadField) × (out ≡ Drops (OfClient (Comes f NoSave))))
 
-piece_err : (w : Setup) (t : List Step) (q : PieceParts) (list : List client.Entry) (fault : Fault) → list ≡ of_client w t → words.is_on list ≡ true → (m : Meaning) → refusal_in (client_opening w) list (sense_of q m) ≡ Some fault
+piece_err : (w : Setup) (t : List Step) (q : PieceParts) (list : List client.Entry) (fault : Fault) → list ≡ of_client w t → words.is_on list ≡ true
+    → (m : Meaning) → refusal_in (client_opening w) list (sense_of q m) ≡ Some fault
     → DroppedOr (Piece q) fault (is_drop (sense_of q m)) (comes_to_client w t (Piece q) m)
 unfolding DroppedOr
 piece_err w t q list fault is on (Says p) h = inl (refl, says_err w t (Piece q) p list fault is h)
@@ -86,7 +92,8 @@ piece_err w t q list fault is on Spoils h = inr (refl, bad_field fault h, refl)
 piece_err w t q list fault is on Strays h = inl (refl, ap Refuses (misdirected (words.is_on list) fault on h))
 
 -- What a frame says is the same by the client's own list.
-pub said_is : (w : Setup) (past : List Change) (f : Frame) → meaning (rules (client_opening w)) (heard_at (client_opening w) (entries w past)) f ≡ said_to_client w (steps past) f
+pub said_is : (w : Setup) (past : List Change) (f : Frame)
+    → meaning (rules (client_opening w)) (heard_at (client_opening w) (entries w past)) f ≡ said_to_client w (steps past) f
 said_is w past f = ap (λ (h : Heard client.Entry). meaning (at_client w) h f) (hears_same w (frames.of_client w (steps past)))
 
 frame_ok : (w : Setup) (past : List Change) (f : Frame) → framed.refusal (client_opening w) (entries w past) (inputs.Deliver f) ≡ None
@@ -95,12 +102,15 @@ unfolding come
 frame_ok w past (Whole p) h = says_ok w (trace w past) (Whole p) p (packets_heard (client_opening w) (entries w past)) (heard_is w past) h
 frame_ok w past (Piece q) h =
     ap (comes_to_client w (trace w past) (Piece q)) (sym (said_is w past (Piece q)))
-    ∙ piece_ok w (trace w past) q (packets_heard (client_opening w) (entries w past)) (heard_is w past) (meaning (rules (client_opening w)) (heard_at (client_opening w) (entries w past)) (Piece q)) h
+    ∙ piece_ok w (trace w past) q (packets_heard (client_opening w) (entries w past)) (heard_is w past)
+    (meaning (rules (client_opening w)) (heard_at (client_opening w) (entries w past)) (Piece q)) h
 
 frame_err : (w : Setup) (past : List Change) (f : Frame) (fault : Fault) → words.is_on (packets_heard (client_opening w) (entries w past)) ≡ true
     → framed.refusal (client_opening w) (entries w past) (inputs.Deliver f) ≡ Some fault
-    → DroppedOr f fault (is_drop (sense (client_opening w) (entries w past) (inputs.Deliver f))) (comes_to_client w (trace w past) f (said_to_client w (steps past) f))
-frame_err w past (Whole p) fault on h = unfold DroppedOr in inl (refl, says_err w (trace w past) (Whole p) p (packets_heard (client_opening w) (entries w past)) fault (heard_is w past) h)
+    → DroppedOr f fault (is_drop (sense (client_opening w) (entries w past) (inputs.Deliver f)))
+    (comes_to_client w (trace w past) f (said_to_client w (steps past) f))
+frame_err w past (Whole p) fault on h =
+    unfold DroppedOr in inl (refl, says_err w (trace w past) (Whole p) p (packets_heard (client_opening w) (entries w past)) fault (heard_is w past) h)
 frame_err w past (Piece q) fault on h =
     let m = meaning (rules (client_opening w)) (heard_at (client_opening w) (entries w past)) (Piece q) in
     subst (λ x. DroppedOr (Piece q) fault (is_drop (sense_of q m)) (comes_to_client w (trace w past) (Piece q) x)) (said_is w past (Piece q))
@@ -121,22 +131,27 @@ pub record GoesTo (w : Setup) (past : List Change) (number : ℕ) (f : Frame) : 
   pub is_sent : slice_get (frames_sent w (steps past)) number ≡ Some f
   pub goes_to : to_of f ≡ Client
 
-pub frame_bar : (w : Setup) (past : List Change) (number : ℕ) (f : Frame) → GoesTo w past number f → barring_fault w (trace w past) (frames_sent w (steps past)) (happenings.Deliver number) ≡ unless_on w (trace w past) Client
+pub frame_bar : (w : Setup) (past : List Change) (number : ℕ) (f : Frame) → GoesTo w past number f
+    → barring_fault w (trace w past) (frames_sent w (steps past)) (happenings.Deliver number) ≡ unless_on w (trace w past) Client
 frame_bar w past number f g = ap (unless_sent w (trace w past)) g.is_sent ∙ ap (unless_on w (trace w past)) g.goes_to
 
-frame_comes : (w : Setup) (past : List Change) (number : ℕ) (f : Frame) → GoesTo w past number f → brings w past (happenings.Deliver number) ≡ comes_to_client w (trace w past) f (said_to_client w (steps past) f)
+frame_comes : (w : Setup) (past : List Change) (number : ℕ) (f : Frame) → GoesTo w past number f
+    → brings w past (happenings.Deliver number) ≡ comes_to_client w (trace w past) f (said_to_client w (steps past) f)
 frame_comes w past number f g = ap (delivery w past) g.is_sent ∙ ap (λ node. comes_to w past node f) g.goes_to
 
-delivery_ends : (w : Setup) (past : List Change) (number : ℕ) (f : Frame) (t : Told) (new : World) → GoesTo w past number f → ClientEnds w past (inputs.Deliver f) new (Ok t) → Ends w past (happenings.Deliver number) new (Ok t)
+delivery_ends : (w : Setup) (past : List Change) (number : ℕ) (f : Frame) (t : Told) (new : World) → GoesTo w past number f
+    → ClientEnds w past (inputs.Deliver f) new (Ok t) → Ends w past (happenings.Deliver number) new (Ok t)
 delivery_ends w past number f t new g h =
     let e = happenings.Deliver number in
     does w past e (Met (step_by w past (inputs.Deliver f))) t new
     (goes w past e (frame_bar w past number f g ∙ h.on) ∙ frame_comes w past number f g ∙ frame_ok w past f h.free)
     (told_is w past e (inputs.Deliver f) t new h refl) h.stands
 
-dropped : (w : Setup) (past : List Change) (f : Frame) (fault : Fault) (e : happenings.Happening) (new : World) → outcome w past e ≡ comes_to_client w (trace w past) f (said_to_client w (steps past) f)
+dropped : (w : Setup) (past : List Change) (f : Frame) (fault : Fault) (e : happenings.Happening) (new : World)
+    → outcome w past e ≡ comes_to_client w (trace w past) f (said_to_client w (steps past) f)
     → ClientRefuses w past (inputs.Deliver f) fault new
-    → DroppedOr f fault (is_drop (sense (client_opening w) (entries w past) (inputs.Deliver f))) (comes_to_client w (trace w past) f (said_to_client w (steps past) f))
+    → DroppedOr f fault (is_drop (sense (client_opening w) (entries w past) (inputs.Deliver f)))
+    (comes_to_client w (trace w past) f (said_to_client w (steps past) f))
     → (told_of_happening w past e ≡ Err fault) × StandsFor w (changes_after w past e) new
 unfolding DroppedOr
 dropped w past f fault e new is r (inl d) = refusing w past e fault new (is ∙ d.1) (r.unchanged d.0)
@@ -145,25 +160,30 @@ dropped w past f fault e new is r (inr d) = (
   subst (λ x. StandsFor w (and_outcome x past) new) (sym (is ∙ d.2)) r.stands,
 )
 
-unanswered : (w : Setup) (past : List Change) (number : ℕ) (f : Frame) (fault : Fault) (new : World) → GoesTo w past number f → IsBarred w past fault new ⊎ ClientRefuses w past (inputs.Deliver f) fault new
+unanswered : (w : Setup) (past : List Change) (number : ℕ) (f : Frame) (fault : Fault) (new : World) → GoesTo w past number f
+    → IsBarred w past fault new ⊎ ClientRefuses w past (inputs.Deliver f) fault new
     → (told_of_happening w past (happenings.Deliver number) ≡ Err fault) × StandsFor w (changes_after w past (happenings.Deliver number)) new
 unanswered w past number f fault new g (inl b) =
     refusing w past (happenings.Deliver number) fault new (stops w past (happenings.Deliver number) fault (frame_bar w past number f g ∙ b.why)) b.unchanged
 unanswered w past number f fault new g (inr r) =
-    dropped w past f fault (happenings.Deliver number) new (goes w past (happenings.Deliver number) (frame_bar w past number f g ∙ r.on) ∙ frame_comes w past number f g) r
+    dropped w past f fault (happenings.Deliver number) new
+    (goes w past (happenings.Deliver number) (frame_bar w past number f g ∙ r.on) ∙ frame_comes w past number f g) r
     (frame_err w past f fault (up_of w past r.on) r.why)
 
-delivery_sort : (w : Setup) (past : List Change) (number : ℕ) (f : Frame) (fault : Fault) (new : World) → GoesTo w past number f → (sort : FaultSort) → asking.Faults w past (inputs.Deliver f) sort fault new
+delivery_sort : (w : Setup) (past : List Change) (number : ℕ) (f : Frame) (fault : Fault) (new : World) → GoesTo w past number f → (sort : FaultSort)
+    → asking.Faults w past (inputs.Deliver f) sort fault new
     → ends.Faults w past (happenings.Deliver number) sort fault new
 delivery_sort w past number f fault new g sorts.Memory h = h
 delivery_sort w past number f fault new g sorts.Save h = h
 delivery_sort w past number f fault new g sorts.Refusal h = unanswered w past number f fault new g h
 
-delivery_fails : (w : Setup) (past : List Change) (number : ℕ) (f : Frame) (fault : Fault) (new : World) → GoesTo w past number f → ClientEnds w past (inputs.Deliver f) new (Err fault)
+delivery_fails : (w : Setup) (past : List Change) (number : ℕ) (f : Frame) (fault : Fault) (new : World) → GoesTo w past number f
+    → ClientEnds w past (inputs.Deliver f) new (Err fault)
     → Ends w past (happenings.Deliver number) new (Err fault)
 delivery_fails w past number f fault new g h = delivery_sort w past number f fault new g (sort_of fault) h
 
 -- A delivery to the client ends as the event that it is.
-pub comes_as : (w : Setup) (past : List Change) (number : ℕ) (f : Frame) (result : Result Told Fault) (new : World) → GoesTo w past number f → ClientEnds w past (inputs.Deliver f) new result → Ends w past (happenings.Deliver number) new result
+pub comes_as : (w : Setup) (past : List Change) (number : ℕ) (f : Frame) (result : Result Told Fault) (new : World) → GoesTo w past number f
+    → ClientEnds w past (inputs.Deliver f) new result → Ends w past (happenings.Deliver number) new result
 comes_as w past number f (Ok t) new g h = delivery_ends w past number f t new g h
 comes_as w past number f (Err fault) new g h = delivery_fails w past number f fault new g h

@@ -21,7 +21,8 @@ use Rattle.net_world.proofs.HearingLemmas.{nodes_hear_their_own}
 next : Setup → Heard client.Entry → Coming client.Entry Left → Heard client.Entry
 next w h c = record { entries = with_entry (entry_of (at_client w) h c) h.entries; rows = rows_of (at_client w) h c }
 
-entry_same : (w : Setup) (h : Heard client.Entry) (c : Coming client.Entry Left) → entry_of (at_client w) h (coming_of (client_frame_entry c)) ≡ entry_of (at_client w) h c
+entry_same : (w : Setup) (h : Heard client.Entry) (c : Coming client.Entry Left)
+    → entry_of (at_client w) h (coming_of (client_frame_entry c)) ≡ entry_of (at_client w) h c
 entry_same w h (Comes f left) = refl
 entry_same w h (Happens (client.Met (calls.Begin text) left)) = refl
 entry_same w h (Happens (client.Met (calls.Trigger run act) left)) = refl
@@ -48,12 +49,14 @@ next_same w h (Happens (client.Restart mirror)) = refl
 next_same w h (Happens (client.Renew g left)) = refl
 next_same w h (Happens client.Lose) = refl
 
-pub hears_same : (w : Setup) (list : List (Coming client.Entry Left)) → heard (at_client w) (map coming_of (map client_frame_entry list)) ≡ heard (at_client w) list
+pub hears_same : (w : Setup) (list : List (Coming client.Entry Left))
+    → heard (at_client w) (map coming_of (map client_frame_entry list)) ≡ heard (at_client w) list
 unfolding next
 hears_same w [] = refl
 hears_same w (c ∷ past) = ap (λ h. next w h (coming_of (client_frame_entry c))) (hears_same w past) ∙ next_same w (heard (at_client w) past) c
 
-frames_same : (w : Setup) (list : List client.Entry) (x : Option client.Entry) → answers.frames_by (client_opening w) list x ≡ frames_by (packets.packets (client_opening w)) list x
+frames_same : (w : Setup) (list : List client.Entry) (x : Option client.Entry)
+    → answers.frames_by (client_opening w) list x ≡ frames_by (packets.packets (client_opening w)) list x
 frames_same w list None = refl
 frames_same w list (Some e) = refl
 
@@ -63,7 +66,8 @@ heard_is w past =
     ap (λ (h : Heard client.Entry). h.entries) (hears_same w (of_client w (steps past))) ∙ sym (nodes_hear_their_own w (steps past)).client
 
 -- The frames of what happens are those of its step.
-sends_same : (w : Setup) (t : List FrameStep) (c : Coming client.Entry Left) → answers.frames (client_opening w) (client_entries w t) (client_frame_entry c) ≡ frames_of_step w t (OfClient c)
+sends_same : (w : Setup) (t : List FrameStep) (c : Coming client.Entry Left)
+    → answers.frames (client_opening w) (client_entries w t) (client_frame_entry c) ≡ frames_of_step w t (OfClient c)
 sends_same w t c =
     let same = hears_same w (of_client w t) in
     let h = heard (at_client w) (of_client w t) in
@@ -83,6 +87,7 @@ entry_again (hearing.Restart mirror) = refl
 entry_again (hearing.Renew g left) = refl
 entry_again hearing.Lose = refl
 
-pub frames_are : (w : Setup) (past : List Change) (e : FrameEntry) → answers.frames (client_opening w) (client_entries w (steps past)) e ≡ frames_of_step w (steps past) (OfClient (coming_of e))
+pub frames_are : (w : Setup) (past : List Change) (e : FrameEntry)
+    → answers.frames (client_opening w) (client_entries w (steps past)) e ≡ frames_of_step w (steps past) (OfClient (coming_of e))
 frames_are w past e =
     ap (answers.frames (client_opening w) (client_entries w (steps past))) (sym (entry_again e)) ∙ sends_same w (steps past) (coming_of e)

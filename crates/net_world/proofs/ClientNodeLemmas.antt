@@ -22,7 +22,8 @@ use Rattle.net_world.specs.declared.client_node.ClientNode.TheVariants.{On}
 use Rattle.net_world.specs.ClientNodes.{client_nodes, is_up, Asks, answer_to}
 use Rattle.net_world.proofs.NodeLemmas.{Laws, stays, ends}
 
-piece_stays : (o : Opening) (list : List client.Entry) (left : Left) (m : Meaning) → words.is_on list ≡ true → is_lost left ≡ false → words.is_on (with_entry (heard_by (rules o) left m) list) ≡ true
+piece_stays : (o : Opening) (list : List client.Entry) (left : Left) (m : Meaning) → words.is_on list ≡ true → is_lost left ≡ false
+    → words.is_on (with_entry (heard_by (rules o) left m) list) ≡ true
 piece_stays o list left (Says p) h k = stays (words.is_on list) (is_lost left) h k
 piece_stays o list left Waits h k = h
 piece_stays o list left Spoils h k = h
@@ -46,7 +47,8 @@ laws o = record {
 }
 
 -- A call that is answered, and told so.
-pub answers : (o : Opening) (past : List FrameEntry) (e : Input) (old new : Client Kept) (asked : Asked) → is_up o past ≡ true → asked.answer ≡ answer_to o past e
+pub answers : (o : Opening) (past : List FrameEntry) (e : Input) (old new : Client Kept) (asked : Asked) → is_up o past ≡ true
+    → asked.answer ≡ answer_to o past e
     → steps.Answers (core.steps note_of o) past e old new asked.frames → Asks o past e (On new) (Ok asked)
 answers o past e old new asked on is h = (is, ends (client_nodes o) On (laws o) past e old new (Ok asked.frames) on h)
 

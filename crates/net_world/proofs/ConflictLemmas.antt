@@ -27,7 +27,8 @@ use Rattle.mirror_core.specs.Words as mirrors
 use Rattle.net_world.specs.Setup.{Setup}
 use Rattle.net_world.specs.Trace.{Step, IsTrace, of_client, client_opening, opening_of, of_server, of_mirror, mirror_opening, sent_packets}
 use Rattle.net_world.specs.Holders.{taken_of, carried_state}
-use Rattle.net_world.specs.Passes.{SentStatesWereTaken, WasSent, CarriedStatesWereSent, KeptStatesWereSent, CopiedStatesWereSent, NoPacketConflicts, NoCopyConflicts}
+use Rattle.net_world.specs.Passes.{SentStatesWereTaken, WasSent, CarriedStatesWereSent, KeptStatesWereSent}
+use Rattle.net_world.specs.Passes.{CopiedStatesWereSent, NoPacketConflicts, NoCopyConflicts}
 use Rattle.net_world.specs.Claims.{OfEachList, OfEachTrace}
 use Rattle.net_world.specs.Headline.{OneTaking, StatePacketsAreEqual}
 use Rattle.net_world.proofs.ListLemmas.{single, found_in}
@@ -61,11 +62,31 @@ same_list (x ∷ xs) = rw (eq-eqb x x refl) (same_list xs)
 
 is_same_self : (a : State) → is_same a a ≡ true
 unfolding is_same
-is_same_self a = rw (eq-eqb a.key.run a.key.run refl, eq-eqb a.key.server a.key.server refl, eq-eqb a.key.job a.key.job refl, eq-eqb (kind_code a.job.kind) (kind_code a.job.kind) refl, eq-eqb (verify_code a.job.verify) (verify_code a.job.verify) refl, eq-eqb a.job.pattern a.job.pattern refl, eq-eqb a.job.bs a.job.bs refl, eq-eqb a.job.blocks a.job.blocks refl, eq-eqb a.job.total a.job.total refl, eq-eqb a.job.seed a.job.seed refl, eq-eqb a.job.depth a.job.depth refl, eq-eqb a.job.window a.job.window refl, eq-eqb a.issued a.issued refl, same_list a.place, same_list a.counted) refl
+is_same_self a = rw (
+  eq-eqb a.key.run a.key.run refl,
+  eq-eqb a.key.server a.key.server refl,
+  eq-eqb a.key.job a.key.job refl,
+  eq-eqb (kind_code a.job.kind) (kind_code a.job.kind) refl,
+  eq-eqb (verify_code a.job.verify)
+      (verify_code a.job.verify) refl,
+  eq-eqb a.job.pattern a.job.pattern refl,
+  eq-eqb a.job.bs a.job.bs refl,
+  eq-eqb a.job.blocks a.job.blocks refl,
+  eq-eqb
+      a.job.total a.job.total refl,
+  eq-eqb a.job.seed a.job.seed refl,
+  eq-eqb a.job.depth a.job.depth refl,
+  eq-eqb a.job.window a.job.window refl,
+  eq-eqb
+      a.issued a.issued refl,
+  same_list a.place,
+  same_list a.counted,
+) refl
 
 -- ---- no conflict
 
-past_the_first : (a b : Bool) (faults : List Fault) → slice_get (when a Down ++ (when b Misdirected ++ faults)) 0 ≡ Some Conflict → slice_get faults 0 ≡ Some Conflict
+past_the_first : (a b : Bool) (faults : List Fault) → slice_get (when a Down ++ (when b Misdirected ++ faults)) 0 ≡ Some Conflict
+    → slice_get faults 0 ≡ Some Conflict
 past_the_first true b faults h = absurd cc
 past_the_first false true faults h = absurd cc
 past_the_first false false faults h = h
@@ -91,7 +112,8 @@ record Differing (states : List State) (b : Body) : Type 0 where
   pub found : kept_of new.key states ≡ Some old
   pub other : is_same old new ≡ false
 
-differing_state : (states : List State) (b : Body) (x : State) (l : Bool) → carried_state b ≡ Some x → slice_get (when (differs x (kept_of x.key states)) Conflict ++ when l TableFull) 0 ≡ Some Conflict → Differing states b
+differing_state : (states : List State) (b : Body) (x : State) (l : Bool) → carried_state b ≡ Some x
+    → slice_get (when (differs x (kept_of x.key states)) Conflict ++ when l TableFull) 0 ≡ Some Conflict → Differing states b
 differing_state states b x l c h =
     let k = kept_differs x (kept_of x.key states) (conflict_differs (differs x (kept_of x.key states)) l h) in
     record { new = x; old = k.0; carries = c; found = k.1; other = k.2 }
@@ -102,7 +124,8 @@ differing n (bodies.Copy x) h = differing_state n.kept (bodies.Copy x) x (lacks_
 differing n _ h = absurd cc
 
 -- Two states that were sent don't differ.
-differs_not : Conflicts → (w : Setup) (t : List Step) (p : PacketParts) (states : List State) → IsTrace w t → Contains (sent_packets w t) p → ((state : State) → Contains states state → WasSent w t state) → Differing states p.body → ⊥
+differs_not : Conflicts → (w : Setup) (t : List Step) (p : PacketParts) (states : List State) → IsTrace w t → Contains (sent_packets w t) p
+    → ((state : State) → Contains states state → WasSent w t state) → Differing states p.body → ⊥
 differs_not laws w t p states trace was sent_so d =
     let new = was_taken laws.taken w t d.new.key d.new refl (laws.in_packets w t trace p d.new was d.carries) in
     let old = was_taken laws.taken w t d.new.key d.old (laws.has d.new.key states d.old d.found) (sent_so d.old (found_in d.new.key states d.old d.found)) in
@@ -115,7 +138,8 @@ pub no_packet_conflicts : Conflicts → OfEachTrace NoPacketConflicts
 no_packet_conflicts laws w t trace p was h =
     let note = words_noted (client_opening w) (of_client w t) in
     differs_not laws w t p note.kept trace was (laws.at_client w t trace)
-    (differing note p.body (past_the_first (not (is_on (of_client w t))) (not (is_for_client (peers (client_opening w) (of_client w t)) p)) (faults_of_body note p.body) h))
+    (differing note p.body (past_the_first (not (is_on (of_client w t))) (not (is_for_client (peers (client_opening w) (of_client w t)) p))
+    (faults_of_body note p.body) h))
 
 -- ---- the mirror
 
@@ -133,12 +157,14 @@ old_or_not false h = absurd cc
 
 asked_differs : (n : mirror_noted.Noted) (body : Body) → slice_get (mirror_refusals.faults_of n (asked_by body)) 0 ≡ Some Conflict → Differing n.kept body
 asked_differs n (bodies.Copy x) h =
-    let k = mirror_differs x (kept_of x.key n.kept) (conflict_differs (mirror_refusals.differs x (kept_of x.key n.kept)) (mirror_refusals.lacks_room n.kept (kept_of x.key n.kept)) h) in
+    let k = mirror_differs x (kept_of x.key n.kept) (conflict_differs (mirror_refusals.differs x (kept_of x.key n.kept))
+    (mirror_refusals.lacks_room n.kept (kept_of x.key n.kept)) h) in
     record { new = x; old = k.0; carries = refl; found = k.1; other = k.2 }
 asked_differs n (bodies.Fetch g) h = absurd (old_or_not (nat_lt g n.generation) h)
 asked_differs n _ h = absurd cc
 
-past_down : (a b : Bool) (n : mirror_noted.Noted) (body : Body) → slice_get (when a Down ++ mirror_refusals.faults_of n (if b then asked_by body else None)) 0 ≡ Some Conflict → Differing n.kept body
+past_down : (a b : Bool) (n : mirror_noted.Noted) (body : Body)
+    → slice_get (when a Down ++ mirror_refusals.faults_of n (if b then asked_by body else None)) 0 ≡ Some Conflict → Differing n.kept body
 past_down true b n body h = absurd cc
 past_down false true n body h = asked_differs n body h
 past_down false false n body h = absurd cc
@@ -162,6 +188,7 @@ state_packets_are_equal laws taken once w t p q jobs more a b hp ip hq iq keys =
     let list = of_server s t in
     let says_p : SaysJobs (opening_of s) list a.key.run jobs = state_says laws s list p jobs a (sent_by laws w s t p (fp.0 ∙ ap Server server) hp) ip in
     let says_q : SaysJobs (opening_of s) list b.key.run more = state_says laws s list q more b (sent_by laws w s t q fq.0 hq) iq in
-    let count : jobs ≡ more = same_count (opening_of s) a.key.run jobs list says_q.set (subst (λ r. begun (opening_of s) r list ≡ Some says_q.set) (sym (ap (λ (k : Key). k.run) keys)) says_q.is) says_p ∙ sym says_q.count in
+    let count : jobs ≡ more = same_count (opening_of s) a.key.run jobs list says_q.set
+    (subst (λ r. begun (opening_of s) r list ≡ Some says_q.set) (sym (ap (λ (k : Key). k.run) keys)) says_q.is) says_p ∙ sym says_q.count in
     let body : p.body ≡ q.body = ip ∙ ap (λ x. bodies.State x a) count ∙ ap (bodies.State more) same ∙ sym iq in
     same_packet p q (fp.0 ∙ ap Server server ∙ sym fq.0) (fp.1 ∙ sym fq.1) body

@@ -63,16 +63,19 @@ lost_sends : (me : ℕ) (b : Bool) (x : Option Fault) (bodies : List Body) → b
 lost_sends me b None bodies h = ap (λ t. flat_map frames_of (to_client me (if t then [] else bodies))) h
 lost_sends me b (Some fault) bodies h = refl
 
-event_silent : (o : Opening) (list : List server.Entry) (e : Event) (left : Left) → is_lost left ≡ true → framed.frames_by o list (Some (server.Met e left)) ≡ []
+event_silent : (o : Opening) (list : List server.Entry) (e : Event) (left : Left) → is_lost left ≡ true
+    → framed.frames_by o list (Some (server.Met e left)) ≡ []
 event_silent o list e left h = lost_sends o.me (is_lost left) (answers.refusal o list e) (replies (answers.now o list) (request_of o.me e)) h
 
-piece_silent : (o : Opening) (list : List server.Entry) (m : Meaning) (left : Left) → is_lost left ≡ true → framed.frames_by o list (heard_by (rules o) left m) ≡ []
+piece_silent : (o : Opening) (list : List server.Entry) (m : Meaning) (left : Left) → is_lost left ≡ true
+    → framed.frames_by o list (heard_by (rules o) left m) ≡ []
 piece_silent o list (Says p) left h = event_silent o list (events.Deliver p) left h
 piece_silent o list Waits left h = refl
 piece_silent o list Spoils left h = refl
 piece_silent o list Strays left h = refl
 
-silent : (o : Opening) (past : List FrameEntry) (f : Frame) (left : Left) → is_lost left ≡ true → framed.frames o past (hearing.Met (inputs.Deliver f) left) ≡ []
+silent : (o : Opening) (past : List FrameEntry) (f : Frame) (left : Left) → is_lost left ≡ true
+    → framed.frames o past (hearing.Met (inputs.Deliver f) left) ≡ []
 silent o past (Whole p) left h = event_silent o (packets_heard o past) (events.Deliver p) left h
 silent o past (Piece q) left h = piece_silent o (packets_heard o past) (meaning (rules o) (heard_at o past) (Piece q)) left h
 
@@ -81,24 +84,30 @@ asks_nothing t s e left h = ap (λ b. if b then acts.None else answers.act (open
 
 -- ---- a frame
 
-says_cut : (t : List Step) (s : ℕ) (landed : Bool) (f : Frame) (p : PacketParts) (list : List server.Entry) → list ≡ of_server s t → is_some (words.due (opening_of s) list (events.Deliver p)) ≡ true
+says_cut : (t : List Step) (s : ℕ) (landed : Bool) (f : Frame) (p : PacketParts) (list : List server.Entry) → list ≡ of_server s t
+    → is_some (words.due (opening_of s) list (events.Deliver p)) ≡ true
     → server_frame_cut t s landed f (Says p) ≡ Ok (step_of s (hearing.Met (inputs.Deliver f) (lost_by landed)))
 says_cut t s landed f p list is h =
-    some_save (words.due (opening_of s) (of_server s t) (events.Deliver p)) (step_of s (hearing.Met (inputs.Deliver f) (lost_by landed))) (ap (λ l. is_some (words.due (opening_of s) l (events.Deliver p))) (sym is) ∙ h)
+    some_save (words.due (opening_of s) (of_server s t) (events.Deliver p)) (step_of s (hearing.Met (inputs.Deliver f) (lost_by landed)))
+    (ap (λ l. is_some (words.due (opening_of s) l (events.Deliver p))) (sym is) ∙ h)
 
-says_none : (t : List Step) (s : ℕ) (landed : Bool) (f : Frame) (p : PacketParts) (list : List server.Entry) → list ≡ of_server s t → is_some (words.due (opening_of s) list (events.Deliver p)) ≡ false
+says_none : (t : List Step) (s : ℕ) (landed : Bool) (f : Frame) (p : PacketParts) (list : List server.Entry) → list ≡ of_server s t
+    → is_some (words.due (opening_of s) list (events.Deliver p)) ≡ false
     → server_frame_cut t s landed f (Says p) ≡ Err NoSave
 says_none t s landed f p list is h =
-    no_save (words.due (opening_of s) (of_server s t) (events.Deliver p)) (step_of s (hearing.Met (inputs.Deliver f) (lost_by landed))) (ap (λ l. is_some (words.due (opening_of s) l (events.Deliver p))) (sym is) ∙ h)
+    no_save (words.due (opening_of s) (of_server s t) (events.Deliver p)) (step_of s (hearing.Met (inputs.Deliver f) (lost_by landed)))
+    (ap (λ l. is_some (words.due (opening_of s) l (events.Deliver p))) (sym is) ∙ h)
 
-piece_cut : (t : List Step) (s : ℕ) (landed : Bool) (q : PieceParts) (list : List server.Entry) → list ≡ of_server s t → (m : Meaning) → is_some (due_of_sense (opening_of s) list (sense_of q m)) ≡ true
+piece_cut : (t : List Step) (s : ℕ) (landed : Bool) (q : PieceParts) (list : List server.Entry) → list ≡ of_server s t → (m : Meaning)
+    → is_some (due_of_sense (opening_of s) list (sense_of q m)) ≡ true
     → server_frame_cut t s landed (Piece q) m ≡ Ok (step_of s (hearing.Met (inputs.Deliver (Piece q)) (lost_by landed)))
 piece_cut t s landed q list is (Says p) h = says_cut t s landed (Piece q) p list is h
 piece_cut t s landed q list is Waits h = absurd (false≢true h)
 piece_cut t s landed q list is Spoils h = absurd (false≢true h)
 piece_cut t s landed q list is Strays h = absurd (false≢true h)
 
-piece_none : (t : List Step) (s : ℕ) (landed : Bool) (q : PieceParts) (list : List server.Entry) → list ≡ of_server s t → (m : Meaning) → is_some (due_of_sense (opening_of s) list (sense_of q m)) ≡ false
+piece_none : (t : List Step) (s : ℕ) (landed : Bool) (q : PieceParts) (list : List server.Entry) → list ≡ of_server s t → (m : Meaning)
+    → is_some (due_of_sense (opening_of s) list (sense_of q m)) ≡ false
     → server_frame_cut t s landed (Piece q) m ≡ Err NoSave
 piece_none t s landed q list is (Says p) h = says_none t s landed (Piece q) p list is h
 piece_none t s landed q list is Waits h = refl
@@ -110,23 +119,27 @@ frame_is_cut : (w : Setup) (past : List Change) (s : ℕ) (landed : Bool) (f : F
 frame_is_cut w past s landed (Whole p) h = says_cut (trace w past) s landed (Whole p) p (packets_heard (opening_of s) (entries past s)) (heard_is w past s) h
 frame_is_cut w past s landed (Piece q) h =
     ap (server_frame_cut (trace w past) s landed (Piece q)) (sym (said_is w s past (Piece q)))
-    ∙ piece_cut (trace w past) s landed q (packets_heard (opening_of s) (entries past s)) (heard_is w past s) (meaning (rules (opening_of s)) (heard_at (opening_of s) (entries past s)) (Piece q)) h
+    ∙ piece_cut (trace w past) s landed q (packets_heard (opening_of s) (entries past s)) (heard_is w past s)
+    (meaning (rules (opening_of s)) (heard_at (opening_of s) (entries past s)) (Piece q)) h
 
 frame_not_cut : (w : Setup) (past : List Change) (s : ℕ) (landed : Bool) (f : Frame) → would_save (opening_of s) (entries past s) f ≡ false
     → server_frame_cut (trace w past) s landed f (said_to_server (steps past) s f) ≡ Err NoSave
 frame_not_cut w past s landed (Whole p) h = says_none (trace w past) s landed (Whole p) p (packets_heard (opening_of s) (entries past s)) (heard_is w past s) h
 frame_not_cut w past s landed (Piece q) h =
     ap (server_frame_cut (trace w past) s landed (Piece q)) (sym (said_is w s past (Piece q)))
-    ∙ piece_none (trace w past) s landed q (packets_heard (opening_of s) (entries past s)) (heard_is w past s) (meaning (rules (opening_of s)) (heard_at (opening_of s) (entries past s)) (Piece q)) h
+    ∙ piece_none (trace w past) s landed q (packets_heard (opening_of s) (entries past s)) (heard_is w past s)
+    (meaning (rules (opening_of s)) (heard_at (opening_of s) (entries past s)) (Piece q)) h
 
-pub cut_bar : (w : Setup) (past : List Change) (number : ℕ) (landed : Bool) (f : Frame) (s : ℕ) → GoesTo w past number f s → unless_sent w (trace w past) (slice_get (frames_sent w (steps past)) number) ≡ unless_on w (trace w past) (nodes.Server s)
+pub cut_bar : (w : Setup) (past : List Change) (number : ℕ) (landed : Bool) (f : Frame) (s : ℕ) → GoesTo w past number f s
+    → unless_sent w (trace w past) (slice_get (frames_sent w (steps past)) number) ≡ unless_on w (trace w past) (nodes.Server s)
 cut_bar w past number landed f s g = ap (unless_sent w (trace w past)) g.is_sent ∙ ap (unless_on w (trace w past)) g.goes_to
 
 cut_brings : (w : Setup) (past : List Change) (number : ℕ) (landed : Bool) (f : Frame) (s : ℕ) → GoesTo w past number f s
     → cut_in w past landed (Deliver number) ≡ server_frame_cut (trace w past) s landed f (said_to_server (steps past) s f)
 cut_brings w past number landed f s g = ap (delivery_cut_in w past landed) g.is_sent ∙ ap (λ node. frame_cut w past landed node f) g.goes_to
 
-act_silent : (w : Setup) (past : List Change) (s : ℕ) (f : Frame) (left : Left) → is_lost left ≡ true → act w past (Met (step_of s (hearing.Met (inputs.Deliver f) left))) ≡ acts.None
+act_silent : (w : Setup) (past : List Change) (s : ℕ) (f : Frame) (left : Left) → is_lost left ≡ true
+    → act w past (Met (step_of s (hearing.Met (inputs.Deliver f) left))) ≡ acts.None
 act_silent w past s (Whole p) left h = asks_nothing (trace w past) s (events.Deliver p) left h
 act_silent w past s (Piece q) left h =
     ap (λ m. act_of (trace w past) (option_map (AtServer s) (heard_by (rules (opening_of s)) left m))) (sym (said_is w s past (Piece q)))
@@ -138,45 +151,58 @@ act_silent w past s (Piece q) left h =
     by_meaning Spoils = refl
     by_meaning Strays = refl
 
-pub frame_cut_plain : (w : Setup) (past : List Change) (number : ℕ) (landed : Bool) (f : Frame) (s : ℕ) → GoesTo w past number f s → unless_on w (trace w past) (nodes.Server s) ≡ None → would_save (opening_of s) (entries past s) f ≡ true
+pub frame_cut_plain : (w : Setup) (past : List Change) (number : ℕ) (landed : Bool) (f : Frame) (s : ℕ) → GoesTo w past number f s
+    → unless_on w (trace w past) (nodes.Server s) ≡ None → would_save (opening_of s) (entries past s) f ≡ true
     → IsPlain w past (CutIn landed (Deliver number)) (step_of s (hearing.Met (inputs.Deliver f) (lost_by landed)))
 frame_cut_plain w past number landed f s g on h = record {
-  comes = goes w past (CutIn landed (Deliver number)) (cut_bar w past number landed f s g ∙ on) ∙ ap outcome_of_step (cut_brings w past number landed f s g ∙ frame_is_cut w past s landed f h);
+  comes = goes w past (CutIn landed (Deliver number)) (cut_bar w past number landed f s g ∙ on)
+      ∙ ap outcome_of_step (cut_brings w past number landed f s g ∙ frame_is_cut w past s landed f h);
   answered = refl;
-  silent = sym (frames_are w past s (hearing.Met (inputs.Deliver f) (lost_by landed))) ∙ silent (opening_of s) (entries past s) f (lost_by landed) (lost landed);
+  silent = sym (frames_are w past s (hearing.Met (inputs.Deliver f) (lost_by landed)))
+      ∙ silent (opening_of s) (entries past s) f (lost_by landed) (lost landed);
   asks = act_silent w past s f (lost_by landed) (lost landed);
 }
 
 -- How a cut within the save of a frame ends in a world, where it isn't made.
-pub frame_cut_ends : (w : Setup) (past : List Change) (number : ℕ) (landed : Bool) (f : Frame) (s : ℕ) (node : ServerNode) (fault : Fault) (old new : World) → StandsFor w past old → HasMoved s node [] old new → s < w.servers → GoesTo w past number f s
-    → CutsIn (server_nodes (opening_of s)) (entries past s) landed (inputs.Deliver f) node (Err fault) → Ends w past (CutIn landed (Deliver number)) new (Err fault)
+pub frame_cut_ends : (w : Setup) (past : List Change) (number : ℕ) (landed : Bool) (f : Frame) (s : ℕ) (node : ServerNode) (fault : Fault) (old new : World)
+    → StandsFor w past old → HasMoved s node [] old new → s < w.servers → GoesTo w past number f s
+    → CutsIn (server_nodes (opening_of s)) (entries past s) landed (inputs.Deliver f) node (Err fault)
+    → Ends w past (CutIn landed (Deliver number)) new (Err fault)
 frame_cut_ends w past number landed f s node NodeOff old new stands moved l g h =
-    refuses w past (CutIn landed (Deliver number)) NodeOff new refl (stops w past (CutIn landed (Deliver number)) NodeOff (cut_bar w past number landed f s g ∙ is_off w past s l h.0)) (server_kept w past s node old new stands moved h.1)
+    refuses w past (CutIn landed (Deliver number)) NodeOff new refl
+    (stops w past (CutIn landed (Deliver number)) NodeOff (cut_bar w past number landed f s g ∙ is_off w past s l h.0))
+    (server_kept w past s node old new stands moved h.1)
 frame_cut_ends w past number landed f s node NoSave old new stands moved l g h =
     refuses w past (CutIn landed (Deliver number)) NoSave new refl
-    (goes w past (CutIn landed (Deliver number)) (cut_bar w past number landed f s g ∙ is_there w past s l h.0) ∙ ap outcome_of_step (cut_brings w past number landed f s g ∙ frame_not_cut w past s landed f h.1))
+    (goes w past (CutIn landed (Deliver number)) (cut_bar w past number landed f s g ∙ is_there w past s l h.0)
+    ∙ ap outcome_of_step (cut_brings w past number landed f s g ∙ frame_not_cut w past s landed f h.1))
     (server_kept w past s node old new stands moved h.2)
 frame_cut_ends w past number landed f s node NoMemory old new stands moved l g h = (refl, server_kept w past s node old new stands moved h.1)
 frame_cut_ends w past number landed f s node _ old new stands moved l g h = absurd h
 
 -- ---- a restart
 
-pub restart_cut_plain : (w : Setup) (past : List Change) (s : ℕ) (landed : Bool) → unless_off w (trace w past) (nodes.Server s) ≡ None → has_boot (opening_of s) (entries past s) ≡ true
+pub restart_cut_plain : (w : Setup) (past : List Change) (s : ℕ) (landed : Bool) → unless_off w (trace w past) (nodes.Server s) ≡ None
+    → has_boot (opening_of s) (entries past s) ≡ true
     → IsPlain w past (CutIn landed (Restart (nodes.Server s))) (step_of s (hearing.Restart (lost_by landed)))
 restart_cut_plain w past s landed h b = record {
-  comes = goes w past (CutIn landed (Restart (nodes.Server s))) h ∙ ap (λ x. outcome_of_step (if x then Ok (step_of s (hearing.Restart (lost_by landed))) else Err NoSave)) (sym (boot_is w past s) ∙ b);
+  comes = goes w past (CutIn landed (Restart (nodes.Server s))) h
+      ∙ ap (λ x. outcome_of_step (if x then Ok (step_of s (hearing.Restart (lost_by landed))) else Err NoSave)) (sym (boot_is w past s) ∙ b);
   answered = refl;
   silent = sym (frames_are w past s (hearing.Restart (lost_by landed)));
   asks = refl;
 }
 
-pub restart_cut_ends : (w : Setup) (past : List Change) (s : ℕ) (landed : Bool) (node : ServerNode) (fault : Fault) (old new : World) → StandsFor w past old → HasMoved s node [] old new → s < w.servers
+pub restart_cut_ends : (w : Setup) (past : List Change) (s : ℕ) (landed : Bool) (node : ServerNode) (fault : Fault) (old new : World) → StandsFor w past old
+    → HasMoved s node [] old new → s < w.servers
     → servers.CutsInRestart (opening_of s) (entries past s) landed node (Err fault) → Ends w past (CutIn landed (Restart (nodes.Server s))) new (Err fault)
 restart_cut_ends w past s landed node NodeOn old new stands moved l h =
-    refuses w past (CutIn landed (Restart (nodes.Server s))) NodeOn new refl (stops w past (CutIn landed (Restart (nodes.Server s))) NodeOn (runs_on w past s l h.0)) (server_kept w past s node old new stands moved h.1)
+    refuses w past (CutIn landed (Restart (nodes.Server s))) NodeOn new refl
+    (stops w past (CutIn landed (Restart (nodes.Server s))) NodeOn (runs_on w past s l h.0)) (server_kept w past s node old new stands moved h.1)
 restart_cut_ends w past s landed node NoSave old new stands moved l h =
     refuses w past (CutIn landed (Restart (nodes.Server s))) NoSave new refl
-    (goes w past (CutIn landed (Restart (nodes.Server s))) (may_restart w past s l h.0) ∙ ap (λ x. outcome_of_step (if x then Ok (step_of s (hearing.Restart (lost_by landed))) else Err NoSave)) (sym (boot_is w past s) ∙ h.1))
+    (goes w past (CutIn landed (Restart (nodes.Server s))) (may_restart w past s l h.0)
+    ∙ ap (λ x. outcome_of_step (if x then Ok (step_of s (hearing.Restart (lost_by landed))) else Err NoSave)) (sym (boot_is w past s) ∙ h.1))
     (server_kept w past s node old new stands moved h.2)
 restart_cut_ends w past s landed node NoMemory old new stands moved l h = (refl, server_kept w past s node old new stands moved h.1)
 restart_cut_ends w past s landed node _ old new stands moved l h = let wrong = h.3 in absurd cc

@@ -1,5 +1,6 @@
 -- A server loses its power within a save.
-use Rattle.std.proofs.Common.{◌≡◌, refl, sym, ◌∙◌, ap, subst, ℕ, ◌+◌, ◌-◌, ◌^◌, ◌<◌, ◌≤◌, arith, Bool, true, false, ◌&&◌, List, ◌∷◌, Option, Some, None, Result, Ok, Err}
+use Rattle.std.proofs.Common.{◌≡◌, refl, sym, ◌∙◌, ap, subst, ℕ, ◌+◌, ◌-◌, ◌^◌, ◌<◌, ◌≤◌, arith, Bool}
+use Rattle.std.proofs.Common.{true, false, ◌&&◌, List, ◌∷◌, Option, Some, None, Result, Ok, Err}
 use Rattle.std.specs.Prelude.{if◌then◌else◌, is_some, nat_lt}
 use Rattle.std.proofs.lemmas.Bool.Decides.{nat_tests}
 use Rattle.std.proofs.lemmas.Bool.{false≢true}
@@ -35,7 +36,8 @@ use Rattle.net_world.specs.ServerNodes.{server_nodes, words_noted, is_up, has_bo
 use Rattle.net_world.proofs.NodeLemmas.{Saves}
 
 -- A node that is off stands for each list that is off and says the same.
-relabel : (o : Opening) (old new : List FrameEntry) (node : ServerNode) → Stands o old node → is_up o old ≡ false → is_up o new ≡ false → words_noted o (packets_heard o old) ≡ words_noted o (packets_heard o new) → Stands o new node
+relabel : (o : Opening) (old new : List FrameEntry) (node : ServerNode) → Stands o old node → is_up o old ≡ false → is_up o new ≡ false
+    → words_noted o (packets_heard o old) ≡ words_noted o (packets_heard o new) → Stands o new node
 relabel o old new (On server) s off down same = absurd (false≢true (sym off ∙ s.1))
 relabel o old new (Off notes) s off down same = (subst (λ x. NoteSays (note_of notes).bytes x) same s.0, down)
 
@@ -52,7 +54,8 @@ recorded_old : (x : Option Staged) (last : ℕ) → last_run_after LostOld x las
 recorded_old None last = refl
 recorded_old (Some s) last = refl
 
-same_new : (o : Opening) (list : List server.Entry) (e : Event) (a b : Left) → has_new a ≡ has_new b → words_noted o (server.Met e a ∷ list) ≡ words_noted o (server.Met e b ∷ list)
+same_new : (o : Opening) (list : List server.Entry) (e : Event) (a b : Left) → has_new a ≡ has_new b
+    → words_noted o (server.Met e a ∷ list) ≡ words_noted o (server.Met e b ∷ list)
 same_new o list e a b h = ap (λ l. noted_with (boot o list) l) (recorded_same a b (words.due o list e) (last_run o list) h)
   where
     noted_with : ℕ → ℕ → Noted
@@ -112,7 +115,8 @@ is_lost_in o past (Piece q) h =
 
 -- ---- what is due isn't refused
 
-due_free : (on : Bool) (w : Now) (last : ℕ) (s : Option Staged) (x : Option Work) (r : Request) → is_some (due_by on last s x r) ≡ true → (if on then refusal_of w r else Some Down) ≡ None
+due_free : (on : Bool) (w : Now) (last : ℕ) (s : Option Staged) (x : Option Work) (r : Request) → is_some (due_by on last s x r) ≡ true
+    → (if on then refusal_of w r else Some Down) ≡ None
 due_free true w last s x (ToStart run) h = refl
 due_free false w last s x (ToStart run) h = absurd (false≢true h)
 due_free on w last s x _ h = absurd (false≢true h)
@@ -120,7 +124,8 @@ due_free on w last s x _ h = absurd (false≢true h)
 event_free : (o : Opening) (list : List server.Entry) (e : Event) → is_some (words.due o list e) ≡ true → answers.refusal o list e ≡ None
 event_free o list e h = due_free (is_on list) (now o list) (last_run o list) (staged_run o list) (work o list) (request_of o.me e) h
 
-piece_free : (o : Opening) (list : List server.Entry) (q : PieceParts) (m : Meaning) → is_some (due_of_sense o list (sense_of q m)) ≡ true → refusal_of_sense o list (sense_of q m) ≡ None
+piece_free : (o : Opening) (list : List server.Entry) (q : PieceParts) (m : Meaning) → is_some (due_of_sense o list (sense_of q m)) ≡ true
+    → refusal_of_sense o list (sense_of q m) ≡ None
 piece_free o list q (Says p) h = event_free o list (events.Deliver p) h
 piece_free o list q Waits h = refl
 piece_free o list q Spoils h = absurd (false≢true h)
@@ -135,11 +140,13 @@ saved_by None h = absurd (false≢true h)
 saved_by (Some s) h = refl
 
 -- What an answered frame that makes a save leaves.
-saved_entry : (o : Opening) (past : List FrameEntry) (f : Frame) → would_save o past f ≡ true → answered_entry o past (inputs.Deliver f) ≡ Met (inputs.Deliver f) Saved
+saved_entry : (o : Opening) (past : List FrameEntry) (f : Frame) → would_save o past f ≡ true
+    → answered_entry o past (inputs.Deliver f) ≡ Met (inputs.Deliver f) Saved
 saved_entry o past f h = ap (λ left. Met (inputs.Deliver f) left) (saved_by (due o past (inputs.Deliver f)) h)
 
 -- A frame that is due to make a save.
-pub saves : (o : Opening) (past : List FrameEntry) (f : Frame) → is_up o past ≡ true → would_save o past f ≡ true → Saves (server_nodes o) Cut past (inputs.Deliver f)
+pub saves : (o : Opening) (past : List FrameEntry) (f : Frame) → is_up o past ≡ true → would_save o past f ≡ true
+    → Saves (server_nodes o) Cut past (inputs.Deliver f)
 saves o past f up h =
     let l = is_lost_in o past f h in
     record {
@@ -154,13 +161,16 @@ saves o past f up h =
 
 -- ---- a restart
 
-pub restart_new : (o : Opening) (past : List FrameEntry) (node : ServerNode) → is_up o past ≡ false → has_boot o past ≡ true → Stands o (Cut ∷ (Restart Saved ∷ past)) node → CutsInRestart o past true node (Ok tt)
+pub restart_new : (o : Opening) (past : List FrameEntry) (node : ServerNode) → is_up o past ≡ false → has_boot o past ≡ true
+    → Stands o (Cut ∷ (Restart Saved ∷ past)) node → CutsInRestart o past true node (Ok tt)
 restart_new o past node off b s = (off, b, relabel o (Cut ∷ (Restart Saved ∷ past)) (Restart LostNew ∷ past) node s refl refl refl)
 
-pub restart_old : (o : Opening) (past : List FrameEntry) (node : ServerNode) → is_up o past ≡ false → has_boot o past ≡ true → Stands o past node → CutsInRestart o past false node (Ok tt)
+pub restart_old : (o : Opening) (past : List FrameEntry) (node : ServerNode) → is_up o past ≡ false → has_boot o past ≡ true → Stands o past node
+    → CutsInRestart o past false node (Ok tt)
 restart_old o past node off b s = (off, b, relabel o past (Restart LostOld ∷ past) node s off refl refl)
 
-pub restart_fails : (o : Opening) (past : List FrameEntry) (landed : Bool) (node : ServerNode) (fault : Fault) → Restarts o past node (Err fault) → CutsInRestart o past landed node (Err (no_save fault))
+pub restart_fails : (o : Opening) (past : List FrameEntry) (landed : Bool) (node : ServerNode) (fault : Fault) → Restarts o past node (Err fault)
+    → CutsInRestart o past landed node (Err (no_save fault))
 restart_fails o past landed node NodeOn h = h
 restart_fails o past landed node NumbersSpent h = (h.0, h.1, h.2, refl)
 restart_fails o past landed node NoMemory h = h
@@ -188,10 +198,12 @@ pub boots_no : SaysOneThing → (bytes : List ℕ) (m n : Noted) → NoteSays by
 boots_no law bytes m n s t h =
     ap (λ (x : Bool). if x then Ok tt else Err NoSave) (sym (boots_spent m.boot s.boot_range h)) ∙ ap boots (law bytes m n s t)
 
-tried_by : (o : Opening) (past : List FrameEntry) (notes : Kept) → Stands o past (Off notes) → (b : Bool) → has_boot o past ≡ b → CutsInRestart o past false (Off notes) (if b then Ok tt else Err NoSave)
+tried_by : (o : Opening) (past : List FrameEntry) (notes : Kept) → Stands o past (Off notes) → (b : Bool) → has_boot o past ≡ b
+    → CutsInRestart o past false (Off notes) (if b then Ok tt else Err NoSave)
 tried_by o past notes s true h = restart_old o past (Off notes) s.1 h s
 tried_by o past notes s false h = (s.1, h, s, refl)
 
-pub tried : (o : Opening) (past : List FrameEntry) (notes now : Kept) (result : Result (Unit {0}) Fault) → Stands o past (Off notes) → now ≡ notes → result ≡ boots (words_noted o (packets_heard o past)) → CutsInRestart o past false (Off now) result
+pub tried : (o : Opening) (past : List FrameEntry) (notes now : Kept) (result : Result (Unit {0}) Fault) → Stands o past (Off notes) → now ≡ notes
+    → result ≡ boots (words_noted o (packets_heard o past)) → CutsInRestart o past false (Off now) result
 tried o past notes now result s e r =
     subst (λ x. CutsInRestart o past false (Off now) x) (sym r) (tried_by o past now (subst (λ k. Stands o past (Off k)) (sym e) s) (has_boot o past) refl)

@@ -23,7 +23,8 @@ use Rattle.net_world.specs.Stands.{StandsFor}
 use Rattle.net_world.proofs.ServeLemmas.{first_is}
 use Rattle.net_world.proofs.ListLemmas.{same_some}
 
-pub no_frame : (w : Setup) (past : List Change) (now : World) (number : ℕ) → StandsFor w past now → length (sent_in now.sent) ≤ number → slice_get (frames_sent w (steps past)) number ≡ None
+pub no_frame : (w : Setup) (past : List Change) (now : World) (number : ℕ) → StandsFor w past now → length (sent_in now.sent) ≤ number
+    → slice_get (frames_sent w (steps past)) number ≡ None
 no_frame w past now number stands h = slice_get_past (frames_sent w (steps past)) number (omega (arith, first_is w past now stands, h))
 
 -- A frame with these bytes.
@@ -39,7 +40,8 @@ of_bytes None bytes h = absurd (none_some h)
     none_some e = cc
 of_bytes (Some f) bytes h = record { frame = f; is = refl; bytes_are = same_some (frame_spelling f) bytes h }
 
-pub frame_found : SentFramesAreRead → (w : Setup) (events : List Happening) (now : World) (number : ℕ) (bytes : List ℕ) (f : Frame) → StandsFor w (world w events) now → slice_get (sent_in now.sent) number ≡ Some bytes → frame_at bytes ≡ Some f
+pub frame_found : SentFramesAreRead → (w : Setup) (events : List Happening) (now : World) (number : ℕ) (bytes : List ℕ) (f : Frame)
+    → StandsFor w (world w events) now → slice_get (sent_in now.sent) number ≡ Some bytes → frame_at bytes ≡ Some f
     → slice_get (frames_sent w (steps (world w events))) number ≡ Some f
 frame_found law w events now number bytes f stands at read =
     let past = world w events in
@@ -50,7 +52,8 @@ frame_found law w events now number bytes f stands at read =
     h.is ∙ sym again ∙ ap frame_at h.bytes_are ∙ read
 
 -- There is no such frame, or memory has run out.
-pub lost_frame : (w : Setup) (past : List Change) (now : World) (number : ℕ) (fault : Fault) → StandsFor w past now → FindsFrame w past number (Err fault) → Ends w past (Deliver number) now (Err fault)
+pub lost_frame : (w : Setup) (past : List Change) (now : World) (number : ℕ) (fault : Fault) → StandsFor w past now → FindsFrame w past number (Err fault)
+    → Ends w past (Deliver number) now (Err fault)
 lost_frame w past now number NoFrame stands h =
     refuses w past (Deliver number) NoFrame now refl (stops w past (Deliver number) NoFrame (ap (unless_sent w (trace w past)) h)) stands
 lost_frame w past now number NoMemory stands h = (refl, stands)

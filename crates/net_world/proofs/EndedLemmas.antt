@@ -19,7 +19,8 @@ use Rattle.client_core.specs.Words.{words_noted, kept_state}
 use Rattle.client_core.specs.Packets.{to_server}
 use Rattle.client_core.specs.Laws.{AcksAreFor, TriggersEndWell, TellsJobs, HasAnswer, from_server}
 use Rattle.net_world.specs.Setup.{Setup}
-use Rattle.net_world.specs.Trace.{Step, AtServer, AtClient, AtMirror, opening_of, client_opening, mirror_opening, of_server, of_client, of_mirror, packets_of, sent_packets, IsTrace}
+use Rattle.net_world.specs.Trace.{Step, AtServer, AtClient, AtMirror, opening_of, client_opening, mirror_opening}
+use Rattle.net_world.specs.Trace.{of_server, of_client, of_mirror, packets_of, sent_packets, IsTrace}
 use Rattle.net_world.specs.Holders.{taken_of, key_at}
 use Rattle.net_world.specs.Passes.{SentStatesWereTaken, KeptStatesWereSent, WasKept}
 use Rattle.net_world.specs.Claims.{OfEachList, OfEachTrace}
@@ -41,18 +42,21 @@ pub record Ending : Type 0 where
   pub kept_sent : OfEachTrace KeptStatesWereSent
   pub once : OfEachList OneTaking
 
-said_none : Ending → (w : Setup) (t : List Step) (run s j jobs : ℕ) → Contains (sent_packets w t) (from_server (bodies.NoState run j jobs) s) → SaysNone (opening_of s) (of_server s t) run j jobs
+said_none : Ending → (w : Setup) (t : List Step) (run s j jobs : ℕ) → Contains (sent_packets w t) (from_server (bodies.NoState run j jobs) s)
+    → SaysNone (opening_of s) (of_server s t) run j jobs
 said_none laws w t run s j jobs h =
     let p = from_server (bodies.NoState run j jobs) s in
     none_says laws.sayings s (of_server s t) p run j jobs (sent_by laws.sayings w s t p refl h) refl
 
-said_jobs : Ending → (w : Setup) (t : List Step) (s jobs : ℕ) (a : State) → Contains (sent_packets w t) (from_server (bodies.State jobs a) s) → SaysJobs (opening_of s) (of_server s t) a.key.run jobs
+said_jobs : Ending → (w : Setup) (t : List Step) (s jobs : ℕ) (a : State) → Contains (sent_packets w t) (from_server (bodies.State jobs a) s)
+    → SaysJobs (opening_of s) (of_server s t) a.key.run jobs
 said_jobs laws w t s jobs a h =
     let p = from_server (bodies.State jobs a) s in
     state_says laws.sayings s (of_server s t) p jobs a (sent_by laws.sayings w s t p refl h) refl
 
 -- The number of jobs that was told is that of the set with which the run was begun.
-count_told : Ending → (w : Setup) (t : List Step) (run s jobs : ℕ) (set : List Job) → IsTrace w t → begun (opening_of s) run (of_server s t) ≡ Some set → TellsJobs (packets_come (of_client w t)) run s jobs → jobs ≡ length set
+count_told : Ending → (w : Setup) (t : List Step) (run s jobs : ℕ) (set : List Job) → IsTrace w t → begun (opening_of s) run (of_server s t) ≡ Some set
+    → TellsJobs (packets_come (of_client w t)) run s jobs → jobs ≡ length set
 count_told laws w t run s jobs set trace is (inl k) =
     let says = said_jobs laws w t s jobs k.0 (came_was_sent w t (from_server (bodies.State jobs k.0) s) trace k.2) in
     same_count (opening_of s) run jobs (of_server s t) set is (subst (λ r. SaysJobs (opening_of s) (of_server s t) r jobs) k.1 says)
@@ -69,17 +73,20 @@ KeptOrNone w t key =
 nothing_in : (xs : List State) (x : State) → xs ≡ [] → Contains xs x → ⊥
 nothing_in xs x e h = none_in x (subst (λ l. Contains l x) e h)
 
-none_taken : Ending → (w : Setup) (t : List Step) (key : Key) (state : State) (jobs : ℕ) → Contains (taken_of key t) state → Contains (sent_packets w t) (from_server (bodies.NoState key.run key.job jobs) key.server) → ⊥
+none_taken : Ending → (w : Setup) (t : List Step) (key : Key) (state : State) (jobs : ℕ) → Contains (taken_of key t) state
+    → Contains (sent_packets w t) (from_server (bodies.NoState key.run key.job jobs) key.server) → ⊥
 none_taken laws w t key state jobs taken h =
     let says = said_none laws w t key.run key.server key.job jobs h in
     nothing_in (taken_of key t) state says.none taken
 
 -- Two states of a key that were kept and taken are one.
-same_kept : Ending → (w : Setup) (t : List Step) (key : Key) (x state : State) → IsTrace w t → kept_state (client_opening w) (of_client w t) key ≡ Some x → Contains (taken_of key t) state → x ≡ state
+same_kept : Ending → (w : Setup) (t : List Step) (key : Key) (x state : State) → IsTrace w t → kept_state (client_opening w) (of_client w t) key ≡ Some x
+    → Contains (taken_of key t) state → x ≡ state
 same_kept laws w t key x state trace h taken = same_two laws.once w t key x state (kept_was_taken laws.taken laws.has laws.kept_sent w t key x trace h) taken
 
 -- So a state that was taken was kept.
-kept_of : Ending → (w : Setup) (t : List Step) (key : Key) (state : State) → IsTrace w t → Contains (taken_of key t) state → KeptOrNone w t key → WasKept w t key state
+kept_of : Ending → (w : Setup) (t : List Step) (key : Key) (state : State) → IsTrace w t → Contains (taken_of key t) state → KeptOrNone w t key
+    → WasKept w t key state
 unfolding KeptOrNone
 kept_of laws w t key state trace taken (inl k) =
     let was = k.1 in
@@ -92,7 +99,8 @@ kept_of laws w t key state trace taken (inr k) = absurd (none_taken laws w t key
 
 -- And where the run has ended well, it is kept.
 answer_of : Ending → (w : Setup) (t : List Step) (key : Key) (state : State) → IsTrace w t → Contains (taken_of key t) state
-    → HasAnswer (words_noted (client_opening w) (of_client w t)) (packets_come (of_client w t)) key.run key.server key.job → kept_state (client_opening w) (of_client w t) key ≡ Some state
+    → HasAnswer (words_noted (client_opening w) (of_client w t)) (packets_come (of_client w t)) key.run key.server key.job
+    → kept_state (client_opening w) (of_client w t) key ≡ Some state
 answer_of laws w t key state trace taken (inl k) = k.1 ∙ ap Some (same_kept laws w t key k.0 state trace k.1 taken)
 answer_of laws w t key state trace taken (inr k) =
     absurd (none_taken laws w t key state k.0 taken (came_was_sent w t (from_server (bodies.NoState key.run key.job k.0) key.server) trace k.1))
@@ -121,7 +129,8 @@ not_mirror h = cc
 ack : Key → PacketParts
 ack key = to_server (bodies.StateAck key.run key.job) key.server
 
-acked_now : Ending → AcksAreFor → (w : Setup) (step : Step) (past : List Step) (key : Key) → IsTrace w (step ∷ past) → Contains (packets_of w past step) (ack key) → KeptOrNone w (step ∷ past) key
+acked_now : Ending → AcksAreFor → (w : Setup) (step : Step) (past : List Step) (key : Key) → IsTrace w (step ∷ past)
+    → Contains (packets_of w past step) (ack key) → KeptOrNone w (step ∷ past) key
 unfolding KeptOrNone ack
 acked_now laws law w (AtServer r e) past key trace h =
     let own = (laws.sayings.to_client (opening_of r) (of_server r past) e (to_server (bodies.StateAck key.run key.job) key.server) h).kind in
@@ -129,7 +138,8 @@ acked_now laws law w (AtServer r e) past key trace h =
 acked_now laws law w (AtClient e) past key trace h =
     elim (law (client_opening w) (of_client w past) e key.run key.server key.job h) [
       | inl k ↦ inl (k.0, record { later = []; earlier = AtClient e ∷ past; split = refl; kept_there = k.1 })
-      | inr k ↦ let p = from_server (bodies.NoState key.run key.job k.0) key.server in inr (k.0, sent_stays w (AtClient e) past p (taken_was_sent w (AtClient e) past p trace.1 k.1))
+      | inr k ↦ let p = from_server (bodies.NoState key.run key.job k.0) key.server in
+          inr (k.0, sent_stays w (AtClient e) past p (taken_was_sent w (AtClient e) past p trace.1 k.1))
     ]
 acked_now laws law w (AtMirror e) past key trace h =
     absurd (not_mirror (sym (sent_by_mirror laws.sayings.over mirror_opening (of_mirror past) e (to_server (bodies.StateAck key.run key.job) key.server) h).0))
@@ -143,7 +153,8 @@ acked_kept laws law w (step ∷ past) key trace h = elim (sent_cases w step past
 ]
 
 -- What came to a server, this event with it.
-heard_with_sent : (w : Setup) (s : ℕ) (e : Event) (left : _) (t : List Step) (p : PacketParts) → IsTrace w (AtServer s (Met e left) ∷ t) → Contains (heard_with e (heard_packets (of_server s t))) p → Contains (sent_packets w t) p
+heard_with_sent : (w : Setup) (s : ℕ) (e : Event) (left : _) (t : List Step) (p : PacketParts) → IsTrace w (AtServer s (Met e left) ∷ t)
+    → Contains (heard_with e (heard_packets (of_server s t))) p → Contains (sent_packets w t) p
 heard_with_sent w s (events.Deliver q) left t p trace h =
     elim (first_or_behind q (heard_packets (of_server s t)) p h) [
       | inl now ↦ subst (Contains (sent_packets w t)) now (trace.1.0.0)
@@ -164,5 +175,7 @@ kept_where_cut laws acks law w whole whole_is_trace later t s e left now j state
     let set = taken_of_set laws.sayings.grow o now.run j list state taken in
     let jobs : set.jobs ≡ now.jobs = same_some set.jobs now.jobs (sym set.is ∙ work_begun o list now is) in
     let less : j < length k.now.jobs = subst (λ (v : Work). j < length v.jobs) (sym same) (subst (λ (l : List Job). j < length l) jobs set.within) in
-    let came_in : Contains (heard_with e (heard_packets list)) (to_server (bodies.StateAck now.run j) s) = subst (λ (v : Work). Contains (heard_with e (heard_packets list)) (to_server (bodies.StateAck v.run j) s)) same (k.kept j less) in
-    kept_of laws w t (key_at now.run s j) state trace.0 taken (acked_kept laws acks w t (key_at now.run s j) trace.0 (heard_with_sent w s e left t (to_server (bodies.StateAck now.run j) s) trace came_in))
+    let came_in : Contains (heard_with e (heard_packets list)) (to_server (bodies.StateAck now.run j) s) =
+    subst (λ (v : Work). Contains (heard_with e (heard_packets list)) (to_server (bodies.StateAck v.run j) s)) same (k.kept j less) in
+    kept_of laws w t (key_at now.run s j) state trace.0 taken
+    (acked_kept laws acks w t (key_at now.run s j) trace.0 (heard_with_sent w s e left t (to_server (bodies.StateAck now.run j) s) trace came_in))

@@ -36,7 +36,8 @@ use Rattle.net_world.specs.Barred.{unless_on, unless_sent, unless_open, barring_
 use Rattle.net_world.specs.Writes.{open_at}
 use Rattle.net_world.specs.Events.{happening_of_end}
 use Rattle.net_world.specs.Finding.{IsOpen, FindsWrite}
-use Rattle.net_world.specs.Outcomes.{Does, Refuses, outcome_of_step, where_saved, met_by_server, comes_to_server, said_to_server, comes_to, delivery, end_of_write, brings, unless_barred, outcome}
+use Rattle.net_world.specs.Outcomes.{Does, Refuses, outcome_of_step, where_saved, met_by_server, comes_to_server}
+use Rattle.net_world.specs.Outcomes.{said_to_server, comes_to, delivery, end_of_write, brings, unless_barred, outcome}
 use Rattle.net_world.specs.World.{answer, and_outcome, told_by, told_of_happening, answer_of_issue, act, frame_count}
 use Rattle.net_world.specs.Telling.{told_of, issue_told}
 use Rattle.net_world.specs.Stands.{StandsFor}
@@ -49,23 +50,28 @@ use Rattle.net_world.proofs.OutcomeLemmas.{DroppedOr, met_ok, met_err, act_is, f
 
 -- ---- how an event ends, by what comes of it
 
-pub goes : (w : Setup) (past : List Change) (e : Happening) → barring_fault w (trace w past) (frames_sent w (steps past)) e ≡ None → outcome w past e ≡ brings w past e
+pub goes : (w : Setup) (past : List Change) (e : Happening) → barring_fault w (trace w past) (frames_sent w (steps past)) e ≡ None
+    → outcome w past e ≡ brings w past e
 goes w past e h = ap (λ x. unless_barred x (brings w past e)) h
 
-pub stops : (w : Setup) (past : List Change) (e : Happening) (fault : Fault) → barring_fault w (trace w past) (frames_sent w (steps past)) e ≡ Some fault → outcome w past e ≡ Refuses fault
+pub stops : (w : Setup) (past : List Change) (e : Happening) (fault : Fault) → barring_fault w (trace w past) (frames_sent w (steps past)) e ≡ Some fault
+    → outcome w past e ≡ Refuses fault
 stops w past e fault h = ap (λ x. unless_barred x (brings w past e)) h
 
 -- It does this, and is told so.
-pub does : (w : Setup) (past : List Change) (e : Happening) (change : Change) (t : Told) (new : World) → outcome w past e ≡ Does change → told_by w past e (Does change) ≡ Ok t → StandsFor w (change ∷ past) new
+pub does : (w : Setup) (past : List Change) (e : Happening) (change : Change) (t : Told) (new : World) → outcome w past e ≡ Does change
+    → told_by w past e (Does change) ≡ Ok t → StandsFor w (change ∷ past) new
     → Ends w past e new (Ok t)
 does w past e change t new is tells stands = (ap (told_by w past e) is ∙ tells, subst (λ x. StandsFor w (and_outcome x past) new) (sym is) stands)
 
 -- It is refused, and nothing changes.
-pub refusing : (w : Setup) (past : List Change) (e : Happening) (fault : Fault) (new : World) → outcome w past e ≡ Refuses fault → StandsFor w past new → (told_of_happening w past e ≡ Err fault) × StandsFor w (changes_after w past e) new
+pub refusing : (w : Setup) (past : List Change) (e : Happening) (fault : Fault) (new : World) → outcome w past e ≡ Refuses fault → StandsFor w past new
+    → (told_of_happening w past e ≡ Err fault) × StandsFor w (changes_after w past e) new
 refusing w past e fault new is stands = (ap (told_by w past e) is, subst (λ x. StandsFor w (and_outcome x past) new) (sym is) stands)
 
 -- A fault is a refusal, so that its sort is that.
-pub refuses : (w : Setup) (past : List Change) (e : Happening) (fault : Fault) (new : World) → sort_of fault ≡ sorts.Refusal → outcome w past e ≡ Refuses fault → StandsFor w past new → Ends w past e new (Err fault)
+pub refuses : (w : Setup) (past : List Change) (e : Happening) (fault : Fault) (new : World) → sort_of fault ≡ sorts.Refusal → outcome w past e ≡ Refuses fault
+    → StandsFor w past new → Ends w past e new (Err fault)
 refuses w past e fault new sort is stands = subst (λ x. ends.Faults w past e x fault new) (sym sort) (refusing w past e fault new is stands)
 
 -- What is due is saved, and else nothing is.
@@ -86,33 +92,41 @@ pub record ComesTo (w : Setup) (past : List Change) (s : ℕ) (e : Happening) (i
   pub err : (fault : Fault) (new : World) → ServerRefuses w past s i fault new → brings w past e ≡ Refuses fault
   pub keeps : is_drop (sense (opening_of s) (entries past s) i) ≡ false
 
-same_told : (served : Served) (a b : WorldAnswer) (first sent : ℕ) (asked : Act) → a ≡ b → served.first ≡ first → served.sent ≡ sent → served.act ≡ asked → told_of served a ≡ record { answer = b; first = first; sent = sent; act = asked }
+same_told : (served : Served) (a b : WorldAnswer) (first sent : ℕ) (asked : Act) → a ≡ b → served.first ≡ first → served.sent ≡ sent → served.act ≡ asked
+    → told_of served a ≡ record { answer = b; first = first; sent = sent; act = asked }
 same_told served a b first sent asked e f k x = rw (e, f, k, x) refl
 
-told_is : (w : Setup) (past : List Change) (s : ℕ) (e : Happening) (i : Input) (served : Served) (a : WorldAnswer) (new : World) → Serves w past s i new served → a ≡ answer w past e
+told_is : (w : Setup) (past : List Change) (s : ℕ) (e : Happening) (i : Input) (served : Served) (a : WorldAnswer) (new : World) → Serves w past s i new served
+    → a ≡ answer w past e
     → told_by w past e (Does (Met (step_by past s i))) ≡ Ok (told_of served a)
 told_is w past s e i served a new h is =
     ap (λ t. Ok t)
-    (sym (same_told served a (answer w past e) (length (frames_sent w (steps past))) (frame_count w past (Met (step_by past s i))) (act w past (Met (step_by past s i))) is h.first_is h.sent_is (h.act_is ∙ sym (act_is w past s i))))
+    (sym (same_told served a (answer w past e) (length (frames_sent w (steps past))) (frame_count w past (Met (step_by past s i)))
+    (act w past (Met (step_by past s i))) is h.first_is h.sent_is (h.act_is ∙ sym (act_is w past s i))))
 
 -- What is answered.
-pub served_ends : (w : Setup) (past : List Change) (s : ℕ) (e : Happening) (i : Input) (served : Served) (a : WorldAnswer) (t : Told) (new : World) → ComesTo w past s e i → Serves w past s i new served → a ≡ answer w past e
+pub served_ends : (w : Setup) (past : List Change) (s : ℕ) (e : Happening) (i : Input) (served : Served) (a : WorldAnswer) (t : Told) (new : World)
+    → ComesTo w past s e i → Serves w past s i new served → a ≡ answer w past e
     → t ≡ told_of served a → Ends w past e new (Ok t)
 served_ends w past s e i served a t new c h is tells =
-    does w past e (Met (step_by past s i)) t new (goes w past e (c.bar ∙ h.on) ∙ c.ok served new h) (told_is w past s e i served a new h is ∙ ap (λ x. Ok x) (sym tells)) h.stands
+    does w past e (Met (step_by past s i)) t new (goes w past e (c.bar ∙ h.on) ∙ c.ok served new h)
+    (told_is w past s e i served a new h is ∙ ap (λ x. Ok x) (sym tells)) h.stands
 
-refused_ends : (w : Setup) (past : List Change) (s : ℕ) (e : Happening) (i : Input) (fault : Fault) (new : World) → ComesTo w past s e i → IsBarred w past s fault new ⊎ ServerRefuses w past s i fault new
+refused_ends : (w : Setup) (past : List Change) (s : ℕ) (e : Happening) (i : Input) (fault : Fault) (new : World) → ComesTo w past s e i
+    → IsBarred w past s fault new ⊎ ServerRefuses w past s i fault new
     → (told_of_happening w past e ≡ Err fault) × StandsFor w (changes_after w past e) new
 refused_ends w past s e i fault new c (inl b) = refusing w past e fault new (stops w past e fault (c.bar ∙ b.why)) b.unchanged
 refused_ends w past s e i fault new c (inr r) = refusing w past e fault new (goes w past e (c.bar ∙ r.on) ∙ c.err fault new r) (r.unchanged c.keeps)
 
-by_sort : (w : Setup) (past : List Change) (s : ℕ) (e : Happening) (i : Input) (fault : Fault) (new : World) → ComesTo w past s e i → (sort : FaultSort) → serving.Faults w past s i sort fault new → ends.Faults w past e sort fault new
+by_sort : (w : Setup) (past : List Change) (s : ℕ) (e : Happening) (i : Input) (fault : Fault) (new : World) → ComesTo w past s e i → (sort : FaultSort)
+    → serving.Faults w past s i sort fault new → ends.Faults w past e sort fault new
 by_sort w past s e i fault new c sorts.Memory h = h
 by_sort w past s e i fault new c sorts.Save h = h
 by_sort w past s e i fault new c sorts.Refusal h = refused_ends w past s e i fault new c h
 
 -- What isn't answered.
-pub unserved_ends : (w : Setup) (past : List Change) (s : ℕ) (e : Happening) (i : Input) (fault : Fault) (new : World) → ComesTo w past s e i → ServerEnds w past s i new (Err fault) → Ends w past e new (Err fault)
+pub unserved_ends : (w : Setup) (past : List Change) (s : ℕ) (e : Happening) (i : Input) (fault : Fault) (new : World) → ComesTo w past s e i
+    → ServerEnds w past s i new (Err fault) → Ends w past e new (Err fault)
 unserved_ends w past s e i fault new c h = by_sort w past s e i fault new c (sort_of fault) h
 
 -- ---- an event that is no frame
@@ -125,33 +139,42 @@ pub record Meets (w : Setup) (past : List Change) (s : ℕ) (e : Happening) (eve
 issue_comes : (w : Setup) (past : List Change) (s j : ℕ) (e : Happening) → Meets w past s e (events.Issue j) → ComesTo w past s e (inputs.Issue j)
 issue_comes w past s j e m = record {
   bar = m.bar;
-  ok = λ served new h. m.meets ∙ ap outcome_of_step (met_ok (trace w past) s (events.Issue j) (packets_heard (opening_of s) (entries past s)) (heard_is w past s) h.free);
-  err = λ fault new h. m.meets ∙ ap outcome_of_step (met_err (trace w past) s (events.Issue j) (packets_heard (opening_of s) (entries past s)) fault (heard_is w past s) h.why);
+  ok = λ served new h. m.meets ∙ ap outcome_of_step (met_ok (trace w past) s (events.Issue j) (packets_heard (opening_of s) (entries past s))
+      (heard_is w past s) h.free);
+  err = λ fault new h. m.meets ∙ ap outcome_of_step (met_err (trace w past) s (events.Issue j) (packets_heard (opening_of s) (entries past s)) fault
+      (heard_is w past s) h.why);
   keeps = refl;
 }
 
 -- ---- a worker asks for a write
 
-issue_answer : (w : Setup) (past : List Change) (s j : ℕ) (served : Served) (new : World) → Serves w past s (inputs.Issue j) new served → answer_of_issue served.issue ≡ answer w past (happenings.Issue s j)
+issue_answer : (w : Setup) (past : List Change) (s j : ℕ) (served : Served) (new : World) → Serves w past s (inputs.Issue j) new served
+    → answer_of_issue served.issue ≡ answer w past (happenings.Issue s j)
 issue_answer w past s j served new h = ap answer_of_issue (h.issue_is ∙ ap (λ list. answers.issue (opening_of s) list (events.Issue j)) (heard_is w past s))
 
 asks : (w : Setup) (past : List Change) (s j : ℕ) → Meets w past s (happenings.Issue s j) (events.Issue j)
 asks w past s j = record { bar = refl; meets = refl }
 
-pub issue_ends : (w : Setup) (past : List Change) (s j : ℕ) (served : Served) (t : Told) (new : World) → ServerEnds w past s (inputs.Issue j) new (Ok served) → t ≡ issue_told served → Ends w past (happenings.Issue s j) new (Ok t)
+pub issue_ends : (w : Setup) (past : List Change) (s j : ℕ) (served : Served) (t : Told) (new : World) → ServerEnds w past s (inputs.Issue j) new (Ok served)
+    → t ≡ issue_told served → Ends w past (happenings.Issue s j) new (Ok t)
 issue_ends w past s j served t new h tells =
-    served_ends w past s (happenings.Issue s j) (inputs.Issue j) served (answer_of_issue served.issue) t new (issue_comes w past s j (happenings.Issue s j) (asks w past s j)) h (issue_answer w past s j served new h) tells
+    served_ends w past s (happenings.Issue s j) (inputs.Issue j) served (answer_of_issue served.issue) t new
+    (issue_comes w past s j (happenings.Issue s j) (asks w past s j)) h (issue_answer w past s j served new h) tells
 
-pub issue_fails : (w : Setup) (past : List Change) (s j : ℕ) (fault : Fault) (new : World) → ServerEnds w past s (inputs.Issue j) new (Err fault) → Ends w past (happenings.Issue s j) new (Err fault)
-issue_fails w past s j fault new h = unserved_ends w past s (happenings.Issue s j) (inputs.Issue j) fault new (issue_comes w past s j (happenings.Issue s j) (asks w past s j)) h
+pub issue_fails : (w : Setup) (past : List Change) (s j : ℕ) (fault : Fault) (new : World) → ServerEnds w past s (inputs.Issue j) new (Err fault)
+    → Ends w past (happenings.Issue s j) new (Err fault)
+issue_fails w past s j fault new h =
+    unserved_ends w past s (happenings.Issue s j) (inputs.Issue j) fault new (issue_comes w past s j (happenings.Issue s j) (asks w past s j)) h
 
 -- ---- a write has ended
 
-bar_is : (w : Setup) (past : List Change) (s j k : ℕ) (end : WriteEnd) → barring_fault w (trace w past) (frames_sent w (steps past)) (happening_of_end end s j k) ≡ unless_open w (trace w past) s j k
+bar_is : (w : Setup) (past : List Change) (s j k : ℕ) (end : WriteEnd)
+    → barring_fault w (trace w past) (frames_sent w (steps past)) (happening_of_end end s j k) ≡ unless_open w (trace w past) s j k
 bar_is w past s j k write_ends.Done = refl
 bar_is w past s j k write_ends.Failed = refl
 
-brings_is : (w : Setup) (past : List Change) (s j k : ℕ) (end : WriteEnd) → brings w past (happening_of_end end s j k) ≡ outcome_of_step (end_of_write (trace w past) s k end (open_at (trace w past) s j k))
+brings_is : (w : Setup) (past : List Change) (s j k : ℕ) (end : WriteEnd)
+    → brings w past (happening_of_end end s j k) ≡ outcome_of_step (end_of_write (trace w past) s k end (open_at (trace w past) s j k))
 brings_is w past s j k write_ends.Done = refl
 brings_is w past s j k write_ends.Failed = refl
 
@@ -159,29 +182,38 @@ answer_is : (w : Setup) (past : List Change) (s j k : ℕ) (end : WriteEnd) → 
 answer_is w past s j k write_ends.Done = refl
 answer_is w past s j k write_ends.Failed = refl
 
-ended_comes : (w : Setup) (past : List Change) (s j k : ℕ) (end : WriteEnd) (ticket : Ticket) (rec : JobParts) → IsOpen w past s j k ticket rec → ComesTo w past s (happening_of_end end s j k) (inputs.WriteDone ticket end)
+ended_comes : (w : Setup) (past : List Change) (s j k : ℕ) (end : WriteEnd) (ticket : Ticket) (rec : JobParts) → IsOpen w past s j k ticket rec
+    → ComesTo w past s (happening_of_end end s j k) (inputs.WriteDone ticket end)
 ended_comes w past s j k end ticket rec h =
     let meets : brings w past (happening_of_end end s j k) ≡ outcome_of_step (met_by_server (trace w past) s (events.WriteDone ticket end)) =
-    brings_is w past s j k end ∙ ap (λ x. outcome_of_step (end_of_write (trace w past) s k end x)) h.is_open ∙ ap (λ t. outcome_of_step (met_by_server (trace w past) s (events.WriteDone t end))) (sym h.ticket_is) in
+    brings_is w past s j k end ∙ ap (λ x. outcome_of_step (end_of_write (trace w past) s k end x)) h.is_open
+    ∙ ap (λ t. outcome_of_step (met_by_server (trace w past) s (events.WriteDone t end))) (sym h.ticket_is) in
     record {
       bar = bar_is w past s j k end ∙ h.there ∙ sym h.on;
-      ok = λ served new g. meets ∙ ap outcome_of_step (met_ok (trace w past) s (events.WriteDone ticket end) (packets_heard (opening_of s) (entries past s)) (heard_is w past s) g.free);
-      err = λ fault new g. meets ∙ ap outcome_of_step (met_err (trace w past) s (events.WriteDone ticket end) (packets_heard (opening_of s) (entries past s)) fault (heard_is w past s) g.why);
+      ok = λ served new g. meets ∙ ap outcome_of_step (met_ok (trace w past) s (events.WriteDone ticket end) (packets_heard (opening_of s) (entries past s))
+          (heard_is w past s) g.free);
+      err = λ fault new g. meets ∙ ap outcome_of_step (met_err (trace w past) s (events.WriteDone ticket end)
+          (packets_heard (opening_of s) (entries past s)) fault (heard_is w past s) g.why);
       keeps = refl;
     }
 
-pub end_ends : (w : Setup) (past : List Change) (s j k : ℕ) (end : WriteEnd) (ticket : Ticket) (rec : JobParts) (served : Served) (t : Told) (new : World) → IsOpen w past s j k ticket rec
-    → ServerEnds w past s (inputs.WriteDone ticket end) new (Ok served) → t ≡ told_of served answers_told.Plain → Ends w past (happening_of_end end s j k) new (Ok t)
+pub end_ends : (w : Setup) (past : List Change) (s j k : ℕ) (end : WriteEnd) (ticket : Ticket) (rec : JobParts) (served : Served) (t : Told) (new : World)
+    → IsOpen w past s j k ticket rec
+    → ServerEnds w past s (inputs.WriteDone ticket end) new (Ok served) → t ≡ told_of served answers_told.Plain
+    → Ends w past (happening_of_end end s j k) new (Ok t)
 end_ends w past s j k end ticket rec served t new h g tells =
-    served_ends w past s (happening_of_end end s j k) (inputs.WriteDone ticket end) served answers_told.Plain t new (ended_comes w past s j k end ticket rec h) g (answer_is w past s j k end) tells
+    served_ends w past s (happening_of_end end s j k) (inputs.WriteDone ticket end) served answers_told.Plain t new
+    (ended_comes w past s j k end ticket rec h) g (answer_is w past s j k end) tells
 
-pub end_fails : (w : Setup) (past : List Change) (s j k : ℕ) (end : WriteEnd) (ticket : Ticket) (rec : JobParts) (fault : Fault) (new : World) → IsOpen w past s j k ticket rec
+pub end_fails : (w : Setup) (past : List Change) (s j k : ℕ) (end : WriteEnd) (ticket : Ticket) (rec : JobParts) (fault : Fault) (new : World)
+    → IsOpen w past s j k ticket rec
     → ServerEnds w past s (inputs.WriteDone ticket end) new (Err fault) → Ends w past (happening_of_end end s j k) new (Err fault)
 end_fails w past s j k end ticket rec fault new h g =
     unserved_ends w past s (happening_of_end end s j k) (inputs.WriteDone ticket end) fault new (ended_comes w past s j k end ticket rec h) g
 
 -- Nothing is open there.
-pub end_unopen : (w : Setup) (past : List Change) (s j k : ℕ) (end : WriteEnd) (fault : Fault) (new : World) → FindsWrite w past s j k (Err fault) → StandsFor w past new → Ends w past (happening_of_end end s j k) new (Err fault)
+pub end_unopen : (w : Setup) (past : List Change) (s j k : ℕ) (end : WriteEnd) (fault : Fault) (new : World) → FindsWrite w past s j k (Err fault)
+    → StandsFor w past new → Ends w past (happening_of_end end s j k) new (Err fault)
 end_unopen w past s j k end fault new h stands =
     refuses w past (happening_of_end end s j k) fault new h.1 (stops w past (happening_of_end end s j k) fault (bar_is w past s j k end ∙ h.0)) stands
 
@@ -192,13 +224,16 @@ pub record GoesTo (w : Setup) (past : List Change) (number : ℕ) (f : Frame) (s
   pub is_sent : slice_get (frames_sent w (steps past)) number ≡ Some f
   pub goes_to : to_of f ≡ nodes.Server s
 
-frame_bar : (w : Setup) (past : List Change) (number : ℕ) (f : Frame) (s : ℕ) → GoesTo w past number f s → barring_fault w (trace w past) (frames_sent w (steps past)) (happenings.Deliver number) ≡ unless_on w (trace w past) (nodes.Server s)
+frame_bar : (w : Setup) (past : List Change) (number : ℕ) (f : Frame) (s : ℕ) → GoesTo w past number f s
+    → barring_fault w (trace w past) (frames_sent w (steps past)) (happenings.Deliver number) ≡ unless_on w (trace w past) (nodes.Server s)
 frame_bar w past number f s g = ap (unless_sent w (trace w past)) g.is_sent ∙ ap (unless_on w (trace w past)) g.goes_to
 
-frame_comes : (w : Setup) (past : List Change) (number : ℕ) (f : Frame) (s : ℕ) → GoesTo w past number f s → brings w past (happenings.Deliver number) ≡ comes_to_server (trace w past) s f (said_to_server (steps past) s f)
+frame_comes : (w : Setup) (past : List Change) (number : ℕ) (f : Frame) (s : ℕ) → GoesTo w past number f s
+    → brings w past (happenings.Deliver number) ≡ comes_to_server (trace w past) s f (said_to_server (steps past) s f)
 frame_comes w past number f s g = ap (delivery w past) g.is_sent ∙ ap (λ node. comes_to w past node f) g.goes_to
 
-pub delivery_ends : (w : Setup) (past : List Change) (number : ℕ) (f : Frame) (s : ℕ) (served : Served) (t : Told) (new : World) → GoesTo w past number f s → ServerEnds w past s (inputs.Deliver f) new (Ok served)
+pub delivery_ends : (w : Setup) (past : List Change) (number : ℕ) (f : Frame) (s : ℕ) (served : Served) (t : Told) (new : World) → GoesTo w past number f s
+    → ServerEnds w past s (inputs.Deliver f) new (Ok served)
     → t ≡ told_of served answers_told.Plain → Ends w past (happenings.Deliver number) new (Ok t)
 delivery_ends w past number f s served t new g h tells =
     let e = happenings.Deliver number in
@@ -206,9 +241,11 @@ delivery_ends w past number f s served t new g h tells =
     (goes w past e (frame_bar w past number f s g ∙ h.on) ∙ frame_comes w past number f s g ∙ frame_ok w past s f h.free)
     (told_is w past s e (inputs.Deliver f) served answers_told.Plain new h refl ∙ ap (λ x. Ok x) (sym tells)) h.stands
 
-dropped : (w : Setup) (past : List Change) (s : ℕ) (f : Frame) (fault : Fault) (e : Happening) (new : World) → outcome w past e ≡ comes_to_server (trace w past) s f (said_to_server (steps past) s f)
+dropped : (w : Setup) (past : List Change) (s : ℕ) (f : Frame) (fault : Fault) (e : Happening) (new : World)
+    → outcome w past e ≡ comes_to_server (trace w past) s f (said_to_server (steps past) s f)
     → ServerRefuses w past s (inputs.Deliver f) fault new
-    → DroppedOr s f fault (is_drop (sense (opening_of s) (entries past s) (inputs.Deliver f))) (comes_to_server (trace w past) s f (said_to_server (steps past) s f))
+    → DroppedOr s f fault (is_drop (sense (opening_of s) (entries past s) (inputs.Deliver f)))
+    (comes_to_server (trace w past) s f (said_to_server (steps past) s f))
     → (told_of_happening w past e ≡ Err fault) × StandsFor w (changes_after w past e) new
 unfolding DroppedOr
 dropped w past s f fault e new is r (inl d) = refusing w past e fault new (is ∙ d.1) (r.unchanged d.0)
@@ -217,20 +254,24 @@ dropped w past s f fault e new is r (inr d) = (
   subst (λ x. StandsFor w (and_outcome x past) new) (sym (is ∙ d.2)) r.stands,
 )
 
-unanswered : (w : Setup) (past : List Change) (number : ℕ) (f : Frame) (s : ℕ) (fault : Fault) (new : World) → GoesTo w past number f s → IsBarred w past s fault new ⊎ ServerRefuses w past s (inputs.Deliver f) fault new
+unanswered : (w : Setup) (past : List Change) (number : ℕ) (f : Frame) (s : ℕ) (fault : Fault) (new : World) → GoesTo w past number f s
+    → IsBarred w past s fault new ⊎ ServerRefuses w past s (inputs.Deliver f) fault new
     → (told_of_happening w past (happenings.Deliver number) ≡ Err fault) × StandsFor w (changes_after w past (happenings.Deliver number)) new
 unanswered w past number f s fault new g (inl b) =
     refusing w past (happenings.Deliver number) fault new (stops w past (happenings.Deliver number) fault (frame_bar w past number f s g ∙ b.why)) b.unchanged
 unanswered w past number f s fault new g (inr r) =
-    dropped w past s f fault (happenings.Deliver number) new (goes w past (happenings.Deliver number) (frame_bar w past number f s g ∙ r.on) ∙ frame_comes w past number f s g) r
+    dropped w past s f fault (happenings.Deliver number) new
+    (goes w past (happenings.Deliver number) (frame_bar w past number f s g ∙ r.on) ∙ frame_comes w past number f s g) r
     (frame_err w past s f fault (up_of w past s r.on) r.why)
 
-delivery_sort : (w : Setup) (past : List Change) (number : ℕ) (f : Frame) (s : ℕ) (fault : Fault) (new : World) → GoesTo w past number f s → (sort : FaultSort) → serving.Faults w past s (inputs.Deliver f) sort fault new
+delivery_sort : (w : Setup) (past : List Change) (number : ℕ) (f : Frame) (s : ℕ) (fault : Fault) (new : World) → GoesTo w past number f s → (sort : FaultSort)
+    → serving.Faults w past s (inputs.Deliver f) sort fault new
     → ends.Faults w past (happenings.Deliver number) sort fault new
 delivery_sort w past number f s fault new g sorts.Memory h = h
 delivery_sort w past number f s fault new g sorts.Save h = h
 delivery_sort w past number f s fault new g sorts.Refusal h = unanswered w past number f s fault new g h
 
-pub delivery_fails : (w : Setup) (past : List Change) (number : ℕ) (f : Frame) (s : ℕ) (fault : Fault) (new : World) → GoesTo w past number f s → ServerEnds w past s (inputs.Deliver f) new (Err fault)
+pub delivery_fails : (w : Setup) (past : List Change) (number : ℕ) (f : Frame) (s : ℕ) (fault : Fault) (new : World) → GoesTo w past number f s
+    → ServerEnds w past s (inputs.Deliver f) new (Err fault)
     → Ends w past (happenings.Deliver number) new (Err fault)
 delivery_fails w past number f s fault new g h = delivery_sort w past number f s fault new g (sort_of fault) h

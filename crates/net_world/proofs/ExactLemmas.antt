@@ -28,7 +28,8 @@ use Rattle.net_world.specs.Claims.{OfEachTrace, OfEachWorld}
 use Rattle.net_world.specs.Headline.{QuietUntilTheCheck, ExactReports}
 
 -- What is told answers what the event answers.
-told_ok : (w : Setup) (past : List Change) (e : Happening) (r : Outcome) (t : Told) → told_by w past e r ≡ Ok t → (h : Change) × (r ≡ Does h) × (t.answer ≡ answer w past e)
+told_ok : (w : Setup) (past : List Change) (e : Happening) (r : Outcome) (t : Told) → told_by w past e r ≡ Ok t
+    → (h : Change) × (r ≡ Does h) × (t.answer ≡ answer w past e)
 told_ok w past e (Refuses fault) t h = absurd cc
 told_ok w past e (Drops step) t h = absurd cc
 told_ok w past e (Does change) t h = (change, refl, ap (λ (x : Told). x.answer) (sym (the_ok h)))
@@ -61,7 +62,8 @@ record Ready (c : Check) (j : ℕ) (held : ℕ → List ℕ) (x : Option Job) (e
   pub made : progress_after c j job c.since ≡ with_or_full state
   pub event : e ≡ CheckDone c.boot c.attempt j (report_of (key_of c j) job state held)
 
-ready_by : (c : Check) (j : ℕ) (held : ℕ → List ℕ) (job : Job) (p : Progress) (e : ServerEvent) → progress_after c j job c.since ≡ p → check_end c j (report_by c j job p held) ≡ Some e → Ready c j held (Some job) e
+ready_by : (c : Check) (j : ℕ) (held : ℕ → List ℕ) (job : Job) (p : Progress) (e : ServerEvent) → progress_after c j job c.since ≡ p
+    → check_end c j (report_by c j job p held) ≡ Some e → Ready c j held (Some job) e
 ready_by c j held job Wanting e m h = absurd cc
 ready_by c j held job Full e m h = record { job = job; has_job = refl; state = None; made = m; event = the_some (sym h) }
   where
@@ -78,14 +80,17 @@ ready_for : (c : Check) (j : ℕ) (held : ℕ → List ℕ) (x : Option Job) (e 
 ready_for c j held None e h = absurd cc
 ready_for c j held (Some job) e h = ready_by c j held job (progress_after c j job c.since) e refl h
 
-ready : (x : Option Check) (j : ℕ) (held : ℕ → List ℕ) (e : ServerEvent) → end_of_check_in x j held ≡ Some e → (c : Check) × (x ≡ Some c) × Ready c j held (slice_get c.jobs j) e
+ready : (x : Option Check) (j : ℕ) (held : ℕ → List ℕ) (e : ServerEvent) → end_of_check_in x j held ≡ Some e
+    → (c : Check) × (x ≡ Some c) × Ready c j held (slice_get c.jobs j) e
 ready None j held e h = absurd cc
 ready (Some c) j held e h = (c, refl, ready_for c j held (slice_get c.jobs j) e h)
 
-pub progress_is : (o : Opening) (list : List Entry) (j : ℕ) (c : Check) (job : Job) (p : Progress) → check o list ≡ Some c → slice_get c.jobs j ≡ Some job → progress_after c j job c.since ≡ p → progress o list j ≡ Some p
+pub progress_is : (o : Opening) (list : List Entry) (j : ℕ) (c : Check) (job : Job) (p : Progress) → check o list ≡ Some c → slice_get c.jobs j ≡ Some job
+    → progress_after c j job c.since ≡ p → progress o list j ≡ Some p
 progress_is o list j c job p a b h = ap (λ x. progress_in x j) a ∙ ap (progress_at c j) b ∙ ap Some h
 
-made_with : OfEachTrace QuietUntilTheCheck → (w : Setup) (t : List Step) (s j : ℕ) (x : Option State) → IsTrace w t → progress (opening_of s) (of_server s t) j ≡ Some (with_or_full x) → IsMadeWith s j (of_server s t) x
+made_with : OfEachTrace QuietUntilTheCheck → (w : Setup) (t : List Step) (s j : ℕ) (x : Option State) → IsTrace w t
+    → progress (opening_of s) (of_server s t) j ≡ Some (with_or_full x) → IsMadeWith s j (of_server s t) x
 made_with quiet w t s j None trace h = h
 made_with quiet w t s j (Some state) trace h = (h, quiet w t trace s j state h)
 
@@ -106,10 +111,12 @@ made w past s j t h =
     let k = ready (check (opening_of s) (of_server s (trace w past))) j (content w past s j) d.0 d.1 in
     record { now = k.0; is_open = k.1; event = d.0; ready = k.2; answer = a.2 ∙ ap report_in d.1 }
 
-answer_of : (c : Check) (j : ℕ) (held : ℕ → List ℕ) (x : Option Job) (e : ServerEvent) → (r : Ready c j held x e) → report_in (Some e) ≡ Checked (report_of (key_of c j) r.job r.state held)
+answer_of : (c : Check) (j : ℕ) (held : ℕ → List ℕ) (x : Option Job) (e : ServerEvent) → (r : Ready c j held x e)
+    → report_in (Some e) ≡ Checked (report_of (key_of c j) r.job r.state held)
 answer_of c j held x e r = ap (λ f. report_in (Some f)) r.event
 
-exact : OfEachTrace QuietUntilTheCheck → (w : Setup) (past : List Change) (s j : ℕ) (t : Told) → IsTrace w (trace w past) → Made w past s j t → (r : ReportParts) × (t.answer ≡ Checked r) × IsExact w past s j r
+exact : OfEachTrace QuietUntilTheCheck → (w : Setup) (past : List Change) (s j : ℕ) (t : Told) → IsTrace w (trace w past) → Made w past s j t
+    → (r : ReportParts) × (t.answer ≡ Checked r) × IsExact w past s j r
 exact quiet w past s j t tr m =
     let o = opening_of s in
     let list = of_server s (trace w past) in

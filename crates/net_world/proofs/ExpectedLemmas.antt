@@ -1,5 +1,6 @@
 -- What a check expects of a block, and which blocks hold it.
-use Rattle.std.proofs.Common.{◌≡◌, refl, sym, ◌∙◌, ap, ◌⊎◌, inl, inr, ℕ, zero, suc, ◌<◌, ◌≤◌, arith, Bool, true, false, ◌&&◌, ◌||◌, ◌==◌, List, map, Option, Some, None}
+use Rattle.std.proofs.Common.{◌≡◌, refl, sym, ◌∙◌, ap, ◌⊎◌, inl, inr, ℕ, zero, suc, ◌<◌, ◌≤◌, arith}
+use Rattle.std.proofs.Common.{Bool, true, false, ◌&&◌, ◌||◌, ◌==◌, List, map, Option, Some, None}
 use Rattle.std.specs.Prelude.{if◌then◌else◌, is_some, slice_index_or, not, nat_le}
 use Rattle.std.specs.List.{range_with_len}
 use Rattle.std.specs.Str.{bytes_eq}
@@ -32,7 +33,8 @@ pub record IsGreatest (test : ℕ → Bool) (n k : ℕ) : Type 0 where
   pub within : k < n
   pub last : (i : ℕ) → i < n → test i ≡ true → i ≤ k
 
-greatest_step : (test : ℕ → Bool) (n k : ℕ) (b : Bool) → test n ≡ b → (greatest_below test n ≡ Some k → IsGreatest test n k) → (if b then Some n else greatest_below test n) ≡ Some k → IsGreatest test (suc n) k
+greatest_step : (test : ℕ → Bool) (n k : ℕ) (b : Bool) → test n ≡ b → (greatest_below test n ≡ Some k → IsGreatest test n k)
+    → (if b then Some n else greatest_below test n) ≡ Some k → IsGreatest test (suc n) k
 greatest_step test n k true is f h =
     let same : n ≡ k = some_is h in
     record { passes = ap test (sym same) ∙ is; within = omega (arith, same); last = λ i lt p. omega (arith, same, lt) }
@@ -48,7 +50,8 @@ pub greatest : (test : ℕ → Bool) (n k : ℕ) → greatest_below test n ≡ S
 greatest test zero k h = absurd cc
 greatest test (suc n) k h = greatest_step test n k (test n) refl (greatest test n k) h
 
-none_step : (test : ℕ → Bool) (n i : ℕ) (b : Bool) → test n ≡ b → (greatest_below test n ≡ None → i < n → test i ≡ false) → (if b then Some n else greatest_below test n) ≡ None → i < suc n → test i ≡ false
+none_step : (test : ℕ → Bool) (n i : ℕ) (b : Bool) → test n ≡ b → (greatest_below test n ≡ None → i < n → test i ≡ false)
+    → (if b then Some n else greatest_below test n) ≡ None → i < suc n → test i ≡ false
 none_step test n i true is f h lt = absurd cc
 none_step test n i false is f h lt = elim (cases_lt i n) [ inl less ↦ f h less | inr more ↦ (let same : i ≡ n = omega arith in ap test same ∙ is) ]
 
@@ -151,13 +154,15 @@ pub or_left : (a b : Bool) → a ≡ true → (a || b) ≡ true
 or_left true b h = refl
 or_left false b h = absurd cc
 
-pub expected_it : (e : Expected) (bytes : List ℕ) (block k : ℕ) → last_write e block ≡ Some k → is_write e block bytes k ≡ true → is_expected e block bytes ≡ true
+pub expected_it : (e : Expected) (bytes : List ℕ) (block k : ℕ) → last_write e block ≡ Some k → is_write e block bytes k ≡ true
+    → is_expected e block bytes ≡ true
 expected_it e bytes block k is w = rw is (or_left (is_write e block bytes k) _ w)
 
 pub both : (a b : Bool) → a ≡ true → b ≡ true → (a && b) ≡ true
 both a b p q = rw (p, q) refl
 
-pub sound : (e : Expected) (held : ℕ → List ℕ) (block k : ℕ) → last_write e block ≡ Some k → held block ≡ written_bytes e.key e.job k block → is_fault e held block ≡ true → ⊥
+pub sound : (e : Expected) (held : ℕ → List ℕ) (block k : ℕ) → last_write e block ≡ Some k → held block ≡ written_bytes e.key e.job k block
+    → is_fault e held block ≡ true → ⊥
 sound e held block k is same h =
     let write : is_write e block (held block) k ≡ true = (bytes_eq-Decides (held block) (written_bytes e.key e.job k block)).1 same in
     let p = and_parts (is_checked e block) (not (is_expected e block (held block))) h in

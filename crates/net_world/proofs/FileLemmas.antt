@@ -32,7 +32,8 @@ opened laws job h m legal is_open =
     undone false e = refl
 
 -- It goes to another block than a write that is done and isn't below it.
-pub goes_elsewhere : Ground → (job : JobParts) (h : List Event) (m k : ℕ) → IsLegal job h → has (open_writes h) m ≡ true → is_done h k ≡ true → m ≤ k → block_of job m ≡ block_of job k → ⊥
+pub goes_elsewhere : Ground → (job : JobParts) (h : List Event) (m k : ℕ) → IsLegal job h → has (open_writes h) m ≡ true → is_done h k ≡ true → m ≤ k
+    → block_of job m ≡ block_of job k → ⊥
 goes_elsewhere laws job h m k legal is_open finished le same =
     let o = opened laws job h m legal is_open in
     elim (cases_eq m k) [
@@ -44,7 +45,8 @@ file_of : (ℕ → List ℕ) → File
 file_of held = record { content = held; power = None; failures = 0 }
 
 -- Another block holds what it held.
-pub holds_on : Ground → (held : ℕ → List ℕ) (key : Key) (job : JobParts) (k m mask : ℕ) → IsTrue (is_within_limits job) → (block_of job k ≡ block_of job m → ⊥) → HoldsWrite held key job k
+pub holds_on : Ground → (held : ℕ → List ℕ) (key : Key) (job : JobParts) (k m mask : ℕ) → IsTrue (is_within_limits job) → (block_of job k ≡ block_of job m → ⊥)
+    → HoldsWrite held key job k
     → HoldsWrite (with_block mask (block_of job m) (bytes_of key job m) held) key job k
 unfolding file_of
 holds_on laws held key job k m mask limits apart h =
@@ -66,7 +68,12 @@ is_block laws key job m limits =
     let blocks = and_parts (nat_le 1 job.blocks && nat_le job.blocks MAX_BLOCKS) (nat_le 1 job.total && nat_le job.total MAX_WRITES) two.1 in
     let few = (and_parts (nat_le 1 job.blocks) (nat_le job.blocks MAX_BLOCKS) blocks.0).1 in
     subst (λ n. IsBlock (block_of job m) n) (sym size)
-    (record { number = below (block_of job m) job.blocks MAX_BLOCKS inside few; least = le 512 job.bs bounds.0; most = le job.bs MAX_BLOCK_SIZE bounds.1; whole = same (job.bs % 512) bs.1 })
+    (record {
+      number = below (block_of job m) job.blocks MAX_BLOCKS inside few;
+      least = le 512 job.bs bounds.0;
+      most = le job.bs MAX_BLOCK_SIZE bounds.1;
+      whole = same (job.bs % 512) bs.1;
+    })
   where
     below : (a b c : ℕ) → a < b → nat_le b c ≡ true → a < c
     below a b c l h = grind (arith, nat_tests)

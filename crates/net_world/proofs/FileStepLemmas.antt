@@ -1,18 +1,12 @@
 -- One file of a world has changed.
-use Rattle.std.proofs.Common.{◌≡◌, refl, sym, ◌∙◌, ap, subst, ℕ, ◌+◌, ◌*◌, ◌%◌, ◌<◌, ◌≤◌, arith, Bool, true, false, ◌&&◌, ◌==◌, List, ◌∷◌, length, Option, Some, None, Ok}
-use Rattle.std.specs.Prelude.{if◌then◌else◌, get_or, map, nat_le, nat_lt, set, slice_get, IsTrue, Vec}
+use Rattle.std.proofs.Common.{◌≡◌, refl, sym, ◌∙◌, ap, subst, ℕ, ◌+◌, ◌*◌, ◌<◌, ◌≤◌, arith, Bool}
+use Rattle.std.proofs.Common.{true, false, ◌&&◌, ◌==◌, List, ◌∷◌, length, Some, None, Ok}
+use Rattle.std.specs.Prelude.{if◌then◌else◌, map, nat_lt, set, slice_get, Vec}
 use Rattle.std.specs.declared.alloc.Global.{Global}
 use Rattle.std.proofs.Math.ListN.{length-set}
 use Rattle.std.proofs.lemmas.Bool.{eqb-true, eq-eqb, and_parts, ltb-true, ltb-false, lt-ltb, le-ltb}
-use Rattle.fc_base.specs.declared.limits.TheConstants.{MAX_BLOCKS, MAX_BLOCK_SIZE, MAX_JOBS, MAX_WRITES}
-use Rattle.fc_base.specs.declared.record.JobParts.{JobParts}
-use Rattle.fc_base.specs.JobParts.{has_block_size, has_region, has_queue, has_pattern, is_within_limits}
-use Rattle.write_order.specs.Blocks.{block_of}
-use Rattle.write_order.specs.Stamps.{bytes_of, written_bytes}
-use Rattle.write_order.specs.Laws.{WritesStayInTheRegion}
-use Rattle.engine.specs.declared.issue.Ticket.{Ticket}
-use Rattle.engine.specs.Running.{Origin}
-use Rattle.disk_model.specs.File.{File, IsBlock, put, has_bit, with_landed}
+use Rattle.fc_base.specs.declared.limits.TheConstants.{MAX_JOBS}
+use Rattle.disk_model.specs.File.{File, put}
 use Rattle.disk_model.specs.MemDisk.{file_of}
 use Rattle.disk_model.specs.declared.mem_disk.MemDisk.{MemDisk}
 use Rattle.messages.specs.FrameBytes.{frame_spelling}
@@ -25,12 +19,10 @@ use Rattle.net_world.specs.Happenings.{Happening}
 use Rattle.net_world.specs.Trace.{opening_of, client_opening}
 use Rattle.net_world.specs.Frames.{frames_sent, server_entries, client_entries, of_mirror}
 use Rattle.net_world.specs.Changes.{Change, Landed, Rotted, steps, trace}
-use Rattle.net_world.specs.Contents.{content, with_block, with_write, is_file}
+use Rattle.net_world.specs.Contents.{content, with_write, is_file}
 use Rattle.std.specs.Option.{option_or}
-use Rattle.std.proofs.lemmas.Bool.Decides.{nat_tests}
 use Rattle.fc_base.specs.declared.fault.Fault.TheVariants.{NoServer, NoWrite}
 use Rattle.net_world.specs.Barred.{unless, no_file}
-use Rattle.net_world.specs.Finding.{IsOpen}
 use Rattle.net_world.specs.Writes.{open_at}
 use Rattle.net_world.specs.Outcomes.{Does, outcome}
 use Rattle.net_world.specs.World.{told_by}
@@ -42,7 +34,7 @@ use Rattle.net_world.specs.ClientNodes.{handed_in}
 use Rattle.net_world.specs.Stands.{IsMirror, IsGreatest, StandsFor, file}
 use Rattle.net_world.specs.Ends.{Ends}
 use Rattle.net_world.proofs.SlotLemmas.{is_set, set_there}
-use Rattle.net_world.proofs.ServeLemmas.{first_is, node_at}
+use Rattle.net_world.proofs.ServeLemmas.{first_is}
 use Rattle.net_world.proofs.EndsLemmas.{does}
 
 -- A file with this content, in a disk that is never off.
@@ -69,31 +61,39 @@ pub record IsOfFile (w : Setup) (past : List Change) (s j : ℕ) (change : Chang
 same_file : (s j t i : ℕ) → s ≡ t → j ≡ i → is_file s j t i ≡ true
 same_file s j t i h k = rw (eq-eqb s t h, eq-eqb j i k) refl
 
-file_by : (w : Setup) (past : List Change) (s j : ℕ) (change : Change) (held : ℕ → List ℕ) → IsOfFile w past s j change held → (t i : ℕ) (b : Bool) → is_file s j t i ≡ b → content w (change ∷ past) t i ≡ (if b then held else content w past t i)
+file_by : (w : Setup) (past : List Change) (s j : ℕ) (change : Change) (held : ℕ → List ℕ) → IsOfFile w past s j change held → (t i : ℕ) (b : Bool)
+    → is_file s j t i ≡ b → content w (change ∷ past) t i ≡ (if b then held else content w past t i)
 file_by w past s j change held f t i b h = f.content_is t i ∙ ap (λ x. if x then held else content w past t i) h
 
 same_place : (s j t i : ℕ) → j < MAX_JOBS → i < MAX_JOBS → MAX_JOBS * s + j ≡ MAX_JOBS * t + i → (s ≡ t) × (j ≡ i)
 same_place s j t i l m h = (omega (arith, h, l, m), omega (arith, h, l, m))
 
-each_file : (w : Setup) (past : List Change) (s j : ℕ) (change : Change) (held : ℕ → List ℕ) (disk : MemDisk) (old new : World) → StandsFor w past old → HasWritten s j disk old new → IsOfFile w past s j change held
-    → file_of disk ≡ with_content held → (t i : ℕ) (x : MemDisk) → i < MAX_JOBS → slice_get new.files.items (MAX_JOBS * t + i) ≡ Some x → (b : Bool) → is_file s j t i ≡ b → file_of x ≡ file w (change ∷ past) t i
+each_file : (w : Setup) (past : List Change) (s j : ℕ) (change : Change) (held : ℕ → List ℕ) (disk : MemDisk) (old new : World) → StandsFor w past old
+    → HasWritten s j disk old new → IsOfFile w past s j change held
+    → file_of disk ≡ with_content held → (t i : ℕ) (x : MemDisk) → i < MAX_JOBS → slice_get new.files.items (MAX_JOBS * t + i) ≡ Some x → (b : Bool)
+    → is_file s j t i ≡ b → file_of x ≡ file w (change ∷ past) t i
 each_file w past s j change held disk old new stands wrote f is t i x l at true h =
     let p = and_parts (s == t) (j == i) h in
     let e : MAX_JOBS * t + i ≡ MAX_JOBS * s + j = omega (arith, eqb-true s t p.0, eqb-true j i p.1) in
     let here : slice_get (set old.files.items (MAX_JOBS * s + j) disk) (MAX_JOBS * s + j) ≡ Some x =
-    ap (λ k. slice_get (set old.files.items k disk) (MAX_JOBS * s + j)) (sym wrote.place_is) ∙ ap (λ xs. slice_get xs (MAX_JOBS * s + j)) (sym wrote.set_is) ∙ ap (slice_get new.files.items) (sym e) ∙ at in
-    sym (ap file_of (is_set old.files.items (MAX_JOBS * s + j) disk x wrote.there here)) ∙ is ∙ ap with_content (sym (file_by w past s j change held f t i true h))
+    ap (λ k. slice_get (set old.files.items k disk) (MAX_JOBS * s + j)) (sym wrote.place_is) ∙ ap (λ xs. slice_get xs (MAX_JOBS * s + j)) (sym wrote.set_is)
+    ∙ ap (slice_get new.files.items) (sym e) ∙ at in
+    sym (ap file_of (is_set old.files.items (MAX_JOBS * s + j) disk x wrote.there here)) ∙ is
+    ∙ ap with_content (sym (file_by w past s j change held f t i true h))
 each_file w past s j change held disk old new stands wrote f is t i x l at false h =
     let ne : MAX_JOBS * s + j ≡ MAX_JOBS * t + i → ⊥ = λ e. let p = same_place s j t i wrote.slot l e in true_false (sym (same_file s j t i p.0 p.1) ∙ h) in
     let was : slice_get old.files.items (MAX_JOBS * t + i) ≡ Some x =
-    sym (set_there old.files.items (MAX_JOBS * s + j) (MAX_JOBS * t + i) disk ne) ∙ ap (λ k. slice_get (set old.files.items k disk) (MAX_JOBS * t + i)) (sym wrote.place_is) ∙ ap (λ xs. slice_get xs (MAX_JOBS * t + i)) (sym wrote.set_is) ∙ at in
+    sym (set_there old.files.items (MAX_JOBS * s + j) (MAX_JOBS * t + i) disk ne)
+    ∙ ap (λ k. slice_get (set old.files.items k disk) (MAX_JOBS * t + i)) (sym wrote.place_is)
+    ∙ ap (λ xs. slice_get xs (MAX_JOBS * t + i)) (sym wrote.set_is) ∙ at in
     stands.files_are t i x l was ∙ ap with_content (sym (file_by w past s j change held f t i false h))
   where
     true_false : true ≡ false → ⊥
     true_false e = cc
 
 -- The world stands for the change.
-pub file_changed : (w : Setup) (past : List Change) (s j : ℕ) (change : Change) (held : ℕ → List ℕ) (disk : MemDisk) (old new : World) → StandsFor w past old → HasWritten s j disk old new → IsOfFile w past s j change held
+pub file_changed : (w : Setup) (past : List Change) (s j : ℕ) (change : Change) (held : ℕ → List ℕ) (disk : MemDisk) (old new : World) → StandsFor w past old
+    → HasWritten s j disk old new → IsOfFile w past s j change held
     → file_of disk ≡ with_content held → StandsFor w (change ∷ past) new
 file_changed w past s j change held disk old new stands wrote f is = record {
   some = stands.some;
@@ -118,30 +118,43 @@ file_changed w past s j change held disk old new stands wrote f is = record {
 
 -- ---- what is told
 
-pub quiet_ends : (w : Setup) (past : List Change) (s j : ℕ) (e : Happening) (change : Change) (held : ℕ → List ℕ) (disk : MemDisk) (first : ℕ) (t : Told) (old new : World) → StandsFor w past old → HasWritten s j disk old new → IsOfFile w past s j change held
-    → file_of disk ≡ with_content held → outcome w past e ≡ Does change → told_by w past e (Does change) ≡ Ok (plainly_told (length (frames_sent w (steps past)))) → first ≡ length (sent_in old.sent) → t ≡ plainly_told first → Ends w past e new (Ok t)
+pub quiet_ends : (w : Setup) (past : List Change) (s j : ℕ) (e : Happening) (change : Change) (held : ℕ → List ℕ) (disk : MemDisk) (first : ℕ) (t : Told)
+    (old new : World) → StandsFor w past old → HasWritten s j disk old new → IsOfFile w past s j change held
+    → file_of disk ≡ with_content held → outcome w past e ≡ Does change
+    → told_by w past e (Does change) ≡ Ok (plainly_told (length (frames_sent w (steps past)))) → first ≡ length (sent_in old.sent) → t ≡ plainly_told first
+    → Ends w past e new (Ok t)
 quiet_ends w past s j e change held disk first t old new stands wrote f is comes told first_ok tells =
-    does w past e change t new comes (told ∙ ap (λ k. Ok (plainly_told k)) (sym (first_ok ∙ first_is w past old stands)) ∙ ap (λ x. Ok x) (sym tells)) (file_changed w past s j change held disk old new stands wrote f is)
+    does w past e change t new comes (told ∙ ap (λ k. Ok (plainly_told k)) (sym (first_ok ∙ first_is w past old stands)) ∙ ap (λ x. Ok x) (sym tells))
+    (file_changed w past s j change held disk old new stands wrote f is)
 
 -- ---- a sector that rots, and sectors that land
 
-pub rots : (w : Setup) (past : List Change) (s j sector : ℕ) (bytes : List ℕ) → IsOfFile w past s j (Rotted s j sector bytes) (put sector bytes (content w past s j))
+pub rots : (w : Setup) (past : List Change) (s j sector : ℕ) (bytes : List ℕ)
+    → IsOfFile w past s j (Rotted s j sector bytes) (put sector bytes (content w past s j))
 rots w past s j sector bytes = record { steps_are = refl; content_is = λ t i. by_file t i (is_file s j t i) refl }
   where
     same : (t i : ℕ) → is_file s j t i ≡ true → put sector bytes (content w past t i) ≡ put sector bytes (content w past s j)
-    same t i h = let p = and_parts (s == t) (j == i) h in ap (λ c. put sector bytes c) (sym (ap (λ k. content w past k j) (eqb-true s t p.0) ∙ ap (content w past t) (eqb-true j i p.1)))
+    same t i h = let p = and_parts (s == t) (j == i) h in
+        ap (λ c. put sector bytes c) (sym (ap (λ k. content w past k j) (eqb-true s t p.0) ∙ ap (content w past t) (eqb-true j i p.1)))
 
-    by_file : (t i : ℕ) (b : Bool) → is_file s j t i ≡ b → (if b then put sector bytes (content w past t i) else content w past t i) ≡ (if b then put sector bytes (content w past s j) else content w past t i)
+    by_file : (t i : ℕ) (b : Bool) → is_file s j t i ≡ b
+        → (if b then put sector bytes (content w past t i) else content w past t i) ≡ (if b then put sector bytes (content w past s j) else content w past t i)
     by_file t i true h = same t i h
     by_file t i false h = refl
 
-pub lands : (w : Setup) (past : List Change) (s j k mask : ℕ) → IsOfFile w past s j (Landed s j k mask) (with_write k mask (open_at (trace w past) s j k) (content w past s j))
+pub lands : (w : Setup) (past : List Change) (s j k mask : ℕ)
+    → IsOfFile w past s j (Landed s j k mask) (with_write k mask (open_at (trace w past) s j k) (content w past s j))
 lands w past s j k mask = record { steps_are = refl; content_is = λ t i. by_file t i (is_file s j t i) refl }
   where
-    same : (t i : ℕ) → is_file s j t i ≡ true → with_write k mask (open_at (trace w past) s j k) (content w past t i) ≡ with_write k mask (open_at (trace w past) s j k) (content w past s j)
-    same t i h = let p = and_parts (s == t) (j == i) h in ap (λ c. with_write k mask (open_at (trace w past) s j k) c) (sym (ap (λ r. content w past r j) (eqb-true s t p.0) ∙ ap (content w past t) (eqb-true j i p.1)))
+    same : (t i : ℕ) → is_file s j t i ≡ true → with_write k mask (open_at (trace w past) s j k) (content w past t i)
+        ≡ with_write k mask (open_at (trace w past) s j k) (content w past s j)
+    same t i h = let p = and_parts (s == t) (j == i) h in
+        ap (λ c. with_write k mask (open_at (trace w past) s j k) c)
+        (sym (ap (λ r. content w past r j) (eqb-true s t p.0) ∙ ap (content w past t) (eqb-true j i p.1)))
 
-    by_file : (t i : ℕ) (b : Bool) → is_file s j t i ≡ b → (if b then with_write k mask (open_at (trace w past) s j k) (content w past t i) else content w past t i) ≡ (if b then with_write k mask (open_at (trace w past) s j k) (content w past s j) else content w past t i)
+    by_file : (t i : ℕ) (b : Bool) → is_file s j t i ≡ b
+        → (if b then with_write k mask (open_at (trace w past) s j k) (content w past t i) else content w past t i)
+        ≡ (if b then with_write k mask (open_at (trace w past) s j k) (content w past s j) else content w past t i)
     by_file t i true h = same t i h
     by_file t i false h = refl
 
@@ -150,12 +163,14 @@ lands w past s j k mask = record { steps_are = refl; content_is = λ t i. by_fil
 pub has_slot : (s j len : ℕ) → (nat_lt j MAX_JOBS && nat_lt (MAX_JOBS * s + j) len) ≡ true → (j < MAX_JOBS) × (MAX_JOBS * s + j < len)
 has_slot s j len h = let p = and_parts (nat_lt j MAX_JOBS) (nat_lt (MAX_JOBS * s + j) len) h in (ltb-true j MAX_JOBS p.0, ltb-true (MAX_JOBS * s + j) len p.1)
 
-pub no_slot : (w : Setup) (s j len : ℕ) → (nat_lt j MAX_JOBS && nat_lt (MAX_JOBS * s + j) len) ≡ false → len ≡ MAX_JOBS * w.servers → s < w.servers → MAX_JOBS ≤ j
+pub no_slot : (w : Setup) (s j len : ℕ) → (nat_lt j MAX_JOBS && nat_lt (MAX_JOBS * s + j) len) ≡ false → len ≡ MAX_JOBS * w.servers → s < w.servers
+    → MAX_JOBS ≤ j
 no_slot w s j len h e l = by_test (nat_lt j MAX_JOBS) refl
   where
     by_test : (b : Bool) → nat_lt j MAX_JOBS ≡ b → MAX_JOBS ≤ j
     by_test false f = ltb-false j MAX_JOBS f
-    by_test true f = absurd (omega (arith, ltb-false (MAX_JOBS * s + j) len (ap (λ x. x && nat_lt (MAX_JOBS * s + j) len) (sym f) ∙ h), e, l, ltb-true j MAX_JOBS f))
+    by_test true f =
+        absurd (omega (arith, ltb-false (MAX_JOBS * s + j) len (ap (λ x. x && nat_lt (MAX_JOBS * s + j) len) (sym f) ∙ h), e, l, ltb-true j MAX_JOBS f))
 
 pub rot_free : (w : Setup) (s j : ℕ) → s < w.servers → j < MAX_JOBS → no_file w s j ≡ None
 rot_free w s j l m = both (nat_lt s w.servers) (nat_lt j MAX_JOBS) (lt-ltb s w.servers l) (lt-ltb j MAX_JOBS m)
@@ -177,26 +192,32 @@ rot_past w s j l h = second (nat_lt s w.servers) (nat_lt j MAX_JOBS) (lt-ltb s w
 
 -- ---- the file holds what it held
 
-same_by : (w : Setup) (past : List Change) (s j : ℕ) (disk : MemDisk) (old new : World) → StandsFor w past old → HasWritten s j disk old new → file_of disk ≡ file w past s j
-    → (t i : ℕ) (x : MemDisk) → i < MAX_JOBS → slice_get new.files.items (MAX_JOBS * t + i) ≡ Some x → (b : Bool) → is_file s j t i ≡ b → file_of x ≡ file w past t i
+same_by : (w : Setup) (past : List Change) (s j : ℕ) (disk : MemDisk) (old new : World) → StandsFor w past old → HasWritten s j disk old new
+    → file_of disk ≡ file w past s j
+    → (t i : ℕ) (x : MemDisk) → i < MAX_JOBS → slice_get new.files.items (MAX_JOBS * t + i) ≡ Some x → (b : Bool) → is_file s j t i ≡ b
+    → file_of x ≡ file w past t i
 same_by w past s j disk old new stands wrote is t i x l at true h =
     let p = and_parts (s == t) (j == i) h in
     let st = eqb-true s t p.0 in
     let ji = eqb-true j i p.1 in
     let e : MAX_JOBS * t + i ≡ MAX_JOBS * s + j = omega (arith, st, ji) in
     let here : slice_get (set old.files.items (MAX_JOBS * s + j) disk) (MAX_JOBS * s + j) ≡ Some x =
-    ap (λ k. slice_get (set old.files.items k disk) (MAX_JOBS * s + j)) (sym wrote.place_is) ∙ ap (λ xs. slice_get xs (MAX_JOBS * s + j)) (sym wrote.set_is) ∙ ap (slice_get new.files.items) (sym e) ∙ at in
+    ap (λ k. slice_get (set old.files.items k disk) (MAX_JOBS * s + j)) (sym wrote.place_is) ∙ ap (λ xs. slice_get xs (MAX_JOBS * s + j)) (sym wrote.set_is)
+    ∙ ap (slice_get new.files.items) (sym e) ∙ at in
     sym (ap file_of (is_set old.files.items (MAX_JOBS * s + j) disk x wrote.there here)) ∙ is ∙ ap (λ r. file w past r j) st ∙ ap (file w past t) ji
 same_by w past s j disk old new stands wrote is t i x l at false h =
     let ne : MAX_JOBS * s + j ≡ MAX_JOBS * t + i → ⊥ = λ e. let p = same_place s j t i wrote.slot l e in true_false (sym (same_file s j t i p.0 p.1) ∙ h) in
     let was : slice_get old.files.items (MAX_JOBS * t + i) ≡ Some x =
-    sym (set_there old.files.items (MAX_JOBS * s + j) (MAX_JOBS * t + i) disk ne) ∙ ap (λ k. slice_get (set old.files.items k disk) (MAX_JOBS * t + i)) (sym wrote.place_is) ∙ ap (λ xs. slice_get xs (MAX_JOBS * t + i)) (sym wrote.set_is) ∙ at in
+    sym (set_there old.files.items (MAX_JOBS * s + j) (MAX_JOBS * t + i) disk ne)
+    ∙ ap (λ k. slice_get (set old.files.items k disk) (MAX_JOBS * t + i)) (sym wrote.place_is)
+    ∙ ap (λ xs. slice_get xs (MAX_JOBS * t + i)) (sym wrote.set_is) ∙ at in
     stands.files_are t i x l was
   where
     true_false : true ≡ false → ⊥
     true_false e = cc
 
-pub file_kept : (w : Setup) (past : List Change) (s j : ℕ) (disk : MemDisk) (old new : World) → StandsFor w past old → HasWritten s j disk old new → file_of disk ≡ file w past s j → StandsFor w past new
+pub file_kept : (w : Setup) (past : List Change) (s j : ℕ) (disk : MemDisk) (old new : World) → StandsFor w past old → HasWritten s j disk old new
+    → file_of disk ≡ file w past s j → StandsFor w past new
 file_kept w past s j disk old new stands wrote is = record {
   some = stands.some;
   few = stands.few;
@@ -209,73 +230,3 @@ file_kept w past s j disk old new stands wrote is = record {
   files = ap (λ (xs : List MemDisk). length xs) wrote.set_is ∙ length-set old.files.items wrote.place disk ∙ stands.files;
   files_are = λ t i x l at. same_by w past s j disk old new stands wrote is t i x l at (is_file s j t i) refl;
 }
-
--- ---- the disk at a file's place
-
--- It is there, and holds the file.
-pub record IsRead (w : Setup) (past : List Change) (s j place : ℕ) (disk : MemDisk) (now : World) : Type 0 where
-  pub slot : j < MAX_JOBS
-  pub there : MAX_JOBS * s + j < length now.files.items
-  pub place_is : place ≡ MAX_JOBS * s + j
-  pub held : file_of disk ≡ file w past s j
-
-pub is_read : (w : Setup) (past : List Change) (s j place : ℕ) (disk : MemDisk) (now : World) → StandsFor w past now → (nat_lt j MAX_JOBS && nat_lt (MAX_JOBS * s + j) (length now.files.items)) ≡ true
-    → place ≡ MAX_JOBS * s + j → disk ≡ get_or now.files.items place disk → IsRead w past s j place disk now
-is_read w past s j place disk now stands has is at =
-    let slot = has_slot s j (length now.files.items) has in
-    record { slot = slot.0; there = slot.1; place_is = is; held = stands.files_are s j disk slot.0 (node_at now.files.items (MAX_JOBS * s + j) place disk is slot.1 at) }
-
--- Another was written there.
-pub written : (w : Setup) (past : List Change) (s j place : ℕ) (was disk : MemDisk) (old new : World) → IsRead w past s j place was old → new.files.items ≡ set old.files.items place disk
-    → sent_in new.sent ≡ sent_in old.sent → new.client ≡ old.client → new.servers ≡ old.servers → new.mirror ≡ old.mirror → HasWritten s j disk old new
-written w past s j place was disk old new r set_is sent_is client_is servers_are mirror_is =
-    record { slot = r.slot; there = r.there; place = place; place_is = r.place_is; set_is = set_is; sent_is = sent_is; client_is = client_is; servers_are = servers_are; mirror_is = mirror_is }
-
--- ---- the block of a write
-
-le_from : (a b : ℕ) → nat_le a b ≡ true → a ≤ b
-le_from a b h = grind (arith, nat_tests)
-
--- A block of the job.
-pub is_block : (job : JobParts) → IsTrue (is_within_limits job) → (block len : ℕ) → block < MAX_BLOCKS → len ≡ job.bs → IsBlock block len
-is_block job limits block len l e =
-    let all = and_parts (has_block_size job && has_region job && has_queue job) (has_pattern job) limits in
-    let three = and_parts (has_block_size job && has_region job) (has_queue job) all.0 in
-    let size = (and_parts (has_block_size job) (has_region job) three.0).0 in
-    let parts = and_parts (nat_le 512 job.bs && nat_le job.bs MAX_BLOCK_SIZE) (job.bs % 512 == 0) size in
-    let ends = and_parts (nat_le 512 job.bs) (nat_le job.bs MAX_BLOCK_SIZE) parts.0 in
-    let whole : job.bs % 512 ≡ 0 = eqb-true (job.bs % 512) 0 parts.1 in
-    record {
-      number = l;
-      least = omega (arith, e, le_from 512 job.bs ends.0);
-      most = omega (arith, e, le_from job.bs MAX_BLOCK_SIZE ends.1);
-      whole = ap (λ k. k % 512) e ∙ whole;
-    }
-
-few_blocks : (job : JobParts) → IsTrue (is_within_limits job) → job.blocks ≤ MAX_BLOCKS
-few_blocks job limits =
-    let all = and_parts (has_block_size job && has_region job && has_queue job) (has_pattern job) limits in
-    let three = and_parts (has_block_size job && has_region job) (has_queue job) all.0 in
-    let two = and_parts (has_block_size job) (has_region job) three.0 in
-    let blocks = and_parts (nat_le 1 job.blocks && nat_le job.blocks MAX_BLOCKS) (nat_le 1 job.total && nat_le job.total MAX_WRITES) two.1 in
-    le_from job.blocks MAX_BLOCKS (and_parts (nat_le 1 job.blocks) (nat_le job.blocks MAX_BLOCKS) blocks.0).1
-
--- An open write goes to one of them.
-pub block_below : WritesStayInTheRegion → (w : Setup) (past : List Change) (s j k : ℕ) (ticket : Ticket) (rec : JobParts) → IsTrue (is_within_limits rec) → IsOpen w past s j k ticket rec → ticket.block < MAX_BLOCKS
-block_below law w past s j k ticket rec limits h =
-    let block_is : ticket.block ≡ block_of rec k = ap (λ (t : Ticket). t.block) h.ticket_is ∙ ap (λ (r : JobParts). block_of r k) (sym h.rec_is) in
-    omega (arith, law rec limits k, few_blocks rec limits, block_is)
-
-landed_same : (mask k : ℕ) (x : Option Origin) (origin : Origin) (block : ℕ) (bytes : List ℕ) (held : ℕ → List ℕ) → x ≡ Some origin → block ≡ block_of origin.job k → bytes ≡ bytes_of origin.key origin.job k
-    → with_block mask block bytes held ≡ with_write k mask x held
-landed_same mask k x origin block bytes held h e f = rw (h, e, f) refl
-
--- What the file holds once an open write has landed.
-pub landed_is : (w : Setup) (past : List Change) (s j k mask : ℕ) (ticket : Ticket) (rec : JobParts) (bytes : List ℕ) (was now : File) → IsOpen w past s j k ticket rec → was ≡ file w past s j → bytes ≡ written_bytes ticket.key rec k ticket.block
-    → now ≡ with_landed (has_bit mask) ticket.block bytes was → now ≡ with_content (with_write k mask (open_at (trace w past) s j k) (content w past s j))
-landed_is w past s j k mask ticket rec bytes was now h is b e =
-    let block_is : ticket.block ≡ block_of h.origin.job k = ap (λ (t : Ticket). t.block) h.ticket_is in
-    let bytes_is : bytes ≡ bytes_of h.origin.key h.origin.job k =
-    b ∙ ap (λ (t : Ticket). written_bytes t.key rec k t.block) h.ticket_is ∙ ap (λ (r : JobParts). written_bytes h.origin.key r k (block_of h.origin.job k)) h.rec_is in
-    e ∙ ap (with_landed (has_bit mask) ticket.block bytes) is
-    ∙ ap with_content (landed_same mask k (open_at (trace w past) s j k) h.origin ticket.block bytes (content w past s j) h.is_open block_is bytes_is)

@@ -54,10 +54,12 @@ pub record Found (w : World) (s : ℕ) (shown : Option (Server Kept)) : Type 0 w
   pub node_is : slice_get w.servers.items s ≡ Some node
   pub shows : (o : Opening) (past : List FrameEntry) → Stands o past node → Shows (server_nodes o) past shown
 
-pub not_there : (w : Setup) (past : List Change) (s : ℕ) (now : World) → StandsFor w past now → length now.servers.items ≤ s → unless_on w (trace w past) (nodes.Server s) ≡ Some NoServer
+pub not_there : (w : Setup) (past : List Change) (s : ℕ) (now : World) → StandsFor w past now → length now.servers.items ≤ s
+    → unless_on w (trace w past) (nodes.Server s) ≡ Some NoServer
 not_there w past s now stands h = none_there w past s (omega (arith, stands.number, h))
 
-pub found_off : (w : Setup) (past : List Change) (s : ℕ) (now : World) → StandsFor w past now → Found now s None → unless_on w (trace w past) (nodes.Server s) ≡ Some NodeOff
+pub found_off : (w : Setup) (past : List Change) (s : ℕ) (now : World) → StandsFor w past now → Found now s None
+    → unless_on w (trace w past) (nodes.Server s) ≡ Some NodeOff
 found_off w past s now stands f =
     is_off w past s (omega (arith, stands.number, f.there)) (f.shows (opening_of s) (entries past s) (stands.servers_are s f.node f.node_is))
 
@@ -67,13 +69,15 @@ pub record IsRunning (w : Setup) (past : List Change) (s : ℕ) (core : Server K
   pub stands : ServerStands note_of core (opening_of s) (entries past s)
   pub up : is_up (opening_of s) (entries past s) ≡ true
 
-pub found_on : (w : Setup) (past : List Change) (s : ℕ) (now : World) (core : Server Kept) → StandsFor w past now → Found now s (Some core) → IsRunning w past s core
+pub found_on : (w : Setup) (past : List Change) (s : ℕ) (now : World) (core : Server Kept) → StandsFor w past now → Found now s (Some core)
+    → IsRunning w past s core
 found_on w past s now core stands f =
     let h = f.shows (opening_of s) (entries past s) (stands.servers_are s f.node f.node_is) in
     record { on = is_there w past s (omega (arith, stands.number, f.there)) h.1; stands = h.0; up = h.1 }
 
 -- It shows all that the trace says of it.
-pub shown : LooksAtAll → (w : Setup) (past : List Change) (s : ℕ) → is_up (opening_of s) (entries past s) ≡ true → shown_entries (packets_heard (opening_of s) (entries past s)) ≡ of_server s (trace w past)
+pub shown : LooksAtAll → (w : Setup) (past : List Change) (s : ℕ) → is_up (opening_of s) (entries past s) ≡ true
+    → shown_entries (packets_heard (opening_of s) (entries past s)) ≡ of_server s (trace w past)
 shown law w past s up = law (packets_heard (opening_of s) (entries past s)) up ∙ heard_is w past s
 
 -- ---- an open write
@@ -87,7 +91,8 @@ some_write x o origin h k = rw (h, k) refl
 other_first : (x : Option Fault) (fault : Fault) (y : Option Fault) → x ≡ Some fault → option_or x y ≡ Some fault
 other_first x fault y h = rw h refl
 
-pub off_first : (w : Setup) (past : List Change) (s j k : ℕ) (fault : Fault) → unless_on w (trace w past) (nodes.Server s) ≡ Some fault → unless_open w (trace w past) s j k ≡ Some fault
+pub off_first : (w : Setup) (past : List Change) (s j k : ℕ) (fault : Fault) → unless_on w (trace w past) (nodes.Server s) ≡ Some fault
+    → unless_open w (trace w past) s j k ≡ Some fault
 off_first w past s j k fault h = other_first (unless_on w (trace w past) (nodes.Server s)) fault (unless (is_some (open_at (trace w past) s j k)) NoWrite) h
 
 none_told : (x : Option Ticket) (job : Option Job) → (x ≡ None) ⊎ (job ≡ None) → origin_told x job ≡ None
@@ -97,25 +102,31 @@ none_told None job (inr h) = refl
 
 -- No ticket is there, or no job.
 pub no_open : TicketsTellOrigins → (w : Setup) (past : List Change) (s j k : ℕ) → unless_on w (trace w past) (nodes.Server s) ≡ None
-    → (open_write (opening_of s) (of_server s (trace w past)) j k ≡ None) ⊎ (run_job (opening_of s) (of_server s (trace w past)) j ≡ None) → unless_open w (trace w past) s j k ≡ Some NoWrite
+    → (open_write (opening_of s) (of_server s (trace w past)) j k ≡ None) ⊎ (run_job (opening_of s) (of_server s (trace w past)) j ≡ None)
+    → unless_open w (trace w past) s j k ≡ Some NoWrite
 no_open law w past s j k on h =
     let now = work (opening_of s) (of_server s (trace w past)) in
-    no_write (unless_on w (trace w past) (nodes.Server s)) (open_at (trace w past) s j k) on (law now j k ∙ none_told (open_ticket now j k) (job_of_run now j) h)
+    no_write (unless_on w (trace w past) (nodes.Server s)) (open_at (trace w past) s j k) on
+    (law now j k ∙ none_told (open_ticket now j k) (job_of_run now j) h)
 
 few_jobs : (now : Option Work) (j : ℕ) (job : Job) → ((w : Work) → now ≡ Some w → length w.jobs ≤ MAX_JOBS) → job_of_run now j ≡ Some job → j < MAX_JOBS
 few_jobs None j job f h = absurd cc
 few_jobs (Some w) j job f h = omega (arith, slice_get_within w.jobs j job h, f w refl)
 
-ticket_told : (x : Option Origin) (origin : Origin) (ticket : Ticket) (k : ℕ) → x ≡ Some origin → option_map (λ o. ticket_of o k) x ≡ Some ticket → ticket ≡ ticket_of origin k
+ticket_told : (x : Option Origin) (origin : Origin) (ticket : Ticket) (k : ℕ) → x ≡ Some origin → option_map (λ o. ticket_of o k) x ≡ Some ticket
+    → ticket ≡ ticket_of origin k
 ticket_told None origin ticket k h e = absurd cc
 ticket_told (Some o) origin ticket k h e = same o origin ticket h e
   where
     same : (o origin : Origin) (ticket : Ticket) → Some o ≡ Some origin → Some (ticket_of o k) ≡ Some ticket → ticket ≡ ticket_of origin k
-    same o origin ticket h e = let i : o ≡ origin = same_some o origin h in let t : ticket_of o k ≡ ticket = same_some (ticket_of o k) ticket e in sym t ∙ ap (λ (x : Origin). ticket_of x k) i
+    same o origin ticket h e = let i : o ≡ origin =
+        same_some o origin h in let t : ticket_of o k ≡ ticket = same_some (ticket_of o k) ticket e in sym t ∙ ap (λ (x : Origin). ticket_of x k) i
 
 -- A ticket and its job are there.
-pub is_open : TicketsTellOrigins → RunsHaveSets → (w : Setup) (past : List Change) (s j k : ℕ) (ticket : Ticket) (job : Job) → unless_on w (trace w past) (nodes.Server s) ≡ None
-    → open_write (opening_of s) (of_server s (trace w past)) j k ≡ Some ticket → run_job (opening_of s) (of_server s (trace w past)) j ≡ Some job → IsOpen w past s j k ticket job.rec
+pub is_open : TicketsTellOrigins → RunsHaveSets → (w : Setup) (past : List Change) (s j k : ℕ) (ticket : Ticket) (job : Job)
+    → unless_on w (trace w past) (nodes.Server s) ≡ None
+    → open_write (opening_of s) (of_server s (trace w past)) j k ≡ Some ticket → run_job (opening_of s) (of_server s (trace w past)) j ≡ Some job
+    → IsOpen w past s j k ticket job.rec
 is_open law sets w past s j k ticket job on h r =
     let o = opening_of s in
     let list = of_server s (trace w past) in
@@ -162,10 +173,12 @@ unready c j job held (Refused value) h = refl
 unready c j job held (Done r) h = refl
 
 -- How far the job of the open check is.
-progress_here : (o : Opening) (list : List server.Entry) (j : ℕ) (job : Job) (c : Check) (p : Progress) → check o list ≡ Some c → slice_get c.jobs j ≡ Some job → Some p ≡ progress o list j → progress_after c j job c.since ≡ p
+progress_here : (o : Opening) (list : List server.Entry) (j : ℕ) (job : Job) (c : Check) (p : Progress) → check o list ≡ Some c → slice_get c.jobs j ≡ Some job
+    → Some p ≡ progress o list j → progress_after c j job c.since ≡ p
 progress_here o list j job c p is at h = same_some (progress_after c j job c.since) p (sym (h ∙ ap (λ x. progress_in x j) is ∙ ap (progress_at c j) at))
 
-pub not_ready : (w : Setup) (past : List Change) (s j : ℕ) (job : Job) (p : Progress) → check_job (opening_of s) (of_server s (trace w past)) j ≡ Some job → Some p ≡ progress (opening_of s) (of_server s (trace w past)) j
+pub not_ready : (w : Setup) (past : List Change) (s j : ℕ) (job : Job) (p : Progress) → check_job (opening_of s) (of_server s (trace w past)) j ≡ Some job
+    → Some p ≡ progress (opening_of s) (of_server s (trace w past)) j
     → is_ready (Some p) ≡ false → end_of_check w past s j ≡ None
 not_ready w past s j job p is at h =
     let o = opening_of s in
@@ -182,7 +195,8 @@ none_at c j job x h e = bad (sym h ∙ e)
     bad : Some (progress_after c j job c.since) ≡ None → ⊥
     bad e = cc
 
-pub no_progress : (w : Setup) (past : List Change) (s j : ℕ) (job : Job) → check_job (opening_of s) (of_server s (trace w past)) j ≡ Some job → None ≡ progress (opening_of s) (of_server s (trace w past)) j → end_of_check w past s j ≡ None
+pub no_progress : (w : Setup) (past : List Change) (s j : ℕ) (job : Job) → check_job (opening_of s) (of_server s (trace w past)) j ≡ Some job
+    → None ≡ progress (opening_of s) (of_server s (trace w past)) j → end_of_check w past s j ≡ None
 no_progress w past s j job is at =
     let o = opening_of s in
     let list = of_server s (trace w past) in
@@ -199,9 +213,19 @@ made_by c j job (Done report) h r = absurd (false≢true r)
 key_same : (run r s t j : ℕ) → r ≡ run → t ≡ s → key_at run s j ≡ key_at r t j
 key_same run r s t j e f = rw (e, f) refl
 
-pub ready_is : OpenCheckIsLast → ChecksHaveSets → (w : Setup) (past : List Change) (s j : ℕ) (job : Job) (p : Progress) (now : Status) → unless_on w (trace w past) (nodes.Server s) ≡ None
-    → check_job (opening_of s) (of_server s (trace w past)) j ≡ Some job → Some p ≡ progress (opening_of s) (of_server s (trace w past)) j → is_ready (Some p) ≡ true → now ≡ status (opening_of s) (of_server s (trace w past))
-    → (state : Option State) → state ≡ state_of p → IsReady w past s j (record { boot = now.boot; attempt = now.attempt; key = record { run = now.last_run; server = s; job = j }; rec = job.rec; fatal = job.fatal; state = state })
+pub ready_is : OpenCheckIsLast → ChecksHaveSets → (w : Setup) (past : List Change) (s j : ℕ) (job : Job) (p : Progress) (now : Status)
+    → unless_on w (trace w past) (nodes.Server s) ≡ None
+    → check_job (opening_of s) (of_server s (trace w past)) j ≡ Some job → Some p ≡ progress (opening_of s) (of_server s (trace w past)) j
+    → is_ready (Some p) ≡ true → now ≡ status (opening_of s) (of_server s (trace w past))
+    → (state : Option State) → state ≡ state_of p → IsReady w past s j
+    (record {
+      boot = now.boot;
+      attempt = now.attempt;
+      key = record { run = now.last_run; server = s; job = j };
+      rec = job.rec;
+      fatal = job.fatal;
+      state = state;
+    })
 ready_is last sets w past s j job p now on is at r shows state held =
     let o = opening_of s in
     let list = of_server s (trace w past) in

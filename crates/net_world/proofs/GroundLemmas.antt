@@ -32,10 +32,12 @@ pub record Ground : Type 0 where
   pub region : WritesStayInTheRegion
 
 -- A job of the present run is within its limits, and its history is legal.
-pub job_within : Ground → (o : Opening) (past : List Entry) (w : Work) → work o past ≡ Some w → (j : ℕ) (job : Job) → slice_get w.jobs j ≡ Some job → IsTrue (is_within_limits job.rec)
+pub job_within : Ground → (o : Opening) (past : List Entry) (w : Work) → work o past ≡ Some w → (j : ℕ) (job : Job) → slice_get w.jobs j ≡ Some job
+    → IsTrue (is_within_limits job.rec)
 job_within laws o past w is j job h =
     each_of (λ (x : Job). IsTrue (is_within_limits x.rec)) w.jobs job (laws.sets o past w is).within.within
     (j, slice_get_within w.jobs j job h, get_or_from_slice_get w.jobs j job job h)
 
-pub job_legal : Ground → (o : Opening) (past : List Entry) (w : Work) → work o past ≡ Some w → (j : ℕ) (job : Job) → slice_get w.jobs j ≡ Some job → IsLegal job.rec (history (origin_of w j job) w.since)
+pub job_legal : Ground → (o : Opening) (past : List Entry) (w : Work) → work o past ≡ Some w → (j : ℕ) (job : Job) → slice_get w.jobs j ≡ Some job
+    → IsLegal job.rec (history (origin_of w j job) w.since)
 job_legal laws o past w is j job h = laws.legal (origin_of w j job) w.since (job_within laws o past w is j job h)

@@ -62,7 +62,8 @@ record Found (P : Notion) (w : Setup) (past : List Change) (s j : ℕ) (c : Chec
   pub same : WriteTheSame job.rec state.job
   pub held : OfState P (content w past s j) state
 
-found : {P : Notion} {May : ℕ → JobParts → Type 0} → Rests → Survives May P → (w : Setup) (past : List Change) (s j : ℕ) (c : Check) (job : Job) (state : State) → IsTrace w (trace w past) → AreHonest w past → MayLand May w past → IsCheckedWith w past s j c job state → Found P w past s j c job state
+found : {P : Notion} {May : ℕ → JobParts → Type 0} → Rests → Survives May P → (w : Setup) (past : List Change) (s j : ℕ) (c : Check) (job : Job) (state : State)
+    → IsTrace w (trace w past) → AreHonest w past → MayLand May w past → IsCheckedWith w past s j c job state → Found P w past s j c job state
 found laws v w past s j c job state tr honest may is =
     let o = opening_of s in
     let list = of_server s (trace w past) in
@@ -72,7 +73,8 @@ found laws v w past s j c job state tr honest may is =
     let here = laws.check_is o list c is.is_open in
     let key : state.key ≡ key_of c j = heard.key ∙ sym (ap (λ r. make_key r s j) here.run) ∙ sym (ap (λ m. make_key c.run m j) here.server) in
     let job_is : heard.job ≡ job = some_is (sym heard.is_job ∙ ap (λ x. job_of_check x j) is.is_open ∙ is.has_job) in
-    let taken : Contains (taken_of (make_key run s j) (trace w past)) state = held_was_taken laws.passes w (trace w past) (make_key run s j) state tr (ByCheck s j shown heard.key) in
+    let taken : Contains (taken_of (make_key run s j) (trace w past)) state =
+    held_was_taken laws.passes w (trace w past) (make_key run s j) state tr (ByCheck s j shown heard.key) in
     record {
       key = key;
       same = subst (λ (x : Job). WriteTheSame x.rec state.job) job_is (fits_job state state.key heard.job.rec heard.fits);
@@ -81,10 +83,12 @@ found laws v w past s j c job state tr honest may is =
 
 pub few_faults : Rests → OfEachWorld FewFaults
 few_faults laws w events few_servers s j c job state block honest is faulty =
-    let f = found laws (last_survives laws.ground) w (world w events) s j c job state (laws.traces w events few_servers) honest (any_lands w (world w events)) is in
+    let f = found laws (last_survives laws.ground) w (world w events) s j c job state (laws.traces w events few_servers) honest
+    (any_lands w (world w events)) is in
     few w (world w events) s j c job state block f.key f.same f.held faulty
 
 pub no_faults : Rests → OfEachWorld NoFaults
 no_faults laws w events few_servers s j c job state block honest whole is faulty =
-    let f = found laws (current_survives laws.ground) w (world w events) s j c job state (laws.traces w events few_servers) honest (whole_lands w (world w events) whole) is in
+    let f = found laws (current_survives laws.ground) w (world w events) s j c job state (laws.traces w events few_servers) honest
+    (whole_lands w (world w events) whole) is in
     none w (world w events) s j c job state block f.key f.same f.held faulty

@@ -48,21 +48,27 @@ no_end_if true b ticket end h = no_end b ticket end h
 no_end_if false b ticket end h = cc
 
 -- The write of this ticket is open.
-open_in_job : (w : Work) (j k : ℕ) (job : Job) → slice_get w.jobs j ≡ Some job → has (window.open_writes (history (origin_of w j job) w.since)) k ≡ true → open_origin (Some w) j k ≡ Some (origin_of w j job)
+open_in_job : (w : Work) (j k : ℕ) (job : Job) → slice_get w.jobs j ≡ Some job → has (window.open_writes (history (origin_of w j job) w.since)) k ≡ true
+    → open_origin (Some w) j k ≡ Some (origin_of w j job)
 open_in_job w j k job is o = ap (open_origin_of w j k) is ∙ ap (λ b. if b then Some (origin_of w j job) else None) o
 
 the_ticket : (a b : Ticket) (e f : WriteEnd) → ToEnd a e ≡ ToEnd b f → a ≡ b
 the_ticket a b e f h = cc
 
 -- What an honest disk has is what the server is told.
-tells : (w : Setup) (s : ℕ) (past : List Change) (e : Event) (left : Left) → IsInFile w past (OfServer s (Happens (Met e left))) → TellsAt (opening_of s) (λ j. content w past s j) (of_server s (trace w past)) e
+tells : (w : Setup) (s : ℕ) (past : List Change) (e : Event) (left : Left) → IsInFile w past (OfServer s (Happens (Met e left)))
+    → TellsAt (opening_of s) (λ j. content w past s j) (of_server s (trace w past)) e
 tells w s past (WriteDone given Done) left honest = λ now is j job has_job ticket told key is_open.
     let same : given ≡ ticket = the_ticket given ticket Done Done told in
     let here : ticket.key.job ≡ j = ap (λ (k : Rattle.fc_base.specs.declared.numbers.Key.Key). k.job) key in
-    let at : open_at (trace w past) s j ticket.seq ≡ Some (origin_of now j job) = ap (λ x. open_origin x j ticket.seq) is ∙ open_in_job now j ticket.seq job has_job is_open in
-    let honest_now : (origin : Origin) → open_at (trace w past) s ticket.key.job ticket.seq ≡ Some origin → HoldsWrite (content w past s ticket.key.job) origin.key origin.job ticket.seq =
-    subst (λ (t : Ticket). (origin : Origin) → open_at (trace w past) s t.key.job t.seq ≡ Some origin → HoldsWrite (content w past s t.key.job) origin.key origin.job t.seq) same honest in
-    subst (λ i. (origin : Origin) → open_at (trace w past) s i ticket.seq ≡ Some origin → HoldsWrite (content w past s i) origin.key origin.job ticket.seq) here honest_now (origin_of now j job) at
+    let at : open_at (trace w past) s j ticket.seq ≡ Some (origin_of now j job) =
+    ap (λ x. open_origin x j ticket.seq) is ∙ open_in_job now j ticket.seq job has_job is_open in
+    let honest_now : (origin : Origin) → open_at (trace w past) s ticket.key.job ticket.seq ≡ Some origin
+    → HoldsWrite (content w past s ticket.key.job) origin.key origin.job ticket.seq =
+    subst (λ (t : Ticket). (origin : Origin) → open_at (trace w past) s t.key.job t.seq ≡ Some origin
+    → HoldsWrite (content w past s t.key.job) origin.key origin.job t.seq) same honest in
+    subst (λ i. (origin : Origin) → open_at (trace w past) s i ticket.seq ≡ Some origin → HoldsWrite (content w past s i) origin.key origin.job ticket.seq) here
+    honest_now (origin_of now j job) at
 tells w s past (WriteDone given Failed) left honest = λ now is j job has_job ticket told. absurd cc
 tells w s past (Deliver p) left honest = λ now is j job has_job ticket told. absurd (no_end_if (is_client p.from && is_server s p.to) p.body ticket Done told)
 tells w s past (Issues i) left honest = λ now is j job has_job ticket told. absurd cc
@@ -70,12 +76,16 @@ tells w s past (CheckDone boot a i report) left honest = λ now is j job has_job
 
 -- ---- a step of this server
 
-kept_entry : {P : Notion} {May : ℕ → JobParts → Type 0} → Ground → Survives May P → (w : Setup) (s : ℕ) (past : List Change) (e : Entry) → IsInFile w past (OfServer s (Happens e)) → Kept P (opening_of s) (λ j. content w past s j) (of_server s (trace w past)) → Kept P (opening_of s) (λ j. content w past s j) (e ∷ of_server s (trace w past))
-kept_entry laws v w s past (Met e left) honest k = kept_met laws v (opening_of s) (λ j. content w past s j) (of_server s (trace w past)) e left (tells w s past e left honest) k
+kept_entry : {P : Notion} {May : ℕ → JobParts → Type 0} → Ground → Survives May P → (w : Setup) (s : ℕ) (past : List Change) (e : Entry)
+    → IsInFile w past (OfServer s (Happens e)) → Kept P (opening_of s) (λ j. content w past s j) (of_server s (trace w past))
+    → Kept P (opening_of s) (λ j. content w past s j) (e ∷ of_server s (trace w past))
+kept_entry laws v w s past (Met e left) honest k =
+    kept_met laws v (opening_of s) (λ j. content w past s j) (of_server s (trace w past)) e left (tells w s past e left honest) k
 kept_entry laws v w s past Cut honest k = kept_cut (opening_of s) (λ j. content w past s j) (of_server s (trace w past)) k
 kept_entry laws v w s past (Restart left) honest k = kept_restart (opening_of s) (λ j. content w past s j) (of_server s (trace w past)) left k
 
-kept_step : {P : Notion} {May : ℕ → JobParts → Type 0} → Ground → Survives May P → (w : Setup) (s r : ℕ) (past : List Change) (e : Entry) (t : Bool) → (t ≡ true → r ≡ s) → IsInFile w past (OfServer r (Happens e)) → Kept P (opening_of s) (λ j. content w past s j) (of_server s (trace w past))
+kept_step : {P : Notion} {May : ℕ → JobParts → Type 0} → Ground → Survives May P → (w : Setup) (s r : ℕ) (past : List Change) (e : Entry) (t : Bool)
+    → (t ≡ true → r ≡ s) → IsInFile w past (OfServer r (Happens e)) → Kept P (opening_of s) (λ j. content w past s j) (of_server s (trace w past))
     → Kept P (opening_of s) (λ j. content w past s j) (if t then e ∷ of_server s (trace w past) else of_server s (trace w past))
 kept_step laws v w s r past e true same honest k = kept_entry laws v w s past e (subst (λ m. IsInFile w past (OfServer m (Happens e))) (same refl) honest) k
 kept_step laws v w s r past e false same honest k = k
@@ -89,11 +99,13 @@ MayLand May w (changes.Met step ∷ past) = MayLand May w past
 MayLand May w (Landed s j k mask ∷ past) = MayLand May w past × ((origin : Origin) → open_at (trace w past) s j k ≡ Some origin → May mask origin.job)
 MayLand May w (Rotted s j sector bytes ∷ past) = MayLand May w past
 
-found_open : (w : Work) (j k : ℕ) (job : Job) (b : Bool) (origin : Origin) → (if b then Some (origin_of w j job) else None) ≡ Some origin → (b ≡ true) × (origin_of w j job ≡ origin)
+found_open : (w : Work) (j k : ℕ) (job : Job) (b : Bool) (origin : Origin) → (if b then Some (origin_of w j job) else None) ≡ Some origin
+    → (b ≡ true) × (origin_of w j job ≡ origin)
 found_open w j k job true origin h = (refl, cc)
 found_open w j k job false origin h = absurd cc
 
-lands_job : (May : ℕ → JobParts → Type 0) (w : Setup) (s : ℕ) (past : List Change) (j k mask : ℕ) (here : Work) (origin : Origin) (x : Option Job) → work (opening_of s) (of_server s (trace w past)) ≡ Some here → slice_get here.jobs j ≡ x → open_origin_of here j k x ≡ Some origin → May mask origin.job
+lands_job : (May : ℕ → JobParts → Type 0) (w : Setup) (s : ℕ) (past : List Change) (j k mask : ℕ) (here : Work) (origin : Origin) (x : Option Job)
+    → work (opening_of s) (of_server s (trace w past)) ≡ Some here → slice_get here.jobs j ≡ x → open_origin_of here j k x ≡ Some origin → May mask origin.job
     → Lands May (opening_of s) (of_server s (trace w past)) j (content w past s j) (with_write k mask (Some origin) (content w past s j))
 lands_job May w s past j k mask here origin None is has_job h may = absurd cc
 lands_job May w s past j k mask here origin (Some job) is has_job h may =
@@ -110,22 +122,29 @@ lands_job May w s past j k mask here origin (Some job) is has_job h may =
       content = ap (λ (x : Origin). with_write k mask (Some x) (content w past s j)) (sym f.1);
     })
 
-lands_in : (May : ℕ → JobParts → Type 0) (w : Setup) (s : ℕ) (past : List Change) (j k mask : ℕ) (x : Option Work) (origin : Origin) → work (opening_of s) (of_server s (trace w past)) ≡ x → open_origin x j k ≡ Some origin → May mask origin.job
+lands_in : (May : ℕ → JobParts → Type 0) (w : Setup) (s : ℕ) (past : List Change) (j k mask : ℕ) (x : Option Work) (origin : Origin)
+    → work (opening_of s) (of_server s (trace w past)) ≡ x → open_origin x j k ≡ Some origin → May mask origin.job
     → Lands May (opening_of s) (of_server s (trace w past)) j (content w past s j) (with_write k mask (Some origin) (content w past s j))
 lands_in May w s past j k mask None origin is h may = absurd cc
 lands_in May w s past j k mask (Some here) origin is h may = lands_job May w s past j k mask here origin (slice_get here.jobs j) is refl h may
 
-lands_at : (May : ℕ → JobParts → Type 0) (w : Setup) (s : ℕ) (past : List Change) (j k mask : ℕ) (x : Option Origin) → open_at (trace w past) s j k ≡ x → ((origin : Origin) → x ≡ Some origin → May mask origin.job)
+lands_at : (May : ℕ → JobParts → Type 0) (w : Setup) (s : ℕ) (past : List Change) (j k mask : ℕ) (x : Option Origin) → open_at (trace w past) s j k ≡ x
+    → ((origin : Origin) → x ≡ Some origin → May mask origin.job)
     → Lands May (opening_of s) (of_server s (trace w past)) j (content w past s j) (with_write k mask x (content w past s j))
 lands_at May w s past j k mask None h may = Same refl
-lands_at May w s past j k mask (Some origin) h may = lands_in May w s past j k mask (work (opening_of s) (of_server s (trace w past))) origin refl h (may origin refl)
+lands_at May w s past j k mask (Some origin) h may =
+    lands_in May w s past j k mask (work (opening_of s) (of_server s (trace w past))) origin refl h (may origin refl)
 
-lands_by : (May : ℕ → JobParts → Type 0) (w : Setup) (s r i j k mask : ℕ) (past : List Change) (t : Bool) → (t ≡ true → (r ≡ s) × (i ≡ j)) → ((origin : Origin) → open_at (trace w past) r i k ≡ Some origin → May mask origin.job)
-    → Lands May (opening_of s) (of_server s (trace w past)) j (content w past s j) (if t then with_write k mask (open_at (trace w past) r i k) (content w past s j) else content w past s j)
+lands_by : (May : ℕ → JobParts → Type 0) (w : Setup) (s r i j k mask : ℕ) (past : List Change) (t : Bool) → (t ≡ true → (r ≡ s) × (i ≡ j))
+    → ((origin : Origin) → open_at (trace w past) r i k ≡ Some origin → May mask origin.job)
+    → Lands May (opening_of s) (of_server s (trace w past)) j (content w past s j)
+    (if t then with_write k mask (open_at (trace w past) r i k) (content w past s j) else content w past s j)
 lands_by May w s r i j k mask past true same may =
     let e = same refl in
-    let there : open_at (trace w past) r i k ≡ open_at (trace w past) s j k = ap (λ m. open_at (trace w past) m i k) e.0 ∙ ap (λ m. open_at (trace w past) s m k) e.1 in
-    subst (λ (x : Option Origin). Lands May (opening_of s) (of_server s (trace w past)) j (content w past s j) (with_write k mask x (content w past s j))) (sym there)
+    let there : open_at (trace w past) r i k ≡ open_at (trace w past) s j k =
+    ap (λ m. open_at (trace w past) m i k) e.0 ∙ ap (λ m. open_at (trace w past) s m k) e.1 in
+    subst (λ (x : Option Origin). Lands May (opening_of s) (of_server s (trace w past)) j (content w past s j) (with_write k mask x (content w past s j)))
+    (sym there)
     (lands_at May w s past j k mask (open_at (trace w past) s j k) refl (λ origin is. may origin (there ∙ is)))
 lands_by May w s r i j k mask past false same may = Same refl
 
@@ -135,23 +154,30 @@ the_file s r i j h = let p = and_parts (r == s) (i == j) h in (eqb-true r s p.0,
 -- ---- a frame comes to this server
 
 -- No frame tells that a write is done.
-comes_none : {P : Notion} {May : ℕ → JobParts → Type 0} → Ground → Survives May P → (w : Setup) (s : ℕ) (past : List Change) (left : Left) (m : Meaning) → Kept P (opening_of s) (λ j. content w past s j) (of_server s (trace w past))
+comes_none : {P : Notion} {May : ℕ → JobParts → Type 0} → Ground → Survives May P → (w : Setup) (s : ℕ) (past : List Change) (left : Left) (m : Meaning)
+    → Kept P (opening_of s) (λ j. content w past s j) (of_server s (trace w past))
     → Kept P (opening_of s) (λ j. content w past s j) (with_entry (heard_by (at_server s) left m) (of_server s (trace w past)))
 comes_none laws v w s past left (Says p) k = kept_entry laws v w s past (Met (Deliver p) left) tt k
 comes_none laws v w s past left Waits k = k
 comes_none laws v w s past left Spoils k = k
 comes_none laws v w s past left Strays k = k
 
-comes_step : {P : Notion} {May : ℕ → JobParts → Type 0} → Ground → Survives May P → (w : Setup) (s r : ℕ) (past : List Change) (left : Left) (m : Meaning) (t : Bool) → (t ≡ true → r ≡ s) → Kept P (opening_of s) (λ j. content w past s j) (of_server s (trace w past))
-    → Kept P (opening_of s) (λ j. content w past s j) (if t then with_entry (heard_by (at_server r) left m) (of_server s (trace w past)) else of_server s (trace w past))
+comes_step : {P : Notion} {May : ℕ → JobParts → Type 0} → Ground → Survives May P
+    → (w : Setup) (s r : ℕ) (past : List Change) (left : Left) (m : Meaning) (t : Bool) → (t ≡ true → r ≡ s)
+    → Kept P (opening_of s) (λ j. content w past s j) (of_server s (trace w past))
+    → Kept P (opening_of s) (λ j. content w past s j) (if t then with_entry (heard_by (at_server r) left m) (of_server s (trace w past))
+    else of_server s (trace w past))
 comes_step {P} laws v w s r past left m true same k =
-    subst (λ i. Kept P (opening_of s) (λ j. content w past s j) (with_entry (heard_by (at_server i) left m) (of_server s (trace w past)))) (sym (same refl)) (comes_none laws v w s past left m k)
+    subst (λ i. Kept P (opening_of s) (λ j. content w past s j) (with_entry (heard_by (at_server i) left m) (of_server s (trace w past)))) (sym (same refl))
+    (comes_none laws v w s past left m k)
 comes_step laws v w s r past left m false same k = k
 
 -- On honest disks a notion that survives holds at each server.
-pub kept : {P : Notion} {May : ℕ → JobParts → Type 0} → Ground → Survives May P → (w : Setup) (s : ℕ) (past : List Change) → AreHonest w past → MayLand May w past → Kept P (opening_of s) (λ j. content w past s j) (of_server s (trace w past))
+pub kept : {P : Notion} {May : ℕ → JobParts → Type 0} → Ground → Survives May P → (w : Setup) (s : ℕ) (past : List Change) → AreHonest w past
+    → MayLand May w past → Kept P (opening_of s) (λ j. content w past s j) (of_server s (trace w past))
 kept laws v w s [] honest may = record { works = λ now h. absurd cc; states = λ j state c. absurd (none_in state c) }
-kept laws v w s (changes.Met (OfServer r (Happens e)) ∷ past) honest may = kept_step laws v w s r past e (r == s) (eqb-true r s) honest.1 (kept laws v w s past honest.0 may)
+kept laws v w s (changes.Met (OfServer r (Happens e)) ∷ past) honest may =
+    kept_step laws v w s r past e (r == s) (eqb-true r s) honest.1 (kept laws v w s past honest.0 may)
 kept {P} laws v w s (changes.Met (OfServer r (Comes f left)) ∷ past) honest may =
     let m = meaning (at_server r) (heard (at_server r) (frames.of_server r (steps past))) f in
     subst (λ list. Kept P (opening_of s) (λ j. content w past s j) list) (sym (server_with s r (heard_by (at_server r) left m) (trace w past)))

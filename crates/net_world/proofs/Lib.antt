@@ -5,6 +5,7 @@ pub mod MirrorLemmas
 pub mod PassLemmas
 pub mod VerdictLemmas
 pub mod WorldLemmas
+pub mod WorldTraceLemmas
 pub mod ExactLemmas
 pub mod StartLemmas
 pub mod StartedLemmas
@@ -42,6 +43,7 @@ pub mod RenewalLemmas
 pub mod OnlySentLemmas
 pub mod PieceLemmas
 pub mod WorldFitLemmas
+pub mod ReportFitLemmas
 pub mod CalmLemmas
 pub mod WorldConflictLemmas
 pub mod StandLemmas
@@ -52,6 +54,7 @@ pub mod ServeLemmas
 pub mod OutcomeLemmas
 pub mod EndsLemmas
 pub mod MirrorEndsLemmas
+pub mod MirrorCutEndsLemmas
 pub mod RenewalEndsLemmas
 pub mod NodeLemmas
 pub mod ServerNodeLemmas
@@ -61,6 +64,7 @@ pub mod PlainLemmas
 pub mod PlayLemmas
 pub mod PutLemmas
 pub mod FileStepLemmas
+pub mod FilePlaceLemmas
 pub mod DeliverLemmas
 pub mod CheckLemmas
 pub mod CutLemmas

@@ -1,5 +1,6 @@
 -- Behind a taking the present run issues nothing more, and what the state counts stays done.
-use Rattle.std.proofs.Common.{◌≡◌, refl, sym, ◌∙◌, ap, subst, ◌⊎◌, inl, inr, ℕ, arith, Bool, true, false, ◌&&◌, ◌||◌, ◌==◌, List, [], ◌∷◌, ◌++◌, Option, Some, None, Result, Ok, Err, append_assoc}
+use Rattle.std.proofs.Common.{◌≡◌, refl, sym, ◌∙◌, ap, subst, ◌⊎◌, inl, inr, ℕ, arith, Bool, true, false, ◌&&◌}
+use Rattle.std.proofs.Common.{◌||◌, ◌==◌, List, [], ◌∷◌, ◌++◌, Option, Some, None, Result, Ok, Err, append_assoc}
 use Rattle.std.specs.Prelude.{if◌then◌else◌, is_some, slice_get, Contains}
 use Rattle.std.specs.Option.{option_or}
 use Rattle.std.proofs.lemmas.Bool.{eqb-true}
@@ -21,7 +22,8 @@ use Rattle.disk_model.specs.declared.left.Left.{Left}
 use Rattle.disk_model.specs.declared.left.Left.TheVariants.{NoSave, Saved, LostNew, LostOld}
 use Rattle.disk_model.proofs.ListLemmas.{only_in}
 use Rattle.server_core.specs.History.{Opening, Entry, Met, Cut, Restart}
-use Rattle.server_core.specs.Request.{Request, ToStage, ToStart, ToTrigger, ToMark, ToStop, ToVerify, ToHold, ToPassFully, ToIssue, ToEnd, ToReport, ToNobody, request_of}
+use Rattle.server_core.specs.Request.{Request, ToStage, ToStart, ToTrigger, ToMark, ToStop, ToVerify}
+use Rattle.server_core.specs.Request.{ToHold, ToPassFully, ToIssue, ToEnd, ToReport, ToNobody, request_of}
 use Rattle.server_core.specs.Run.{Work, Halt, Triggered, halt_by, halt_of, origin_of, with_ticket, with_request, history, goes_on}
 use Rattle.server_core.specs.Words.{Staged, boot, work_after, work, due}
 use Rattle.server_core.specs.Taken.{job_state, saved_state, triggers, takes_now, takes, and_those, takings}
@@ -48,15 +50,19 @@ pub record Hit (run j : ℕ) (x : Request) (w : Work) (state : State) : Type 0 w
   pub has_job : slice_get w.jobs j ≡ Some job
   pub state_is : job_state (origin_of w j job) w.since ≡ state
 
-saved_one : (w : Work) (j : ℕ) (job : Job) (b : Bool) (state : State) → (if b then Some (job_state (origin_of w j job) w.since) else None) ≡ Some state → job_state (origin_of w j job) w.since ≡ state
+saved_one : (w : Work) (j : ℕ) (job : Job) (b : Bool) (state : State) → (if b then Some (job_state (origin_of w j job) w.since) else None) ≡ Some state
+    → job_state (origin_of w j job) w.since ≡ state
 saved_one w j job true state h = cc
 saved_one w j job false state h = cc
 
-hit_job : (run j : ℕ) (x : Request) (w : Work) (state : State) (found : Option Job) → triggers run x ≡ true → w.run ≡ run → halt_of w.run w.since ≡ None → slice_get w.jobs j ≡ found → saved_state w j found w.since ≡ Some state → Hit run j x w state
+hit_job : (run j : ℕ) (x : Request) (w : Work) (state : State) (found : Option Job) → triggers run x ≡ true → w.run ≡ run → halt_of w.run w.since ≡ None
+    → slice_get w.jobs j ≡ found → saved_state w j found w.since ≡ Some state → Hit run j x w state
 hit_job run j x w state None a b c is h = cc
-hit_job run j x w state (Some job) a b c is h = record { triggers_it = a; same_run = b; writing = c; job = job; has_job = is; state_is = saved_one w j job job.save state h }
+hit_job run j x w state (Some job) a b c is h =
+    record { triggers_it = a; same_run = b; writing = c; job = job; has_job = is; state_is = saved_one w j job job.save state h }
 
-hit_now : (run j : ℕ) (x : Request) (w : Work) (state : State) (u t : Bool) (b : Option Halt) → triggers run x ≡ u → (w.run == run) ≡ t → halt_of w.run w.since ≡ b → takes_now (u && t) w j b ≡ Some state → Hit run j x w state
+hit_now : (run j : ℕ) (x : Request) (w : Work) (state : State) (u t : Bool) (b : Option Halt) → triggers run x ≡ u → (w.run == run) ≡ t
+    → halt_of w.run w.since ≡ b → takes_now (u && t) w j b ≡ Some state → Hit run j x w state
 hit_now run j x w state true true None a b c h = hit_job run j x w state (slice_get w.jobs j) a (eqb-true w.run run b) c refl h
 hit_now run j x w state true true (Some halt) a b c h = cc
 hit_now run j x w state true false None a b c h = cc
@@ -101,7 +107,8 @@ no_write run (ToEnd ticket end) origin stopped h t = cc
 no_write run (ToReport b a i report) origin stopped h t = cc
 no_write run ToNobody origin stopped h t = cc
 
-state_counts : StatesCountTheDone → (origin : Origin) (since : List Request) (k : ℕ) → IsLegal origin.job (history origin since) → has (job_state origin since).counted k ≡ window.is_done (history origin since) k
+state_counts : StatesCountTheDone → (origin : Origin) (since : List Request) (k : ℕ) → IsLegal origin.job (history origin since)
+    → has (job_state origin since).counted k ≡ window.is_done (history origin since) k
 unfolding job_state
 state_counts counts origin since k legal = counts origin (history origin since) legal k
 
@@ -124,16 +131,25 @@ pub record IsStateOf (origin : Origin) (h : List window.Event) (state : State) :
   pub issued_is : state.issued ≡ window.issued h
   pub counts : (k : ℕ) → has state.counted k ≡ window.is_done h k
 
-pub state_is_of : StatesCountTheDone → (origin : Origin) (since : List Request) (state : State) → IsLegal origin.job (history origin since) → job_state origin since ≡ state → IsStateOf origin (history origin since) state
+pub state_is_of : StatesCountTheDone → (origin : Origin) (since : List Request) (state : State) → IsLegal origin.job (history origin since)
+    → job_state origin since ≡ state → IsStateOf origin (history origin since) state
 state_is_of counts origin since state legal e = subst (λ s. IsStateOf origin (history origin since) s) e
-    (record { key = state_key origin since; job_is = state_job origin since; issued_is = state_issued origin since; counts = λ k. state_counts counts origin since k legal })
+    (record {
+      key = state_key origin since;
+      job_is = state_job origin since;
+      issued_is = state_issued origin since;
+      counts = λ k. state_counts counts origin since k legal;
+    })
 
-link_now : StatesCountTheDone → (run j : ℕ) (x : Request) (w : Work) (state : State) → ((job : Job) → slice_get w.jobs j ≡ Some job → IsLegal job.rec (history (origin_of w j job) w.since)) → run ≡ w.run → Hit run j x w state → LinkOf (record w { since = x ∷ w.since }) j state
+link_now : StatesCountTheDone → (run j : ℕ) (x : Request) (w : Work) (state : State)
+    → ((job : Job) → slice_get w.jobs j ≡ Some job → IsLegal job.rec (history (origin_of w j job) w.since)) → run ≡ w.run → Hit run j x w state
+    → LinkOf (record w { since = x ∷ w.since }) j state
 link_now counts run j x w state legal same k =
     let origin = origin_of w j k.job in
     let s = state_is_of counts origin w.since state (legal k.job k.has_job) k.state_is in
     let here : triggers w.run x ≡ true = subst (λ r. triggers r x ≡ true) same k.triggers_it in
-    let same_history : history origin (x ∷ w.since) ≡ history origin w.since = no_write w.run x origin (is_some (halt_of w.run w.since)) (history origin w.since) here in
+    let same_history : history origin (x ∷ w.since) ≡ history origin w.since =
+    no_write w.run x origin (is_some (halt_of w.run w.since)) (history origin w.since) here in
     record {
       job = k.job;
       has_job = k.has_job;
@@ -216,7 +232,8 @@ now_or_before None older state h = inr h
 now_or_before (Some s) older state h = elim (Contains-append_cases (s ∷ []) older state h) [ inl i ↦ inl (ap Some (only_in s state i)) | inr i ↦ inr i ]
 
 -- Of a run that is due to be recorded nothing was taken yet.
-below : StartsOnce → (o : Opening) (run j : ℕ) (list : List Entry) (e : Event) (s : Staged) (state : State) (t : IsTaking o run j list state) (between : List Entry) (past : List Entry)
+below : StartsOnce → (o : Opening) (run j : ℕ) (list : List Entry) (e : Event) (s : Staged) (state : State) (t : IsTaking o run j list state)
+    (between : List Entry) (past : List Entry)
     → past ≡ between ++ Met t.start Saved ∷ t.older → due o past e ≡ Some s → s.run ≡ run → ⊥
 below starts o run j list e s state t between past is d same =
     let lt = starts o t.older between t.start e Saved t.started s refl t.accepted (subst (λ l. due o l e ≡ Some s) is d) in
@@ -225,7 +242,8 @@ below starts o run j list e s state t between past is d same =
 the_rest : {x y : Entry} {xs ys : List Entry} → x ∷ xs ≡ y ∷ ys → xs ≡ ys
 the_rest h = cc
 
-split_at : StartsOnce → (o : Opening) (run j : ℕ) (e : Event) (left : Left) (past : List Entry) (s : Staged) (state : State) (t : IsTaking o run j (Met e left ∷ past) state) (newer : List Entry)
+split_at : StartsOnce → (o : Opening) (run j : ℕ) (e : Event) (left : Left) (past : List Entry) (s : Staged) (state : State)
+    (t : IsTaking o run j (Met e left ∷ past) state) (newer : List Entry)
     → t.newer ≡ newer → due o past e ≡ Some s → s.run ≡ run → ⊥
 split_at starts o run j e left past s state t [] is d same =
     let behind = Met t.trigger t.left ∷ (t.between ++ Met t.start Saved ∷ t.older) in
@@ -237,7 +255,8 @@ split_at starts o run j e left past s state t (n ∷ newer) is d same =
     below starts o run j (Met e left ∷ past) e s state t (newer ++ Met t.trigger t.left ∷ t.between) past
     (the_rest whole ∙ sym (append_assoc newer (Met t.trigger t.left ∷ t.between) (Met t.start Saved ∷ t.older))) d same
 
-pub none_taken_yet : Ground → (o : Opening) (j : ℕ) (e : Event) (left : Left) (past : List Entry) (s : Staged) (state : State) → due o past e ≡ Some s → Contains (takings o s.run j (Met e left ∷ past)) state → ⊥
+pub none_taken_yet : Ground → (o : Opening) (j : ℕ) (e : Event) (left : Left) (past : List Entry) (s : Staged) (state : State) → due o past e ≡ Some s
+    → Contains (takings o s.run j (Met e left ∷ past)) state → ⊥
 none_taken_yet laws o j e left past s state d h =
     let t = laws.takings o s.run j (Met e left ∷ past) state h in
     split_at laws.starts o s.run j e left past s state t t.newer refl d refl
@@ -247,15 +266,18 @@ abbrev pub Linked : Opening → List Entry → Option Work → Type 0
 Linked o list None = Unit {0}
 Linked o list (Some w) = (j : ℕ) (state : State) → Contains (takings o w.run j list) state → LinkOf w j state
 
-linked_on : Ground → (o : Opening) (e : Event) (left : Left) (past : List Entry) (x : Option Work) → work o past ≡ x → Linked o past x → Linked o (Met e left ∷ past) (goes_on (request_of o.me e) x)
+linked_on : Ground → (o : Opening) (e : Event) (left : Left) (past : List Entry) (x : Option Work) → work o past ≡ x → Linked o past x
+    → Linked o (Met e left ∷ past) (goes_on (request_of o.me e) x)
 linked_on laws o e left past None is l = tt
 linked_on laws o e left past (Some w) is l = λ j state c.
     elim (now_or_before (takes w.run j (request_of o.me e) (work o past)) (takings o w.run j past) state c) [
-      | inl now ↦ link_now laws.counts w.run j (request_of o.me e) w state (λ job found. job_legal laws o past w is j job found) refl (hit w.run j (request_of o.me e) w state (subst (λ v. takes w.run j (request_of o.me e) v ≡ Some state) is now))
+      | inl now ↦ link_now laws.counts w.run j (request_of o.me e) w state (λ job found. job_legal laws o past w is j job found) refl
+          (hit w.run j (request_of o.me e) w state (subst (λ v. takes w.run j (request_of o.me e) v ≡ Some state) is now))
       | inr before ↦ link_later (request_of o.me e) w j state (l j state before)
     ]
 
-linked_after : Ground → (o : Opening) (e : Event) (left : Left) (past : List Entry) (d : Option Staged) (x : Option Work) → due o past e ≡ d → work o past ≡ x → Linked o past x
+linked_after : Ground → (o : Opening) (e : Event) (left : Left) (past : List Entry) (d : Option Staged) (x : Option Work) → due o past e ≡ d → work o past ≡ x
+    → Linked o past x
     → Linked o (Met e left ∷ past) (work_after left d o.me (boot o past) (request_of o.me e) x)
 linked_after laws o e NoSave past d x a b l = linked_on laws o e NoSave past x b l
 linked_after laws o e Saved past None x a b l = linked_on laws o e Saved past x b l

@@ -2,7 +2,8 @@
 use Rattle.std.proofs.Common.{◌≡◌, refl, ap, subst, ◌⊎◌, inl, inr, zero, ◌≤◌, arith, Bool, true, false, List, [], ◌∷◌, length, Option, Some}
 use Rattle.std.specs.Prelude.{Contains, map, if◌then◌else◌}
 use Rattle.std.specs.List.{AllByRecursion}
-use Rattle.std.proofs.lemmas.List.Elements.{All-contains, All-from_recursion, Contains-append_cases, Contains-append_left, Contains-append_right, Contains-push_cases}
+use Rattle.std.proofs.lemmas.List.Elements.{All-contains, All-from_recursion, Contains-append_cases}
+use Rattle.std.proofs.lemmas.List.Elements.{Contains-append_left, Contains-append_right, Contains-push_cases}
 use Rattle.fc_base.specs.declared.numbers.Key.{Key}
 use Rattle.fc_base.specs.Keys.{is_same_key}
 use Rattle.verify_state.specs.State.{State}
@@ -30,7 +31,8 @@ of_map f (x ∷ xs) y h = elim (first_or_behind (f x) (map f xs) y h) [
   | inr i ↦ let s = of_map f xs y i in (s.0, behind_one x xs s.0 s.1, s.2)
 ]
 
-found_if : (b : Bool) (here : State) (states : List State) (rest : Option State) (state : State) → (rest ≡ Some state → Contains states state) → (if b then Some here else rest) ≡ Some state → Contains (here ∷ states) state
+found_if : (b : Bool) (here : State) (states : List State) (rest : Option State) (state : State) → (rest ≡ Some state → Contains states state)
+    → (if b then Some here else rest) ≡ Some state → Contains (here ∷ states) state
 found_if true here states rest state f h = let same : here ≡ state = cc in subst (Contains (here ∷ states)) same (first_of here states)
 found_if false here states rest state f h = behind_one here states state (f h)
 

@@ -28,13 +28,17 @@ if_second : {X : Type 0} (a b : Bool) (x : X) → a ≡ true → b ≡ false →
 if_second a b x h k = rw (h, k) refl
 
 pub no_status : (w : Setup) (past : List Change) (s : ℕ) → w.servers ≤ s → status w past s ≡ None
-no_status w past s h = if_first (nat_lt s w.servers) (is_on w (trace w past) (Server s)) (servers.status (opening_of s) (of_server s (trace w past))) (le-ltb s w.servers h)
+no_status w past s h =
+    if_first (nat_lt s w.servers) (is_on w (trace w past) (Server s)) (servers.status (opening_of s) (of_server s (trace w past))) (le-ltb s w.servers h)
 
 pub off_status : (w : Setup) (past : List Change) (s : ℕ) → s < w.servers → is_up (opening_of s) (entries past s) ≡ false → status w past s ≡ None
-off_status w past s l h = if_second (nat_lt s w.servers) (is_on w (trace w past) (Server s)) (servers.status (opening_of s) (of_server s (trace w past))) (lt-ltb s w.servers l) (sym (up_is w past s) ∙ h)
+off_status w past s l h = if_second (nat_lt s w.servers) (is_on w (trace w past) (Server s)) (servers.status (opening_of s) (of_server s (trace w past)))
+    (lt-ltb s w.servers l) (sym (up_is w past s) ∙ h)
 
-pub on_status : (w : Setup) (past : List Change) (s : ℕ) → s < w.servers → is_up (opening_of s) (entries past s) ≡ true → status w past s ≡ Some (servers.status (opening_of s) (of_server s (trace w past)))
-on_status w past s l h = if_both (nat_lt s w.servers) (is_on w (trace w past) (Server s)) (servers.status (opening_of s) (of_server s (trace w past))) (lt-ltb s w.servers l) (sym (up_is w past s) ∙ h)
+pub on_status : (w : Setup) (past : List Change) (s : ℕ) → s < w.servers → is_up (opening_of s) (entries past s) ≡ true
+    → status w past s ≡ Some (servers.status (opening_of s) (of_server s (trace w past)))
+on_status w past s l h = if_both (nat_lt s w.servers) (is_on w (trace w past) (Server s)) (servers.status (opening_of s) (of_server s (trace w past)))
+    (lt-ltb s w.servers l) (sym (up_is w past s) ∙ h)
 
 if_on : {X : Type 0} (b : Bool) (x : Option X) → b ≡ true → (if b then x else None) ≡ x
 if_on b x h = rw h refl
@@ -42,8 +46,12 @@ if_on b x h = rw h refl
 if_off : {X : Type 0} (b : Bool) (x : Option X) → b ≡ false → (if b then x else None) ≡ None
 if_off b x h = rw h refl
 
-pub off_saved : (w : Setup) (past : List Change) (key : Key) → client_nodes.is_up (client_opening w) (asking.entries w past) ≡ false → saved_state w past key ≡ None
-off_saved w past key h = if_off (is_on w (trace w past) Client) (clients.kept_state (client_opening w) (of_client w (trace w past)) key) (sym (asks.up_is w past) ∙ h)
+pub off_saved : (w : Setup) (past : List Change) (key : Key) → client_nodes.is_up (client_opening w) (asking.entries w past) ≡ false
+    → saved_state w past key ≡ None
+off_saved w past key h =
+    if_off (is_on w (trace w past) Client) (clients.kept_state (client_opening w) (of_client w (trace w past)) key) (sym (asks.up_is w past) ∙ h)
 
-pub on_saved : (w : Setup) (past : List Change) (key : Key) → client_nodes.is_up (client_opening w) (asking.entries w past) ≡ true → saved_state w past key ≡ clients.kept_state (client_opening w) (of_client w (trace w past)) key
-on_saved w past key h = if_on (is_on w (trace w past) Client) (clients.kept_state (client_opening w) (of_client w (trace w past)) key) (sym (asks.up_is w past) ∙ h)
+pub on_saved : (w : Setup) (past : List Change) (key : Key) → client_nodes.is_up (client_opening w) (asking.entries w past) ≡ true
+    → saved_state w past key ≡ clients.kept_state (client_opening w) (of_client w (trace w past)) key
+on_saved w past key h =
+    if_on (is_on w (trace w past) Client) (clients.kept_state (client_opening w) (of_client w (trace w past)) key) (sym (asks.up_is w past) ∙ h)

@@ -35,11 +35,13 @@ entry_again (hearing.Met (inputs.CheckDone boot a j report) left) = refl
 entry_again hearing.Cut = refl
 entry_again (hearing.Restart left) = refl
 
-by_test : (s : ℕ) (e : FrameEntry) (t : List FrameStep) (b : Bool) → b ≡ true → map frame_entry (if b then coming_of e ∷ of_server s t else of_server s t) ≡ e ∷ server_entries s t
+by_test : (s : ℕ) (e : FrameEntry) (t : List FrameStep) (b : Bool) → b ≡ true
+    → map frame_entry (if b then coming_of e ∷ of_server s t else of_server s t) ≡ e ∷ server_entries s t
 by_test s e t true h = ap (λ x. x ∷ server_entries s t) (entry_again e)
 by_test s e t false h = absurd cc
 
-past_test : (r : ℕ) (e : FrameEntry) (t : List FrameStep) (b : Bool) → b ≡ false → map frame_entry (if b then coming_of e ∷ of_server r t else of_server r t) ≡ server_entries r t
+past_test : (r : ℕ) (e : FrameEntry) (t : List FrameStep) (b : Bool) → b ≡ false
+    → map frame_entry (if b then coming_of e ∷ of_server r t else of_server r t) ≡ server_entries r t
 past_test r e t true h = absurd cc
 past_test r e t false h = refl
 
@@ -58,7 +60,8 @@ entries_there s r e t ne = past_test r e t (s == r) (other (s == r) (eqb-true s 
 
 -- ---- the frames
 
-pub frames_more : (w : Setup) (past : List Change) (step : FrameStep) → frames w (Met step ∷ past) ≡ frames w past ++ map frame_spelling (frames_of_step w (steps past) step)
+pub frames_more : (w : Setup) (past : List Change) (step : FrameStep)
+    → frames w (Met step ∷ past) ≡ frames w past ++ map frame_spelling (frames_of_step w (steps past) step)
 unfolding frames_sent
 frames_more w past step = map-append frame_spelling (frames_sent w (steps past)) (frames_of_step w (steps past) step)
 
@@ -98,15 +101,18 @@ pub record HasMoved (s : ℕ) (node : ServerNode) (sent : List (List ℕ)) (old 
   pub files_are : new.files ≡ old.files
   pub mirror_is : new.mirror ≡ old.mirror
 
-count : (s : ℕ) (node : ServerNode) (sent : List (List ℕ)) (old new : World) → HasMoved s node sent old new → length new.servers.items ≡ length old.servers.items
+count : (s : ℕ) (node : ServerNode) (sent : List (List ℕ)) (old new : World) → HasMoved s node sent old new
+    → length new.servers.items ≡ length old.servers.items
 count s node sent old new h = ap (λ (xs : List ServerNode). length xs) h.set_is ∙ length-set old.servers.items h.place node
 
 set_at : (s : ℕ) (node : ServerNode) (sent : List (List ℕ)) (old new : World) → HasMoved s node sent old new → new.servers.items ≡ set old.servers.items s node
 set_at s node sent old new h = h.set_is ∙ ap (λ i. set old.servers.items i node) h.place_is
 
 -- Server s has made a step, for which its node stands and whose frames were added.
-pub server_stepped : (w : Setup) (past : List Change) (s : ℕ) (e : FrameEntry) (node : ServerNode) (sent : List (List ℕ)) (old new : World) → StandsFor w past old → HasMoved s node sent old new
-    → sent ≡ map frame_spelling (frames_of_step w (steps past) (step_of s e)) → servers.Stands (opening_of s) (e ∷ entries past s) node → StandsFor w (Met (step_of s e) ∷ past) new
+pub server_stepped : (w : Setup) (past : List Change) (s : ℕ) (e : FrameEntry) (node : ServerNode) (sent : List (List ℕ)) (old new : World)
+    → StandsFor w past old → HasMoved s node sent old new
+    → sent ≡ map frame_spelling (frames_of_step w (steps past) (step_of s e)) → servers.Stands (opening_of s) (e ∷ entries past s) node
+    → StandsFor w (Met (step_of s e) ∷ past) new
 server_stepped w past s e node sent old new stands h is node_is = record {
   some = stands.some;
   few = stands.few;

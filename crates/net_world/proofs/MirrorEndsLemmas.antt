@@ -1,13 +1,14 @@
 -- How what comes to the mirror ends, as an event of a world.
-use Rattle.std.proofs.Common.{◌≡◌, refl, sym, ◌∙◌, ap, subst, inl, inr, ◌⊎◌, ℕ, ◌+◌, ◌*◌, Bool, true, false, ◌&&◌, List, [], ◌∷◌, ◌++◌, length, Option, Some, None, Ok, Err, append-nil}
-use Rattle.std.specs.Prelude.{if◌then◌else◌, not, map, is_some, is_none, slice_get, Vec}
+use Rattle.std.proofs.Common.{◌≡◌, refl, sym, ◌∙◌, ap, subst, inl, inr, ◌⊎◌, ℕ, ◌+◌, ◌*◌, Bool, true, false}
+use Rattle.std.proofs.Common.{List, [], ◌∷◌, ◌++◌, length, Option, Some, None, Ok, Err, append-nil}
+use Rattle.std.specs.Prelude.{not, map, is_some, slice_get, Vec}
 use Rattle.std.specs.List.{flat_map}
 use Rattle.std.specs.Option.{option_or}
 use Rattle.std.specs.declared.alloc.Global.{Global}
 use Rattle.std.proofs.lemmas.List.{length-map, map-append}
 use Rattle.fc_base.specs.declared.limits.TheConstants.{MAX_JOBS}
 use Rattle.fc_base.specs.declared.fault.Fault.{Fault}
-use Rattle.fc_base.specs.declared.fault.Fault.TheVariants.{NoMemory, NoMirror, NodeOff, NodeOn, NoSave}
+use Rattle.fc_base.specs.declared.fault.Fault.TheVariants.{NoMemory, NoMirror, NodeOff, NodeOn}
 use Rattle.fc_base.specs.declared.fault.FaultSort.{FaultSort}
 use Rattle.fc_base.specs.declared.fault.FaultSort.TheVariants as sorts
 use Rattle.fc_base.specs.Fault.{sort_of}
@@ -23,9 +24,7 @@ use Rattle.messages.specs.declared.refusal.Act.TheVariants as acts
 use Rattle.mirror_core.specs.History.{Entry, Met, Cut, Restart}
 use Rattle.mirror_core.specs.Words as words
 use Rattle.mirror_core.specs.Words.{refusal, due}
-use Rattle.mirror_core.specs.Saves.{Addition, is_answer}
-use Rattle.mirror_core.specs.Packets.{packets, packets_for, frame_bytes}
-use Rattle.mirror_core.specs.Requests.{request_in}
+use Rattle.mirror_core.specs.Packets.{packets, frame_bytes}
 use Rattle.mirror_core.specs.Ends.{answered_entry}
 use Rattle.net_world.specs.declared.server_node.ServerNode.{ServerNode}
 use Rattle.net_world.specs.declared.mirror_node.MirrorNode.{MirrorNode}
@@ -33,7 +32,7 @@ use Rattle.net_world.specs.declared.told.WorldAnswer.TheVariants.{Plain}
 use Rattle.net_world.specs.declared.told.Told.{Told}
 use Rattle.net_world.specs.declared.world.World.{World}
 use Rattle.net_world.specs.Setup.{Setup}
-use Rattle.net_world.specs.Happenings.{Happening, Deliver, CutIn}
+use Rattle.net_world.specs.Happenings.{Happening, Deliver}
 use Rattle.net_world.specs.Happenings as happenings
 use Rattle.net_world.specs.Trace as traces
 use Rattle.net_world.specs.Trace.{client_opening, mirror_opening}
@@ -41,7 +40,8 @@ use Rattle.net_world.specs.Frames.{OfMirror, of_mirror, frames_sent, frames_of_s
 use Rattle.net_world.specs.Changes as changes
 use Rattle.net_world.specs.Changes.{Change, steps, trace}
 use Rattle.net_world.specs.Barred.{unless, unless_on, unless_off, is_on, barring_fault, unless_sent}
-use Rattle.net_world.specs.Outcomes.{outcome_of_step, unless_fault, where_saved, lost_by, comes_to, comes_to_mirror, frame_cut, delivery, delivery_cut_in, brings}
+use Rattle.net_world.specs.Outcomes.{outcome_of_step, unless_fault, comes_to}
+use Rattle.net_world.specs.Outcomes.{comes_to_mirror, delivery, brings}
 use Rattle.net_world.specs.World.{frames, told_of_happening}
 use Rattle.net_world.specs.Telling.{plainly_told}
 use Rattle.net_world.specs.Sending.{sent_in}
@@ -56,16 +56,17 @@ use Rattle.net_world.specs.Ends.{Ends, changes_after}
 use Rattle.net_world.proofs.HearingLemmas.{mirror_hears}
 use Rattle.net_world.proofs.MetLemmas.{frames_more}
 use Rattle.net_world.proofs.ServeLemmas.{first_is}
-use Rattle.net_world.proofs.EndsLemmas.{goes, stops, does, refusing, refuses, some_save, no_save}
+use Rattle.net_world.proofs.EndsLemmas.{goes, stops, does, refusing, refuses}
 use Rattle.net_world.proofs.PlainLemmas.{IsPlain, told_plainly}
 
 -- ---- its list, and whether it is there and on
 
-heard_is : (w : Setup) (past : List Change) → traces.of_mirror (trace w past) ≡ of_mirror (steps past)
+pub heard_is : (w : Setup) (past : List Change) → traces.of_mirror (trace w past) ≡ of_mirror (steps past)
 heard_is w past = mirror_hears w (steps past)
 
 -- What a world has as its mirror, where there is a node.
-pub there : (w : Setup) (past : List Change) (x : Option MirrorNode) (node : MirrorNode) → x ≡ Some node → IsMirror w (of_mirror (steps past)) x → (w.mirror ≡ true) × nodes.Stands mirror_opening (of_mirror (steps past)) node
+pub there : (w : Setup) (past : List Change) (x : Option MirrorNode) (node : MirrorNode) → x ≡ Some node → IsMirror w (of_mirror (steps past)) x
+    → (w.mirror ≡ true) × nodes.Stands mirror_opening (of_mirror (steps past)) node
 there w past x node is h = subst (IsMirror w (of_mirror (steps past))) is h
 
 pub has_node : (w : Setup) (past : List Change) (x : Option MirrorNode) → is_some x ≡ true → IsMirror w (of_mirror (steps past)) x → w.mirror ≡ true
@@ -85,10 +86,12 @@ on_same w past b h = ap words.is_on (heard_is w past) ∙ h
 pub is_there : (w : Setup) (past : List Change) → w.mirror ≡ true → words.is_on (of_mirror (steps past)) ≡ true → unless_on w (trace w past) Mirror ≡ None
 is_there w past has h = tests w.mirror (is_on w (trace w past) Mirror) NoMirror NodeOff true true has (on_same w past true h)
 
-pub is_off : (w : Setup) (past : List Change) → w.mirror ≡ true → words.is_on (of_mirror (steps past)) ≡ false → unless_on w (trace w past) Mirror ≡ Some NodeOff
+pub is_off : (w : Setup) (past : List Change) → w.mirror ≡ true → words.is_on (of_mirror (steps past)) ≡ false
+    → unless_on w (trace w past) Mirror ≡ Some NodeOff
 is_off w past has h = tests w.mirror (is_on w (trace w past) Mirror) NoMirror NodeOff true false has (on_same w past false h)
 
-pub runs_on : (w : Setup) (past : List Change) → w.mirror ≡ true → words.is_on (of_mirror (steps past)) ≡ true → unless_off w (trace w past) Mirror ≡ Some NodeOn
+pub runs_on : (w : Setup) (past : List Change) → w.mirror ≡ true → words.is_on (of_mirror (steps past)) ≡ true
+    → unless_off w (trace w past) Mirror ≡ Some NodeOn
 runs_on w past has h = tests w.mirror (not (is_on w (trace w past) Mirror)) NoMirror NodeOn true false has (ap not (on_same w past true h))
 
 pub may_restart : (w : Setup) (past : List Change) → w.mirror ≡ true → words.is_on (of_mirror (steps past)) ≡ false → unless_off w (trace w past) Mirror ≡ None
@@ -111,8 +114,10 @@ pub is_had : (was : MirrorNode) (now : World) → now.mirror.node ≡ Some was �
 is_had was now is w past h = (there w past now.mirror.node was is h.mirror_is).0
 
 -- The mirror has made a step, for which its node stands and whose frames were added.
-pub mirror_stepped : (w : Setup) (past : List Change) (e : Entry) (node : MirrorNode) (sent : List (List ℕ)) (old new : World) → StandsFor w past old → HasHeard node sent old new
-    → sent ≡ map frame_spelling (frames_of_step w (steps past) (OfMirror e)) → nodes.Stands mirror_opening (e ∷ of_mirror (steps past)) node → StandsFor w (changes.Met (OfMirror e) ∷ past) new
+pub mirror_stepped : (w : Setup) (past : List Change) (e : Entry) (node : MirrorNode) (sent : List (List ℕ)) (old new : World) → StandsFor w past old
+    → HasHeard node sent old new
+    → sent ≡ map frame_spelling (frames_of_step w (steps past) (OfMirror e)) → nodes.Stands mirror_opening (e ∷ of_mirror (steps past)) node
+    → StandsFor w (changes.Met (OfMirror e) ∷ past) new
 mirror_stepped w past e node sent old new stands h is node_is = record {
   some = stands.some;
   few = stands.few;
@@ -144,8 +149,10 @@ mirror_kept w past node old new stands h node_is = record {
 
 -- ---- a cut and a restart
 
-pub plain_ends : (w : Setup) (past : List Change) (e : Happening) (entry : Entry) (node : MirrorNode) (first : ℕ) (t : Told) (old new : World) → StandsFor w past old → HasHeard node [] old new
-    → nodes.Stands mirror_opening (entry ∷ of_mirror (steps past)) node → IsPlain w past e (OfMirror entry) → first ≡ length (sent_in old.sent) → t ≡ plainly_told first → Ends w past e new (Ok t)
+pub plain_ends : (w : Setup) (past : List Change) (e : Happening) (entry : Entry) (node : MirrorNode) (first : ℕ) (t : Told) (old new : World)
+    → StandsFor w past old → HasHeard node [] old new
+    → nodes.Stands mirror_opening (entry ∷ of_mirror (steps past)) node → IsPlain w past e (OfMirror entry) → first ≡ length (sent_in old.sent)
+    → t ≡ plainly_told first → Ends w past e new (Ok t)
 plain_ends w past e entry node first t old new stands moved node_is p f tells =
     does w past e (changes.Met (OfMirror entry)) t new p.comes (told_plainly w past e (OfMirror entry) first t p (f ∙ first_is w past old stands) tells)
     (mirror_stepped w past entry node [] old new stands moved (ap (map frame_spelling) (sym p.silent)) node_is)
@@ -157,10 +164,12 @@ pub restart_plain : (w : Setup) (past : List Change) → unless_off w (trace w p
 restart_plain w past free = record { comes = goes w past (happenings.Restart Mirror) free; answered = refl; silent = refl; asks = refl }
 
 -- How a restart that isn't answered ends.
-pub restart_ends : (w : Setup) (past : List Change) (node : MirrorNode) (fault : Fault) (old new : World) → StandsFor w past old → HasHeard node [] old new → nodes.Restarts mirror_opening (of_mirror (steps past)) node (Err fault)
+pub restart_ends : (w : Setup) (past : List Change) (node : MirrorNode) (fault : Fault) (old new : World) → StandsFor w past old → HasHeard node [] old new
+    → nodes.Restarts mirror_opening (of_mirror (steps past)) node (Err fault)
     → Ends w past (happenings.Restart Mirror) new (Err fault)
 restart_ends w past node NodeOn old new stands h r =
-    refuses w past (happenings.Restart Mirror) NodeOn new refl (stops w past (happenings.Restart Mirror) NodeOn (runs_on w past (h.has w past stands) r.0)) (mirror_kept w past node old new stands h r.1)
+    refuses w past (happenings.Restart Mirror) NodeOn new refl (stops w past (happenings.Restart Mirror) NodeOn (runs_on w past (h.has w past stands) r.0))
+    (mirror_kept w past node old new stands h r.1)
 restart_ends w past node NoMemory old new stands h r = (refl, mirror_kept w past node old new stands h r.1)
 restart_ends w past node _ old new stands h r = absurd r
 
@@ -171,14 +180,17 @@ pub record GoesTo (w : Setup) (past : List Change) (number : ℕ) (f : Frame) : 
   pub is_sent : slice_get (frames_sent w (steps past)) number ≡ Some f
   pub goes_to : to_of f ≡ Mirror
 
-pub frame_bar : (w : Setup) (past : List Change) (number : ℕ) (f : Frame) → GoesTo w past number f → barring_fault w (trace w past) (frames_sent w (steps past)) (Deliver number) ≡ unless_on w (trace w past) Mirror
+pub frame_bar : (w : Setup) (past : List Change) (number : ℕ) (f : Frame) → GoesTo w past number f
+    → barring_fault w (trace w past) (frames_sent w (steps past)) (Deliver number) ≡ unless_on w (trace w past) Mirror
 frame_bar w past number f g = ap (unless_sent w (trace w past)) g.is_sent ∙ ap (unless_on w (trace w past)) g.goes_to
 
-frame_brings : (w : Setup) (past : List Change) (number : ℕ) (f : Frame) → GoesTo w past number f → brings w past (Deliver number) ≡ outcome_of_step (comes_to_mirror (trace w past) f)
+frame_brings : (w : Setup) (past : List Change) (number : ℕ) (f : Frame) → GoesTo w past number f
+    → brings w past (Deliver number) ≡ outcome_of_step (comes_to_mirror (trace w past) f)
 frame_brings w past number f g = ap (delivery w past) g.is_sent ∙ ap (λ node. comes_to w past node f) g.goes_to
 
 met : (list : List Entry) (f : Frame) → refusal mirror_opening list f ≡ None
-    → unless_fault (refusal mirror_opening list f) (Ok (OfMirror (Met f (saved_for (due mirror_opening list f))))) ≡ Ok (OfMirror (answered_entry mirror_opening list f))
+    → unless_fault (refusal mirror_opening list f) (Ok (OfMirror (Met f (saved_for (due mirror_opening list f)))))
+    ≡ Ok (OfMirror (answered_entry mirror_opening list f))
 met list f h = rw h refl
 
 met_err : (list : List Entry) (f : Frame) (fault : Fault) → refusal mirror_opening list f ≡ Some fault
@@ -186,8 +198,10 @@ met_err : (list : List Entry) (f : Frame) (fault : Fault) → refusal mirror_ope
 met_err list f fault h = rw h refl
 
 comes_same : (w : Setup) (past : List Change) (f : Frame)
-    → comes_to_mirror (trace w past) f ≡ unless_fault (refusal mirror_opening (of_mirror (steps past)) f) (Ok (OfMirror (Met f (saved_for (due mirror_opening (of_mirror (steps past)) f)))))
-comes_same w past f = ap (λ list. unless_fault (refusal mirror_opening list f) (Ok (OfMirror (Met f (saved_for (due mirror_opening list f)))))) (heard_is w past)
+    → comes_to_mirror (trace w past) f ≡ unless_fault (refusal mirror_opening (of_mirror (steps past)) f)
+    (Ok (OfMirror (Met f (saved_for (due mirror_opening (of_mirror (steps past)) f)))))
+comes_same w past f =
+    ap (λ list. unless_fault (refusal mirror_opening list f) (Ok (OfMirror (Met f (saved_for (due mirror_opening list f)))))) (heard_is w past)
 
 spelled : (ps : List PacketParts) → frame_bytes ps ≡ map frame_spelling (flat_map frames_of ps)
 spelled [] = refl
@@ -200,82 +214,46 @@ told_same : (first first' sent sent' : ℕ) → first ≡ first' → sent ≡ se
 told_same first first' sent sent' e f = rw (e, f) refl
 
 -- A frame is answered.
-pub heard_ends : (w : Setup) (past : List Change) (number : ℕ) (f : Frame) (node : MirrorNode) (sent : List (List ℕ)) (first : ℕ) (t : Told) (old new : World) → StandsFor w past old → HasHeard node sent old new → GoesTo w past number f
-    → any_node.Answers (mirror_nodes mirror_opening) (of_mirror (steps past)) f node sent → first ≡ length (sent_in old.sent) → t ≡ told_with first (length sent) → Ends w past (Deliver number) new (Ok t)
+pub heard_ends : (w : Setup) (past : List Change) (number : ℕ) (f : Frame) (node : MirrorNode) (sent : List (List ℕ)) (first : ℕ) (t : Told) (old new : World)
+    → StandsFor w past old → HasHeard node sent old new → GoesTo w past number f
+    → any_node.Answers (mirror_nodes mirror_opening) (of_mirror (steps past)) f node sent → first ≡ length (sent_in old.sent)
+    → t ≡ told_with first (length sent) → Ends w past (Deliver number) new (Ok t)
 heard_ends w past number f node sent first t old new stands h g a is tells =
     let step = OfMirror (answered_entry mirror_opening (of_mirror (steps past)) f) in
-    let frames : sent ≡ map frame_spelling (frames_of_step w (steps past) step) = a.sends ∙ spelled (packets mirror_opening (of_mirror (steps past)) (answered_entry mirror_opening (of_mirror (steps past)) f)) in
+    let frames : sent ≡ map frame_spelling (frames_of_step w (steps past) step) =
+    a.sends ∙ spelled (packets mirror_opening (of_mirror (steps past)) (answered_entry mirror_opening (of_mirror (steps past)) f)) in
     let number_is = ap (λ (fs : List (List ℕ)). length fs) frames ∙ length-map (frames_of_step w (steps past) step) frame_spelling in
     does w past (Deliver number) (changes.Met step) t new
     (goes w past (Deliver number) (frame_bar w past number f g ∙ is_there w past (h.has w past stands) a.on)
     ∙ frame_brings w past number f g ∙ ap outcome_of_step (comes_same w past f ∙ met (of_mirror (steps past)) f a.free))
-    (ap (λ x. Ok x) (sym (tells ∙ told_same first (length (frames_sent w (steps past))) (length sent) (length (frames_of_step w (steps past) step)) (is ∙ first_is w past old stands) number_is)))
+    (ap (λ x. Ok x) (sym (tells ∙ told_same first (length (frames_sent w (steps past))) (length sent) (length (frames_of_step w (steps past) step))
+    (is ∙ first_is w past old stands) number_is)))
     (mirror_stepped w past (answered_entry mirror_opening (of_mirror (steps past)) f) node sent old new stands h frames a.stands)
 
-refused : (w : Setup) (past : List Change) (number : ℕ) (f : Frame) (node : MirrorNode) (fault : Fault) (old new : World) → StandsFor w past old → HasHeard node [] old new → GoesTo w past number f
-    → any_node.IsOff (mirror_nodes mirror_opening) (of_mirror (steps past)) fault node ⊎ any_node.Refuses (mirror_nodes mirror_opening) (of_mirror (steps past)) f fault node → (told_of_happening w past (Deliver number) ≡ Err fault) × StandsFor w (changes_after w past (Deliver number)) new
+refused : (w : Setup) (past : List Change) (number : ℕ) (f : Frame) (node : MirrorNode) (fault : Fault) (old new : World) → StandsFor w past old
+    → HasHeard node [] old new → GoesTo w past number f
+    → any_node.IsOff (mirror_nodes mirror_opening) (of_mirror (steps past)) fault node
+    ⊎ any_node.Refuses (mirror_nodes mirror_opening) (of_mirror (steps past)) f fault node
+    → (told_of_happening w past (Deliver number) ≡ Err fault) × StandsFor w (changes_after w past (Deliver number)) new
 refused w past number f node fault old new stands h g (inl o) =
-    refusing w past (Deliver number) fault new (stops w past (Deliver number) fault (frame_bar w past number f g ∙ is_off w past (h.has w past stands) o.off ∙ ap Some (sym o.why))) (mirror_kept w past node old new stands h o.unchanged)
+    refusing w past (Deliver number) fault new (stops w past (Deliver number) fault
+    (frame_bar w past number f g ∙ is_off w past (h.has w past stands) o.off ∙ ap Some (sym o.why))) (mirror_kept w past node old new stands h o.unchanged)
 refused w past number f node fault old new stands h g (inr r) =
     refusing w past (Deliver number) fault new
     (goes w past (Deliver number) (frame_bar w past number f g ∙ is_there w past (h.has w past stands) r.on)
     ∙ frame_brings w past number f g ∙ ap outcome_of_step (comes_same w past f ∙ met_err (of_mirror (steps past)) f fault r.why))
     (mirror_kept w past node old new stands h r.unchanged)
 
-by_sort : (w : Setup) (past : List Change) (number : ℕ) (f : Frame) (node : MirrorNode) (fault : Fault) (old new : World) → StandsFor w past old → HasHeard node [] old new → GoesTo w past number f
-    → (sort : FaultSort) → any_node.Faults (mirror_nodes mirror_opening) (of_mirror (steps past)) f sort fault node → ends.Faults w past (Deliver number) sort fault new
+by_sort : (w : Setup) (past : List Change) (number : ℕ) (f : Frame) (node : MirrorNode) (fault : Fault) (old new : World) → StandsFor w past old
+    → HasHeard node [] old new → GoesTo w past number f
+    → (sort : FaultSort) → any_node.Faults (mirror_nodes mirror_opening) (of_mirror (steps past)) f sort fault node
+    → ends.Faults w past (Deliver number) sort fault new
 by_sort w past number f node fault old new stands h g sorts.Memory r = (r.0, mirror_kept w past node old new stands h r.1)
 by_sort w past number f node fault old new stands h g sorts.Save r = r
 by_sort w past number f node fault old new stands h g sorts.Refusal r = refused w past number f node fault old new stands h g r
 
 -- It isn't.
-pub unheard_ends : (w : Setup) (past : List Change) (number : ℕ) (f : Frame) (node : MirrorNode) (fault : Fault) (old new : World) → StandsFor w past old → HasHeard node [] old new → GoesTo w past number f
+pub unheard_ends : (w : Setup) (past : List Change) (number : ℕ) (f : Frame) (node : MirrorNode) (fault : Fault) (old new : World) → StandsFor w past old
+    → HasHeard node [] old new → GoesTo w past number f
     → any_node.Ends (mirror_nodes mirror_opening) (of_mirror (steps past)) f node (Err fault) → Ends w past (Deliver number) new (Err fault)
 unheard_ends w past number f node fault old new stands h g r = by_sort w past number f node fault old new stands h g (sort_of fault) r
-
--- ---- a cut within a save
-
-no_answer : (free : Bool) (x : Option Addition) (landed : Bool) → (free && is_answer x (lost_by landed)) ≡ false
-no_answer true None true = refl
-no_answer true None false = refl
-no_answer true (Some a) true = refl
-no_answer true (Some a) false = refl
-no_answer false x landed = refl
-
-silent : (list : List Entry) (f : Frame) (landed : Bool) → flat_map frames_of (packets mirror_opening list (Met f (lost_by landed))) ≡ []
-silent list f landed =
-    ap (λ b. flat_map frames_of (if b then packets_for (words.words_noted mirror_opening list) (request_in f) else []))
-    (no_answer (is_none (refusal mirror_opening list f)) (due mirror_opening list f) landed)
-
-cut_brings : (w : Setup) (past : List Change) (landed : Bool) (number : ℕ) (f : Frame) → GoesTo w past number f
-    → brings w past (CutIn landed (Deliver number)) ≡ outcome_of_step (where_saved (due mirror_opening (of_mirror (steps past)) f) (OfMirror (Met f (lost_by landed))))
-cut_brings w past landed number f g =
-    ap (λ x. outcome_of_step (delivery_cut_in w past landed x)) g.is_sent ∙ ap (λ node. outcome_of_step (frame_cut w past landed node f)) g.goes_to
-    ∙ ap (λ list. outcome_of_step (where_saved (due mirror_opening list f) (OfMirror (Met f (lost_by landed))))) (heard_is w past)
-
--- It was cut.
-pub cut_ends : (w : Setup) (past : List Change) (landed : Bool) (number : ℕ) (f : Frame) (node : MirrorNode) (first : ℕ) (t : Told) (old new : World) → StandsFor w past old → HasHeard node [] old new → GoesTo w past number f
-    → any_node.CutsIn (mirror_nodes mirror_opening) (of_mirror (steps past)) landed f node (Ok tt) → first ≡ length (sent_in old.sent) → t ≡ plainly_told first → Ends w past (CutIn landed (Deliver number)) new (Ok t)
-cut_ends w past landed number f node first t old new stands h g cut is tells =
-    plain_ends w past (CutIn landed (Deliver number)) (Met f (lost_by landed)) node first t old new stands h cut.2
-    (record {
-      comes =
-          goes w past (CutIn landed (Deliver number)) (frame_bar w past number f g ∙ is_there w past (h.has w past stands) cut.0)
-          ∙ cut_brings w past landed number f g ∙ ap outcome_of_step (some_save (due mirror_opening (of_mirror (steps past)) f) (OfMirror (Met f (lost_by landed))) cut.1);
-      answered = refl;
-      silent = silent (of_mirror (steps past)) f landed;
-      asks = refl;
-    }) is tells
-
--- It wasn't.
-pub uncut_ends : (w : Setup) (past : List Change) (landed : Bool) (number : ℕ) (f : Frame) (node : MirrorNode) (fault : Fault) (old new : World) → StandsFor w past old → HasHeard node [] old new → GoesTo w past number f
-    → any_node.CutsIn (mirror_nodes mirror_opening) (of_mirror (steps past)) landed f node (Err fault) → Ends w past (CutIn landed (Deliver number)) new (Err fault)
-uncut_ends w past landed number f node NodeOff old new stands h g cut =
-    refuses w past (CutIn landed (Deliver number)) NodeOff new refl (stops w past (CutIn landed (Deliver number)) NodeOff (frame_bar w past number f g ∙ is_off w past (h.has w past stands) cut.0)) (mirror_kept w past node old new stands h cut.1)
-uncut_ends w past landed number f node NoSave old new stands h g cut =
-    refuses w past (CutIn landed (Deliver number)) NoSave new refl
-    (goes w past (CutIn landed (Deliver number)) (frame_bar w past number f g ∙ is_there w past (h.has w past stands) cut.0)
-    ∙ cut_brings w past landed number f g ∙ ap outcome_of_step (no_save (due mirror_opening (of_mirror (steps past)) f) (OfMirror (Met f (lost_by landed))) cut.1))
-    (mirror_kept w past node old new stands h cut.2)
-uncut_ends w past landed number f node NoMemory old new stands h g cut = (refl, mirror_kept w past node old new stands h cut.1)
-uncut_ends w past landed number f node _ old new stands h g cut = absurd cut

@@ -15,7 +15,8 @@ use Rattle.disk_model.proofs.ListLemmas.{each_of}
 pub sent_by_mirror : PacketsGoToTheClient → (o : Noted) (past : List Entry) (e : Entry) (p : PacketParts) → Contains (packets o past e) p → GoesToClient p
 sent_by_mirror goes o past e p h = each_of GoesToClient (packets o past e) p (goes o past e) h
 
-pub mirror_copies : PacketsGoToTheClient → CopiesAreNoted → (o : Noted) (past : List Entry) (e : Entry) (p : PacketParts) (state : State) → Contains (packets o past e) p → p.body ≡ bodies.Copy state → Contains (words_noted o past).kept state
+pub mirror_copies : PacketsGoToTheClient → CopiesAreNoted → (o : Noted) (past : List Entry) (e : Entry) (p : PacketParts) (state : State)
+    → Contains (packets o past e) p → p.body ≡ bodies.Copy state → Contains (words_noted o past).kept state
 mirror_copies goes copies o past e p state h is =
     let k = sent_by_mirror goes o past e p h in
     copies o past e state (subst (Contains (packets o past e)) (same_packet p (copy_of state) k.0 k.1 is) h)

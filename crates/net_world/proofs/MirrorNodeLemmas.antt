@@ -47,7 +47,8 @@ saved_old : (x : Option Addition) (n : Noted) → n ≡ noted_after false x n
 saved_old None n = refl
 saved_old (Some a) n = refl
 
-landed_new : (o : Noted) (past : List Entry) (f : Frame) (new : MirrorNode) → is_some (due o past f) ≡ true → Stands o (Cut ∷ answered_entry o past f ∷ past) new → Stands o (Met f LostNew ∷ past) new
+landed_new : (o : Noted) (past : List Entry) (f : Frame) (new : MirrorNode) → is_some (due o past f) ≡ true
+    → Stands o (Cut ∷ answered_entry o past f ∷ past) new → Stands o (Met f LostNew ∷ past) new
 landed_new o past f (On m) d s = let clash = s.1 in absurd cc
 landed_new o past f (Off notes) d s = (subst (Says (note_of notes).bytes) (saved_new (due o past f) (words_noted o past) d) s.0, and_false (is_on past))
 

@@ -32,9 +32,11 @@ pub client_gone : (w : Setup) (past : List Change) → is_up (client_opening w) 
 client_gone w past h = down_off (is_on w (trace w past) Client) (sym (up_is w past) ∙ h)
 
 -- There is no such frame, or memory has run out.
-pub lost_cut : (w : Setup) (past : List Change) (landed : Bool) (now : World) (number : ℕ) (fault : Fault) → StandsFor w past now → FindsFrame w past number (Err fault) → Ends w past (CutIn landed (Deliver number)) now (Err fault)
+pub lost_cut : (w : Setup) (past : List Change) (landed : Bool) (now : World) (number : ℕ) (fault : Fault) → StandsFor w past now
+    → FindsFrame w past number (Err fault) → Ends w past (CutIn landed (Deliver number)) now (Err fault)
 lost_cut w past landed now number NoFrame stands h =
-    refuses w past (CutIn landed (Deliver number)) NoFrame now refl (stops w past (CutIn landed (Deliver number)) NoFrame (ap (unless_sent w (trace w past)) h)) stands
+    refuses w past (CutIn landed (Deliver number)) NoFrame now refl
+    (stops w past (CutIn landed (Deliver number)) NoFrame (ap (unless_sent w (trace w past)) h)) stands
 lost_cut w past landed now number NoMemory stands h = (refl, stands)
 lost_cut w past landed now number _ stands h = absurd h
 
@@ -45,10 +47,14 @@ on_up b h = rw h refl
 on_down : (b : Bool) → b ≡ false → unless (not b) NodeOn ≡ None
 on_down b h = rw h refl
 
-pub client_restart_on : (w : Setup) (past : List Change) (landed : Bool) (now : World) → StandsFor w past now → is_up (client_opening w) (entries w past) ≡ true → Ends w past (CutIn landed (Restart Client)) now (Err NodeOn)
+pub client_restart_on : (w : Setup) (past : List Change) (landed : Bool) (now : World) → StandsFor w past now → is_up (client_opening w) (entries w past) ≡ true
+    → Ends w past (CutIn landed (Restart Client)) now (Err NodeOn)
 client_restart_on w past landed now stands h =
-    refuses w past (CutIn landed (Restart Client)) NodeOn now refl (stops w past (CutIn landed (Restart Client)) NodeOn (on_up (is_on w (trace w past) Client) (sym (up_is w past) ∙ h))) stands
+    refuses w past (CutIn landed (Restart Client)) NodeOn now refl
+    (stops w past (CutIn landed (Restart Client)) NodeOn (on_up (is_on w (trace w past) Client) (sym (up_is w past) ∙ h))) stands
 
-pub client_restart_off : (w : Setup) (past : List Change) (landed : Bool) (now : World) → StandsFor w past now → is_up (client_opening w) (entries w past) ≡ false → Ends w past (CutIn landed (Restart Client)) now (Err NoSave)
+pub client_restart_off : (w : Setup) (past : List Change) (landed : Bool) (now : World) → StandsFor w past now
+    → is_up (client_opening w) (entries w past) ≡ false → Ends w past (CutIn landed (Restart Client)) now (Err NoSave)
 client_restart_off w past landed now stands h =
-    refuses w past (CutIn landed (Restart Client)) NoSave now refl (goes w past (CutIn landed (Restart Client)) (on_down (is_on w (trace w past) Client) (sym (up_is w past) ∙ h))) stands
+    refuses w past (CutIn landed (Restart Client)) NoSave now refl
+    (goes w past (CutIn landed (Restart Client)) (on_down (is_on w (trace w past) Client) (sym (up_is w past) ∙ h))) stands

@@ -34,7 +34,8 @@ pub record Laws {N S E X D O : Type 0} (n : Nodes N S E X D O) (run : S → N) :
   pub stays_up : (past : List X) (e : E) (left : Left) → n.is_up past ≡ true → is_lost left ≡ false → n.is_up (n.core.met e left ∷ past) ≡ true
   pub stays_on : (past : List X) (e : E) (core : S) → n.core.Stays past e core → n.is_up past ≡ true → n.Stays past e (run core)
 
-unanswered : {N S E X D O : Type 0} (n : Nodes N S E X D O) (run : S → N) → Laws n run → (past : List X) (e : E) (fault : Fault) (old new : S) → n.is_up past ≡ true → (sort : FaultSort)
+unanswered : {N S E X D O : Type 0} (n : Nodes N S E X D O) (run : S → N) → Laws n run → (past : List X) (e : E) (fault : Fault) (old new : S)
+    → n.is_up past ≡ true → (sort : FaultSort)
     → steps.Faults n.core past e sort fault old new → Faults n past e sort fault (run new)
 unanswered n run l past e fault old new up sorts.Memory h = (h.why, l.runs past new h.unchanged up)
 unanswered n run l past e fault old new up sorts.Save h = absurd (omega (arith, h.cause, l.fails_never new))
@@ -46,7 +47,8 @@ unanswered n run l past e fault old new up sorts.Refusal h =
       unchanged = l.stays_on past e new h.unchanged up;
     })
 
-pub ends : {N S E X D O : Type 0} (n : Nodes N S E X D O) (run : S → N) → Laws n run → (past : List X) (e : E) (old new : S) (result : Result O Fault) → n.is_up past ≡ true
+pub ends : {N S E X D O : Type 0} (n : Nodes N S E X D O) (run : S → N) → Laws n run → (past : List X) (e : E) (old new : S) (result : Result O Fault)
+    → n.is_up past ≡ true
     → steps.Ends n.core past e old new result → Ends n past e (run new) result
 ends n run l past e old new (Ok outs) up h = record {
   on = up;
@@ -68,23 +70,27 @@ pub record Saves {N S E X D O : Type 0} (n : Nodes N S E X D O) (cut : X) (past 
   pub old : (node : N) → n.Stands (cut ∷ past) node → n.Stands (n.core.met e LostOld ∷ past) node
 
 -- It was cut as it was, or behind the save.
-pub cut_old : {N S E X D O : Type 0} (n : Nodes N S E X D O) (cut : X) (past : List X) (e : E) (node : N) → Saves n cut past e → n.Stands (cut ∷ past) node → CutsIn n past false e node (Ok tt)
+pub cut_old : {N S E X D O : Type 0} (n : Nodes N S E X D O) (cut : X) (past : List X) (e : E) (node : N) → Saves n cut past e → n.Stands (cut ∷ past) node
+    → CutsIn n past false e node (Ok tt)
 cut_old n cut past e node s h = (s.up, s.due, s.old node h)
 
-pub cut_new : {N S E X D O : Type 0} (n : Nodes N S E X D O) (cut : X) (past : List X) (e : E) (node : N) → Saves n cut past e → n.Stands (cut ∷ answered n.core past e ∷ past) node → CutsIn n past true e node (Ok tt)
+pub cut_new : {N S E X D O : Type 0} (n : Nodes N S E X D O) (cut : X) (past : List X) (e : E) (node : N) → Saves n cut past e
+    → n.Stands (cut ∷ answered n.core past e ∷ past) node → CutsIn n past true e node (Ok tt)
 cut_new n cut past e node s h = (s.up, s.due, s.new node h)
 
 some_none : (x : Option Fault) (fault : Fault) → x ≡ Some fault → x ≡ None → ⊥
 some_none x fault h k = let e = sym h ∙ k in cc
 
 -- It wants for memory.
-cut_by_sort : {N S E X D O : Type 0} (n : Nodes N S E X D O) (cut : X) (past : List X) (landed : Bool) (e : E) (fault : Fault) (node : N) → Saves n cut past e → (sort : FaultSort) → Faults n past e sort fault node
+cut_by_sort : {N S E X D O : Type 0} (n : Nodes N S E X D O) (cut : X) (past : List X) (landed : Bool) (e : E) (fault : Fault) (node : N) → Saves n cut past e
+    → (sort : FaultSort) → Faults n past e sort fault node
     → CutsIn n past landed e node (Err fault)
 cut_by_sort n cut past landed e fault node s sorts.Memory h = subst (λ (x : Fault). CutsIn n past landed e node (Err x)) (sym h.0) (s.up, h.1)
 cut_by_sort n cut past landed e fault node s sorts.Save h = absurd h
 cut_by_sort n cut past landed e fault node s sorts.Refusal (inl off) = absurd (never (n.is_up past) s.up off.off)
 cut_by_sort n cut past landed e fault node s sorts.Refusal (inr r) = absurd (some_none (n.core.refusal past e) fault r.why s.free)
 
-pub cut_fails : {N S E X D O : Type 0} (n : Nodes N S E X D O) (cut : X) (past : List X) (landed : Bool) (e : E) (fault : Fault) (node : N) → Saves n cut past e → Faults n past e (sort_of fault) fault node
+pub cut_fails : {N S E X D O : Type 0} (n : Nodes N S E X D O) (cut : X) (past : List X) (landed : Bool) (e : E) (fault : Fault) (node : N) → Saves n cut past e
+    → Faults n past e (sort_of fault) fault node
     → CutsIn n past landed e node (Err fault)
 cut_fails n cut past landed e fault node s h = cut_by_sort n cut past landed e fault node s (sort_of fault) h

@@ -20,7 +20,8 @@ use Rattle.messages.specs.Pieces.{is_cut, frames_of, pieces_of, piece_at, places
 use Rattle.messages.specs.Assemblies as assemblies
 use Rattle.messages.specs.Assemblies.{Row, Look, look_at_piece, rows_after_piece}
 use Rattle.messages.specs.PieceLaws.{ArePackets, OneBodyOfEachTag, AreCut, WasSent, IsPieceOf, OnlySentComesTogether}
-use Rattle.messages.specs.Hearing.{Rules, Heard, Coming, Comes, Happens, Meaning, Says, Waits, Spoils, Strays, said_by, meaning, heard_by, entry_of, rows_by, rows_of, with_entry, heard}
+use Rattle.messages.specs.Hearing.{Rules, Heard, Coming, Comes, Happens, Meaning, Says, Waits, Spoils, Strays}
+use Rattle.messages.specs.Hearing.{said_by, meaning, heard_by, entry_of, rows_by, rows_of, with_entry, heard}
 use Rattle.disk_model.specs.declared.left.Left.{Left}
 use Rattle.disk_model.proofs.ListLemmas.{none_in, only_in, first_of, behind_one}
 use Rattle.server_core.specs.History as server
@@ -28,7 +29,8 @@ use Rattle.client_core.specs.History as client
 use Rattle.mirror_core.specs.History as mirror
 use Rattle.net_world.specs.Setup.{Setup}
 use Rattle.net_world.specs.Trace.{Step, AtServer, AtClient, AtMirror, IsTrace, WasSentTo, taken_by, first_entry, sent_packets}
-use Rattle.net_world.specs.Frames.{FrameStep, OfServer, OfClient, OfMirror, of_server, of_client, at_server, at_client, frames_sent, to_of, MayHappen, is_allowed, IsFrameTrace, step_heard, trace_heard}
+use Rattle.net_world.specs.Frames.{FrameStep, OfServer, OfClient, OfMirror, of_server, of_client, at_server, at_client}
+use Rattle.net_world.specs.Frames.{frames_sent, to_of, MayHappen, is_allowed, IsFrameTrace, step_heard, trace_heard}
 use Rattle.net_world.specs.InRange.{EntryFits, StepFits, FrameStepFits, Fits, FitsFrames, SentAreInRange}
 use Rattle.net_world.specs.FrameLaws.{FramesAreOfPackets, TagsNameOneBody, OnlySentIsHeard}
 use Rattle.net_world.proofs.ListLemmas.{of_map}
@@ -43,8 +45,10 @@ IsIn xs ys = (p : PacketParts) → Contains xs p → Contains ys p
 cut_more : (xs ys : List PacketParts) → IsIn xs ys → (tag : Tag) (fs : List Filled) → AreCut xs tag fs → AreCut ys tag fs
 cut_more xs ys in_it tag [] a = tt
 cut_more xs ys in_it tag (f ∷ fs) a =
-    let w = a.0 in
-    (record { packet = w.packet; was_sent = in_it w.packet w.was_sent; cut = w.cut; tag_is = w.tag_is; bytes_are = w.bytes_are }, cut_more xs ys in_it tag fs a.1)
+    let w = a.0 in (
+      record { packet = w.packet; was_sent = in_it w.packet w.was_sent; cut = w.cut; tag_is = w.tag_is; bytes_are = w.bytes_are },
+      cut_more xs ys in_it tag fs a.1,
+    )
 
 rows_more : (xs ys : List PacketParts) → IsIn xs ys → (rows : List Row) → WasSent xs rows → WasSent ys rows
 rows_more xs ys in_it [] w = tt
@@ -57,7 +61,8 @@ abbrev pub IsFrameOf : List PacketParts → Frame → Type 0
 IsFrameOf ps (Whole p) = Contains ps p
 IsFrameOf ps (Piece q) = (p : PacketParts) × Contains ps p × IsPieceOf p q
 
-of_cut : (p : PacketParts) (b : Bool) → is_cut p.body ≡ b → (f : Frame) → Contains (if b then map Piece (pieces_of p) else Whole p ∷ []) f → (ps : List PacketParts) → Contains ps p → IsFrameOf ps f
+of_cut : (p : PacketParts) (b : Bool) → is_cut p.body ≡ b → (f : Frame) → Contains (if b then map Piece (pieces_of p) else Whole p ∷ []) f
+    → (ps : List PacketParts) → Contains ps p → IsFrameOf ps f
 of_cut p true e f h ps i =
     let s = of_map Piece (pieces_of p) f h in
     subst (IsFrameOf ps) s.2 (p, i, (e, s.1))
@@ -71,8 +76,10 @@ of_frames (p ∷ ps) f h all in_it =
       | inr i ↦ of_frames ps f i all (λ q j. in_it q (behind_one p ps q j))
     ]
 
-pub frame_is : FramesAreOfPackets → (w : Setup) (past : List FrameStep) (f : Frame) → Contains (frames_sent w past) f → IsFrameOf (sent_packets w (trace_heard w past)) f
-frame_is frames w past f h = of_frames (sent_packets w (trace_heard w past)) f (subst (λ fs. Contains fs f) (frames w past) h) (sent_packets w (trace_heard w past)) (λ p i. i)
+pub frame_is : FramesAreOfPackets → (w : Setup) (past : List FrameStep) (f : Frame) → Contains (frames_sent w past) f
+    → IsFrameOf (sent_packets w (trace_heard w past)) f
+frame_is frames w past f h =
+    of_frames (sent_packets w (trace_heard w past)) f (subst (λ fs. Contains fs f) (frames w past) h) (sent_packets w (trace_heard w past)) (λ p i. i)
 
 piece_goes : (p : PacketParts) (q : PieceParts) → Contains (pieces_of p) q → p.to ≡ q.to
 piece_goes p q h = let s = of_map (piece_at p) (places (length_of p.body)) q h in let e : piece_at p s.0 ≡ q = s.2 in ap (λ (x : PieceParts). x.to) e
@@ -85,7 +92,8 @@ SaysSent ps node Waits = Unit {0}
 SaysSent ps node Spoils = Unit {0}
 SaysSent ps node Strays = Unit {0}
 
-look_sent : (ps : List PacketParts) (node : Node) (p : PacketParts) → Contains ps p → p.to ≡ node → (x : Look) → (x ≡ assemblies.Waits) ⊎ (x ≡ assemblies.Gives p) → SaysSent ps node (said_by x)
+look_sent : (ps : List PacketParts) (node : Node) (p : PacketParts) → Contains ps p → p.to ≡ node → (x : Look)
+    → (x ≡ assemblies.Waits) ⊎ (x ≡ assemblies.Gives p) → SaysSent ps node (said_by x)
 look_sent ps node p i to x (inl e) = subst (λ y. SaysSent ps node (said_by y)) (sym e) tt
 look_sent ps node p i to x (inr e) = subst (λ y. SaysSent ps node (said_by y)) (sym e) (i, to)
 
@@ -97,7 +105,8 @@ either : (ps : List PacketParts) (b : Bool) (xs ys : List Row) → WasSent ps xs
 either ps true xs ys v w = v
 either ps false xs ys v w = w
 
-rows_kept : {E L : Type 0} (r : Rules E L) (ps : List PacketParts) (h : Heard E) (q : PieceParts) → WasSent ps h.rows → WasSent ps (rows_after_piece h.rows q) → (m : Meaning) → WasSent ps (rows_by r h q m)
+rows_kept : {E L : Type 0} (r : Rules E L) (ps : List PacketParts) (h : Heard E) (q : PieceParts) → WasSent ps h.rows → WasSent ps (rows_after_piece h.rows q)
+    → (m : Meaning) → WasSent ps (rows_by r h q m)
 rows_kept r ps h q w v (Says p) = either ps (r.refuses h.entries p) h.rows (rows_after_piece h.rows q) w v
 rows_kept r ps h q w v Waits = v
 rows_kept r ps h q w v Spoils = v
@@ -108,7 +117,8 @@ pub record Keeps {E L : Type 0} (r : Rules E L) (ps : List PacketParts) (node : 
   pub rows : WasSent ps (rows_of r h (Comes f left))
   pub says : SaysSent ps node (meaning r h f)
 
-pub keeps : OnlySentComesTogether → {E L : Type 0} (r : Rules E L) (ps : List PacketParts) → ArePackets ps → OneBodyOfEachTag ps → (h : Heard E) → WasSent ps h.rows
+pub keeps : OnlySentComesTogether → {E L : Type 0} (r : Rules E L) (ps : List PacketParts) → ArePackets ps → OneBodyOfEachTag ps → (h : Heard E)
+    → WasSent ps h.rows
     → (node : Node) (f : Frame) → IsFrameOf ps f → to_of f ≡ node → (left : L) → Keeps r ps node h f left
 keeps law r ps are one h w node (Whole p) i to left = record { rows = w; says = (i, to) }
 keeps law r ps are one h w node (Piece q) i to left =
@@ -127,13 +137,15 @@ record Kept {E L : Type 0} (r : Rules E L) (w : Setup) (t : List Step) (h : Hear
   pub rows : WasSent (sent_packets w t) (rows_of r h c)
   pub trace : IsTrace w (with_entry (option_map step (entry_of r h c)) t)
 
-server_says : (w : Setup) (s : ℕ) (t : List Step) (left : Left) (m : Meaning) → IsTrace w t → SaysSent (sent_packets w t) (Server s) m → IsTrace w (with_entry (option_map (AtServer s) (heard_by (at_server s) left m)) t)
+server_says : (w : Setup) (s : ℕ) (t : List Step) (left : Left) (m : Meaning) → IsTrace w t → SaysSent (sent_packets w t) (Server s) m
+    → IsTrace w (with_entry (option_map (AtServer s) (heard_by (at_server s) left m)) t)
 server_says w s t left (Says p) h i = (h, (i, tt), refl)
 server_says w s t left Waits h i = h
 server_says w s t left Spoils h i = h
 server_says w s t left Strays h i = h
 
-client_says : (w : Setup) (t : List Step) (left : Left) (m : Meaning) → IsTrace w t → SaysSent (sent_packets w t) Client m → IsTrace w (with_entry (option_map AtClient (heard_by (at_client w) left m)) t)
+client_says : (w : Setup) (t : List Step) (left : Left) (m : Meaning) → IsTrace w t → SaysSent (sent_packets w t) Client m
+    → IsTrace w (with_entry (option_map AtClient (heard_by (at_client w) left m)) t)
 client_says w t left (Says p) h i = (h, (i, tt), either_way w.mirror)
 client_says w t left Waits h i = h
 client_says w t left Spoils h i = h
@@ -142,8 +154,10 @@ client_says w t left Strays h i = h
 takes_none : (ps : List PacketParts) (node : Node) (taken : List PacketParts) → taken ≡ [] → AllByRecursion (WasSentTo ps node) taken
 takes_none ps node taken e = subst (λ xs. AllByRecursion (WasSentTo ps node) xs) (sym e) tt
 
-server_step : OnlySentComesTogether → FramesAreOfPackets → (w : Setup) (s : ℕ) (past : List FrameStep) → IsTrace w (trace_heard w past) → ArePackets (sent_packets w (trace_heard w past)) → OneBodyOfEachTag (sent_packets w (trace_heard w past))
-    → (h : Heard server.Entry) → WasSent (sent_packets w (trace_heard w past)) h.rows → (c : Coming server.Entry Left) → MayHappen (frames_sent w past) (OfServer s c) → Kept (at_server s) w (trace_heard w past) h c (AtServer s)
+server_step : OnlySentComesTogether → FramesAreOfPackets → (w : Setup) (s : ℕ) (past : List FrameStep) → IsTrace w (trace_heard w past)
+    → ArePackets (sent_packets w (trace_heard w past)) → OneBodyOfEachTag (sent_packets w (trace_heard w past))
+    → (h : Heard server.Entry) → WasSent (sent_packets w (trace_heard w past)) h.rows → (c : Coming server.Entry Left)
+    → MayHappen (frames_sent w past) (OfServer s c) → Kept (at_server s) w (trace_heard w past) h c (AtServer s)
 server_step law frames w s past t are one h was (Comes f left) i =
     let k = keeps law (at_server s) (sent_packets w (trace_heard w past)) are one h was (Server s) f (frame_is frames w past f i.0) i.1 left in
     record { rows = k.rows; trace = server_says w s (trace_heard w past) left (meaning (at_server s) h f) t k.says }
@@ -152,8 +166,10 @@ server_step law frames w s past t are one h was (Happens e) i = record {
   trace = (t, takes_none (sent_packets w (trace_heard w past)) (Server s) (taken_by (AtServer s e)) i, refl);
 }
 
-client_step : OnlySentComesTogether → FramesAreOfPackets → (w : Setup) (past : List FrameStep) → IsTrace w (trace_heard w past) → ArePackets (sent_packets w (trace_heard w past)) → OneBodyOfEachTag (sent_packets w (trace_heard w past))
-    → (h : Heard client.Entry) → WasSent (sent_packets w (trace_heard w past)) h.rows → (c : Coming client.Entry Left) → MayHappen (frames_sent w past) (OfClient c) → is_allowed w past (OfClient c) ≡ true → Kept (at_client w) w (trace_heard w past) h c AtClient
+client_step : OnlySentComesTogether → FramesAreOfPackets → (w : Setup) (past : List FrameStep) → IsTrace w (trace_heard w past)
+    → ArePackets (sent_packets w (trace_heard w past)) → OneBodyOfEachTag (sent_packets w (trace_heard w past))
+    → (h : Heard client.Entry) → WasSent (sent_packets w (trace_heard w past)) h.rows → (c : Coming client.Entry Left)
+    → MayHappen (frames_sent w past) (OfClient c) → is_allowed w past (OfClient c) ≡ true → Kept (at_client w) w (trace_heard w past) h c AtClient
 client_step law frames w past t are one h was (Comes f left) i allowed =
     let k = keeps law (at_client w) (sent_packets w (trace_heard w past)) are one h was Client f (frame_is frames w past f i.0) i.1 left in
     record { rows = k.rows; trace = client_says w (trace_heard w past) left (meaning (at_client w) h f) t k.says }
@@ -162,7 +178,8 @@ client_step law frames w past t are one h was (Happens e) i allowed = record {
   trace = (t, takes_none (sent_packets w (trace_heard w past)) Client (taken_by (AtClient e)) i, allowed);
 }
 
-mirror_takes : FramesAreOfPackets → (w : Setup) (past : List FrameStep) (e : mirror.Entry) → MayHappen (frames_sent w past) (OfMirror e) → AllByRecursion (WasSentTo (sent_packets w (trace_heard w past)) Mirror) (taken_by (AtMirror e))
+mirror_takes : FramesAreOfPackets → (w : Setup) (past : List FrameStep) (e : mirror.Entry) → MayHappen (frames_sent w past) (OfMirror e)
+    → AllByRecursion (WasSentTo (sent_packets w (trace_heard w past)) Mirror) (taken_by (AtMirror e))
 mirror_takes frames w past (mirror.Met (Whole p) left) i = ((frame_is frames w past (Whole p) i.0, i.1), tt)
 mirror_takes frames w past (mirror.Met (Piece q) left) i = tt
 mirror_takes frames w past mirror.Cut i = tt
@@ -174,7 +191,8 @@ SomeFits : Option server.Entry → Type 0
 SomeFits None = Unit {0}
 SomeFits (Some e) = EntryFits e
 
-server_added : (s : ℕ) (x : Option server.Entry) (t : List Step) → s < MAX_SERVERS → SomeFits x → AllByRecursion StepFits t → AllByRecursion StepFits (with_entry (option_map (AtServer s) x) t)
+server_added : (s : ℕ) (x : Option server.Entry) (t : List Step) → s < MAX_SERVERS → SomeFits x → AllByRecursion StepFits t
+    → AllByRecursion StepFits (with_entry (option_map (AtServer s) x) t)
 unfolding SomeFits
 server_added s None t l k h = h
 server_added s (Some e) t l k h = ((l, k), h)
@@ -190,9 +208,11 @@ meaning_fits s left Waits = tt
 meaning_fits s left Spoils = tt
 meaning_fits s left Strays = tt
 
-server_adds : (s : ℕ) (h : Heard server.Entry) (c : Coming server.Entry Left) (t : List Step) → FrameStepFits (OfServer s c) → AllByRecursion StepFits t → AllByRecursion StepFits (with_entry (option_map (AtServer s) (entry_of (at_server s) h c)) t)
+server_adds : (s : ℕ) (h : Heard server.Entry) (c : Coming server.Entry Left) (t : List Step) → FrameStepFits (OfServer s c) → AllByRecursion StepFits t
+    → AllByRecursion StepFits (with_entry (option_map (AtServer s) (entry_of (at_server s) h c)) t)
 unfolding SomeFits
-server_adds s h (Comes f left) t k a = server_added s (heard_by (at_server s) left (meaning (at_server s) h f)) t k (meaning_fits s left (meaning (at_server s) h f)) a
+server_adds s h (Comes f left) t k a =
+    server_added s (heard_by (at_server s) left (meaning (at_server s) h f)) t k (meaning_fits s left (meaning (at_server s) h f)) a
 server_adds s h (Happens e) t k a = (k, a)
 
 steps_fit : (w : Setup) (t : List FrameStep) → AllByRecursion FrameStepFits t → AllByRecursion StepFits (trace_heard w t)
@@ -226,7 +246,8 @@ first_rows : (w : Setup) (b : Bool) → WasSent (sent_packets w []) (heard (at_c
 first_rows w true = tt
 first_rows w false = tt
 
-pub stands : OnlySentComesTogether → FramesAreOfPackets → TagsNameOneBody → SentAreInRange → (w : Setup) (t : List FrameStep) → IsFrameTrace w t → FitsFrames w t → Stands w t
+pub stands : OnlySentComesTogether → FramesAreOfPackets → TagsNameOneBody → SentAreInRange → (w : Setup) (t : List FrameStep) → IsFrameTrace w t
+    → FitsFrames w t → Stands w t
 stands law frames tags ranges w [] h fits = record { trace = tt; servers = λ s. tt; client_rows = first_rows w w.mirror }
 stands law frames tags ranges w (OfServer r c ∷ past) h fits =
     let t = trace_heard w past in
@@ -237,9 +258,11 @@ stands law frames tags ranges w (OfServer r c ∷ past) h fits =
     let k = server_step law frames w r past s.trace are (tags w t s.trace are) (heard (at_server r) (of_server r past)) (s.servers r) c h.1 in
     record {
       trace = k.trace;
-      servers = λ i. rows_more (sent_packets w t) (sent_packets w (with_entry x t)) (more_sent w x t) (heard (at_server i) (of_server i (OfServer r c ∷ past))).rows
+      servers = λ i. rows_more (sent_packets w t) (sent_packets w (with_entry x t)) (more_sent w x t)
+          (heard (at_server i) (of_server i (OfServer r c ∷ past))).rows
           (server_rows (sent_packets w t) i r (r == i) (eqb-true r i) c past k.rows (s.servers i));
-      client_rows = rows_more (sent_packets w t) (sent_packets w (with_entry x t)) (more_sent w x t) (heard (at_client w) (of_client w past)).rows s.client_rows;
+      client_rows =
+          rows_more (sent_packets w t) (sent_packets w (with_entry x t)) (more_sent w x t) (heard (at_client w) (of_client w past)).rows s.client_rows;
     }
 stands law frames tags ranges w (OfClient c ∷ past) h fits =
     let t = trace_heard w past in
@@ -250,8 +273,10 @@ stands law frames tags ranges w (OfClient c ∷ past) h fits =
     let k = client_step law frames w past s.trace are (tags w t s.trace are) (heard (at_client w) (of_client w past)) s.client_rows c h.1 h.2 in
     record {
       trace = k.trace;
-      servers = λ i. rows_more (sent_packets w t) (sent_packets w (with_entry x t)) (more_sent w x t) (heard (at_server i) (of_server i past)).rows (s.servers i);
-      client_rows = rows_more (sent_packets w t) (sent_packets w (with_entry x t)) (more_sent w x t) (heard (at_client w) (of_client w (OfClient c ∷ past))).rows k.rows;
+      servers = λ i. rows_more (sent_packets w t) (sent_packets w (with_entry x t)) (more_sent w x t) (heard (at_server i) (of_server i past)).rows
+          (s.servers i);
+      client_rows =
+          rows_more (sent_packets w t) (sent_packets w (with_entry x t)) (more_sent w x t) (heard (at_client w) (of_client w (OfClient c ∷ past))).rows k.rows;
     }
 stands law frames tags ranges w (OfMirror e ∷ past) h fits =
     let t = trace_heard w past in
@@ -260,8 +285,10 @@ stands law frames tags ranges w (OfMirror e ∷ past) h fits =
     let s = stands law frames tags ranges w past h.0 f in
     record {
       trace = (s.trace, mirror_takes frames w past e h.1, h.2);
-      servers = λ i. rows_more (sent_packets w t) (sent_packets w (with_entry x t)) (more_sent w x t) (heard (at_server i) (of_server i past)).rows (s.servers i);
-      client_rows = rows_more (sent_packets w t) (sent_packets w (with_entry x t)) (more_sent w x t) (heard (at_client w) (of_client w past)).rows s.client_rows;
+      servers = λ i. rows_more (sent_packets w t) (sent_packets w (with_entry x t)) (more_sent w x t) (heard (at_server i) (of_server i past)).rows
+          (s.servers i);
+      client_rows =
+          rows_more (sent_packets w t) (sent_packets w (with_entry x t)) (more_sent w x t) (heard (at_client w) (of_client w past)).rows s.client_rows;
     }
 
 pub only_sent_is_heard : OnlySentComesTogether → FramesAreOfPackets → TagsNameOneBody → SentAreInRange → OnlySentIsHeard

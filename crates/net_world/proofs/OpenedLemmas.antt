@@ -1,5 +1,6 @@
 -- A world opens.
-use Rattle.std.proofs.Common.{Bool, true, false, ◌≡◌, refl, sym, ◌∙◌, ap, subst, inl, inr, ◌⊎◌, ℕ, zero, suc, ◌+◌, ◌*◌, ◌≤◌, arith, List, [], ◌∷◌, ◌++◌, length, Option, Some, None}
+use Rattle.std.proofs.Common.{Bool, true, false, ◌≡◌, refl, sym, ◌∙◌, ap, subst, inl, inr, ◌⊎◌, ℕ, zero}
+use Rattle.std.proofs.Common.{suc, ◌+◌, ◌*◌, ◌≤◌, arith, List, [], ◌∷◌, ◌++◌, length, Option, Some, None}
 use Rattle.std.specs.Prelude.{slice_get, nat_le, nat_lt, map, ◌&&◌}
 use Rattle.std.proofs.lemmas.Bool.{and_parts}
 use Rattle.std.proofs.lemmas.Bool.Decides.{nat_tests}
@@ -67,7 +68,8 @@ above_none g h = let p = and_parts (nat_le 1 g) _ h in grind (arith, p.0, nat_te
 greatest_opens : (config : Config) (m : Mirrored) → HasOpened config m → IsGreatest m.greatest (handed_in (client_entries (setup_of config) []))
 greatest_opens config m h = by_word config.mirror m.node m.greatest h
   where
-    by_word : (b : Bool) (node : Option MirrorNode) (g : ℕ) → OpensMirror b node g → IsGreatest g (handed_in (map client_frame_entry (Happens (first_entry b) ∷ [])))
+    by_word : (b : Bool) (node : Option MirrorNode) (g : ℕ) → OpensMirror b node g
+        → IsGreatest g (handed_in (map client_frame_entry (Happens (first_entry b) ∷ [])))
     by_word false None g h = subst (λ x. IsGreatest x []) (sym h) above_none
     by_word true (Some node) g h = subst (λ x. IsGreatest x (1 ∷ [])) (sym h.1) (λ k fits. above_one (nat_lt 1 k))
       where
@@ -78,7 +80,8 @@ greatest_opens config m h = by_word config.mirror m.node m.greatest h
     by_word true None g h = absurd h
 
 pub opened : (config : Config) (now : World) → 1 ≤ config.servers → config.servers ≤ MAX_SERVERS → AreOpened config.servers now.servers.items
-    → clients.Stands (client_opening (setup_of config)) (client_entries (setup_of config) []) now.client → HasOpened config now.mirror → AreBlank (MAX_JOBS * config.servers) now.files.items → sent_in now.sent ≡ [] → StandsFor (setup_of config) [] now
+    → clients.Stands (client_opening (setup_of config)) (client_entries (setup_of config) []) now.client → HasOpened config now.mirror
+    → AreBlank (MAX_JOBS * config.servers) now.files.items → sent_in now.sent ≡ [] → StandsFor (setup_of config) [] now
 opened config now some few nodes client_is mirrored files sent = record {
   some = some;
   few = few;

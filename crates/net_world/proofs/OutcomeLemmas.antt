@@ -52,9 +52,11 @@ met_here t s e h = passes (answers.refusal (opening_of s) (of_server s t) e) _ h
 pub met_ok : (t : List Step) (s : ℕ) (e : Event) (list : List server.Entry) → list ≡ of_server s t → answers.refusal (opening_of s) list e ≡ None
     → met_by_server t s e ≡ Ok (OfServer s (Happens (server.Met e (saved_for (words.due (opening_of s) list e)))))
 met_ok t s e list is =
-    subst (λ l. answers.refusal (opening_of s) l e ≡ None → met_by_server t s e ≡ Ok (OfServer s (Happens (server.Met e (saved_for (words.due (opening_of s) l e)))))) (sym is) (met_here t s e)
+    subst (λ l. answers.refusal (opening_of s) l e ≡ None
+    → met_by_server t s e ≡ Ok (OfServer s (Happens (server.Met e (saved_for (words.due (opening_of s) l e)))))) (sym is) (met_here t s e)
 
-pub met_err : (t : List Step) (s : ℕ) (e : Event) (list : List server.Entry) (fault : Fault) → list ≡ of_server s t → answers.refusal (opening_of s) list e ≡ Some fault → met_by_server t s e ≡ Err fault
+pub met_err : (t : List Step) (s : ℕ) (e : Event) (list : List server.Entry) (fault : Fault) → list ≡ of_server s t
+    → answers.refusal (opening_of s) list e ≡ Some fault → met_by_server t s e ≡ Err fault
 met_err t s e list fault is h = fails (answers.refusal (opening_of s) (of_server s t) e) _ fault (ap (λ l. answers.refusal (opening_of s) l e) (sym is) ∙ h)
 
 -- ---- a frame
@@ -66,17 +68,23 @@ says_here : (t : List Step) (s : ℕ) (f : Frame) (p : PacketParts) → answers.
     → comes_to_server t s f (Says p) ≡ come s f (saved_for (words.due (opening_of s) (of_server s t) (events.Deliver p)))
 unfolding come
 says_here t s f p h =
-    ap outcome_of_step (passes (answers.refusal (opening_of s) (of_server s t) (events.Deliver p)) (Ok (OfServer s (Comes f (saved_for (words.due (opening_of s) (of_server s t) (events.Deliver p)))))) h)
+    ap outcome_of_step (passes (answers.refusal (opening_of s) (of_server s t) (events.Deliver p))
+    (Ok (OfServer s (Comes f (saved_for (words.due (opening_of s) (of_server s t) (events.Deliver p)))))) h)
 
-says_ok : (t : List Step) (s : ℕ) (f : Frame) (p : PacketParts) (list : List server.Entry) → list ≡ of_server s t → answers.refusal (opening_of s) list (events.Deliver p) ≡ None
+says_ok : (t : List Step) (s : ℕ) (f : Frame) (p : PacketParts) (list : List server.Entry) → list ≡ of_server s t
+    → answers.refusal (opening_of s) list (events.Deliver p) ≡ None
     → comes_to_server t s f (Says p) ≡ come s f (saved_for (words.due (opening_of s) list (events.Deliver p)))
 says_ok t s f p list is =
-    subst (λ l. answers.refusal (opening_of s) l (events.Deliver p) ≡ None → comes_to_server t s f (Says p) ≡ come s f (saved_for (words.due (opening_of s) l (events.Deliver p)))) (sym is) (says_here t s f p)
+    subst (λ l. answers.refusal (opening_of s) l (events.Deliver p) ≡ None
+    → comes_to_server t s f (Says p) ≡ come s f (saved_for (words.due (opening_of s) l (events.Deliver p)))) (sym is) (says_here t s f p)
 
-says_err : (t : List Step) (s : ℕ) (f : Frame) (p : PacketParts) (list : List server.Entry) (fault : Fault) → list ≡ of_server s t → answers.refusal (opening_of s) list (events.Deliver p) ≡ Some fault
+says_err : (t : List Step) (s : ℕ) (f : Frame) (p : PacketParts) (list : List server.Entry) (fault : Fault) → list ≡ of_server s t
+    → answers.refusal (opening_of s) list (events.Deliver p) ≡ Some fault
     → comes_to_server t s f (Says p) ≡ Refuses fault
 says_err t s f p list fault is h =
-    ap outcome_of_step (fails (answers.refusal (opening_of s) (of_server s t) (events.Deliver p)) (Ok (OfServer s (Comes f (saved_for (words.due (opening_of s) (of_server s t) (events.Deliver p)))))) fault (ap (λ l. answers.refusal (opening_of s) l (events.Deliver p)) (sym is) ∙ h))
+    ap outcome_of_step (fails (answers.refusal (opening_of s) (of_server s t) (events.Deliver p))
+    (Ok (OfServer s (Comes f (saved_for (words.due (opening_of s) (of_server s t) (events.Deliver p)))))) fault
+    (ap (λ l. answers.refusal (opening_of s) l (events.Deliver p)) (sym is) ∙ h))
 
 pub misses : (on : Bool) → (if on then Some Misdirected else Some Down) ≡ None → ⊥
 misses true h = cc
@@ -86,7 +94,8 @@ pub misdirected : (on : Bool) (fault : Fault) → on ≡ true → (if on then So
 misdirected true fault h k = cc
 misdirected false fault h k = cc
 
-piece_ok : (t : List Step) (s : ℕ) (q : PieceParts) (list : List server.Entry) → list ≡ of_server s t → (m : Meaning) → refusal_of_sense (opening_of s) list (sense_of q m) ≡ None
+piece_ok : (t : List Step) (s : ℕ) (q : PieceParts) (list : List server.Entry) → list ≡ of_server s t → (m : Meaning)
+    → refusal_of_sense (opening_of s) list (sense_of q m) ≡ None
     → comes_to_server t s (Piece q) m ≡ come s (Piece q) (saved_for (due_of_sense (opening_of s) list (sense_of q m)))
 unfolding come
 piece_ok t s q list is (Says p) h = says_ok t s (Piece q) p list is h
@@ -96,12 +105,14 @@ piece_ok t s q list is Strays h = absurd (misses (words.is_on list) h)
 
 -- What comes of a frame that is refused: a tag may be dropped.
 unfoldable pub DroppedOr : ℕ → Frame → Fault → Bool → Outcome → Type 0
-DroppedOr s f fault drops out = ((drops ≡ false) × (out ≡ Refuses fault)) ⊎ ((drops ≡ true) × (fault ≡ FrameBadField) × (out ≡ Drops (OfServer s (Comes f NoSave))))
+DroppedOr s f fault drops out =
+    ((drops ≡ false) × (out ≡ Refuses fault)) ⊎ ((drops ≡ true) × (fault ≡ FrameBadField) × (out ≡ Drops (OfServer s (Comes f NoSave))))
 
 pub bad_field : (fault : Fault) → Some FrameBadField ≡ Some fault → fault ≡ FrameBadField
 bad_field fault h = cc
 
-piece_err : (t : List Step) (s : ℕ) (q : PieceParts) (list : List server.Entry) (fault : Fault) → list ≡ of_server s t → words.is_on list ≡ true → (m : Meaning) → refusal_of_sense (opening_of s) list (sense_of q m) ≡ Some fault
+piece_err : (t : List Step) (s : ℕ) (q : PieceParts) (list : List server.Entry) (fault : Fault) → list ≡ of_server s t → words.is_on list ≡ true → (m : Meaning)
+    → refusal_of_sense (opening_of s) list (sense_of q m) ≡ Some fault
     → DroppedOr s (Piece q) fault (is_drop (sense_of q m)) (comes_to_server t s (Piece q) m)
 unfolding DroppedOr
 piece_err t s q list fault is on (Says p) h = inl (refl, says_err t s (Piece q) p list fault is h)
@@ -110,7 +121,8 @@ piece_err t s q list fault is on Spoils h = inr (refl, bad_field fault h, refl)
 piece_err t s q list fault is on Strays h = inl (refl, ap Refuses (misdirected (words.is_on list) fault on h))
 
 -- What a frame says is the same by the server's own list.
-pub said_is : (w : Setup) (s : ℕ) (past : List Change) (f : Frame) → meaning (rules (opening_of s)) (heard_at (opening_of s) (entries past s)) f ≡ said_to_server (steps past) s f
+pub said_is : (w : Setup) (s : ℕ) (past : List Change) (f : Frame)
+    → meaning (rules (opening_of s)) (heard_at (opening_of s) (entries past s)) f ≡ said_to_server (steps past) s f
 said_is w s past f = ap (λ (h : Heard server.Entry). meaning (at_server s) h f) (servers_stand w s (steps past)).hears
 
 pub frame_ok : (w : Setup) (past : List Change) (s : ℕ) (f : Frame) → framed.refusal (opening_of s) (entries past s) (inputs.Deliver f) ≡ None
@@ -119,12 +131,15 @@ unfolding come
 frame_ok w past s (Whole p) h = says_ok (trace w past) s (Whole p) p (packets_heard (opening_of s) (entries past s)) (heard_is w past s) h
 frame_ok w past s (Piece q) h =
     ap (comes_to_server (trace w past) s (Piece q)) (sym (said_is w s past (Piece q)))
-    ∙ piece_ok (trace w past) s q (packets_heard (opening_of s) (entries past s)) (heard_is w past s) (meaning (rules (opening_of s)) (heard_at (opening_of s) (entries past s)) (Piece q)) h
+    ∙ piece_ok (trace w past) s q (packets_heard (opening_of s) (entries past s)) (heard_is w past s)
+    (meaning (rules (opening_of s)) (heard_at (opening_of s) (entries past s)) (Piece q)) h
 
 pub frame_err : (w : Setup) (past : List Change) (s : ℕ) (f : Frame) (fault : Fault) → words.is_on (packets_heard (opening_of s) (entries past s)) ≡ true
     → framed.refusal (opening_of s) (entries past s) (inputs.Deliver f) ≡ Some fault
-    → DroppedOr s f fault (is_drop (sense (opening_of s) (entries past s) (inputs.Deliver f))) (comes_to_server (trace w past) s f (said_to_server (steps past) s f))
-frame_err w past s (Whole p) fault on h = unfold DroppedOr in inl (refl, says_err (trace w past) s (Whole p) p (packets_heard (opening_of s) (entries past s)) fault (heard_is w past s) h)
+    → DroppedOr s f fault (is_drop (sense (opening_of s) (entries past s) (inputs.Deliver f)))
+    (comes_to_server (trace w past) s f (said_to_server (steps past) s f))
+frame_err w past s (Whole p) fault on h =
+    unfold DroppedOr in inl (refl, says_err (trace w past) s (Whole p) p (packets_heard (opening_of s) (entries past s)) fault (heard_is w past s) h)
 frame_err w past s (Piece q) fault on h =
     let m = meaning (rules (opening_of s)) (heard_at (opening_of s) (entries past s)) (Piece q) in
     subst (λ x. DroppedOr s (Piece q) fault (is_drop (sense_of q m)) (comes_to_server (trace w past) s (Piece q) x)) (said_is w s past (Piece q))
@@ -132,25 +147,32 @@ frame_err w past s (Piece q) fault on h =
 
 -- ---- what the server asks of its caller
 
-act_here : (t : List Step) (s : ℕ) (e : Event) (x : Option Staged) (list : List server.Entry) → list ≡ of_server s t → act_of t (Some (AtServer s (server.Met e (saved_for x)))) ≡ answers.act (opening_of s) list e
+act_here : (t : List Step) (s : ℕ) (e : Event) (x : Option Staged) (list : List server.Entry) → list ≡ of_server s t
+    → act_of t (Some (AtServer s (server.Met e (saved_for x)))) ≡ answers.act (opening_of s) list e
 act_here t s e x list is =
     ap (λ lost. if lost then acts.None else answers.act (opening_of s) (of_server s t) e) (not_lost x) ∙ ap (λ l. answers.act (opening_of s) l e) (sym is)
 
 act_said : (t : List Step) (s : ℕ) (q : PieceParts) (list : List server.Entry) → list ≡ of_server s t → (m : Meaning)
-    → act_of t (option_map (AtServer s) (heard_by (rules (opening_of s)) (saved_for (due_of_sense (opening_of s) list (sense_of q m))) m)) ≡ act_of_sense (opening_of s) list (sense_of q m)
+    → act_of t (option_map (AtServer s) (heard_by (rules (opening_of s)) (saved_for (due_of_sense (opening_of s) list (sense_of q m))) m))
+    ≡ act_of_sense (opening_of s) list (sense_of q m)
 act_said t s q list is (Says p) = act_here t s (events.Deliver p) (words.due (opening_of s) list (events.Deliver p)) list is
 act_said t s q list is Waits = refl
 act_said t s q list is Spoils = refl
 act_said t s q list is Strays = refl
 
 pub act_is : (w : Setup) (past : List Change) (s : ℕ) (e : Input) → act w past (Changed (step_by past s e)) ≡ framed.act (opening_of s) (entries past s) e
-act_is w past s (inputs.Deliver (Whole p)) = act_here (trace w past) s (events.Deliver p) (framed.due (opening_of s) (entries past s) (inputs.Deliver (Whole p))) (packets_heard (opening_of s) (entries past s)) (heard_is w past s)
+act_is w past s (inputs.Deliver (Whole p)) = act_here (trace w past) s (events.Deliver p)
+    (framed.due (opening_of s) (entries past s) (inputs.Deliver (Whole p))) (packets_heard (opening_of s) (entries past s)) (heard_is w past s)
 act_is w past s (inputs.Deliver (Piece q)) =
     let o = opening_of s in
     let list = packets_heard o (entries past s) in
     let m = meaning (rules o) (heard_at o (entries past s)) (Piece q) in
-    ap (λ x. act_of (trace w past) (option_map (AtServer s) (heard_by (rules o) (saved_for (due_of_sense o list (sense_of q m))) x))) (sym (said_is w s past (Piece q)))
+    ap (λ x. act_of (trace w past) (option_map (AtServer s) (heard_by (rules o) (saved_for (due_of_sense o list (sense_of q m))) x)))
+    (sym (said_is w s past (Piece q)))
     ∙ act_said (trace w past) s q list (heard_is w past s) m
-act_is w past s (inputs.Issue j) = act_here (trace w past) s (events.Issue j) (framed.due (opening_of s) (entries past s) (inputs.Issue j)) (packets_heard (opening_of s) (entries past s)) (heard_is w past s)
-act_is w past s (inputs.WriteDone ticket end) = act_here (trace w past) s (events.WriteDone ticket end) (framed.due (opening_of s) (entries past s) (inputs.WriteDone ticket end)) (packets_heard (opening_of s) (entries past s)) (heard_is w past s)
-act_is w past s (inputs.CheckDone boot a j report) = act_here (trace w past) s (events.CheckDone boot a j report) (framed.due (opening_of s) (entries past s) (inputs.CheckDone boot a j report)) (packets_heard (opening_of s) (entries past s)) (heard_is w past s)
+act_is w past s (inputs.Issue j) = act_here (trace w past) s (events.Issue j) (framed.due (opening_of s) (entries past s) (inputs.Issue j))
+    (packets_heard (opening_of s) (entries past s)) (heard_is w past s)
+act_is w past s (inputs.WriteDone ticket end) = act_here (trace w past) s (events.WriteDone ticket end)
+    (framed.due (opening_of s) (entries past s) (inputs.WriteDone ticket end)) (packets_heard (opening_of s) (entries past s)) (heard_is w past s)
+act_is w past s (inputs.CheckDone boot a j report) = act_here (trace w past) s (events.CheckDone boot a j report)
+    (framed.due (opening_of s) (entries past s) (inputs.CheckDone boot a j report)) (packets_heard (opening_of s) (entries past s)) (heard_is w past s)

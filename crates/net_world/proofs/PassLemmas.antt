@@ -30,47 +30,60 @@ use Rattle.mirror_core.specs.History as mirror
 use Rattle.mirror_core.specs.Packets as mirrors
 use Rattle.mirror_core.specs.Laws as mirror_laws
 use Rattle.net_world.specs.Setup.{Setup}
-use Rattle.net_world.specs.Trace.{Step, AtServer, AtClient, AtMirror, IsTrace, opening_of, client_opening, mirror_opening, of_server, of_client, of_mirror, packets_of, sent_packets}
+use Rattle.net_world.specs.Trace.{Step, AtServer, AtClient, AtMirror, IsTrace, opening_of, client_opening}
+use Rattle.net_world.specs.Trace.{mirror_opening, of_server, of_client, of_mirror, packets_of, sent_packets}
 use Rattle.net_world.specs.Holders.{taken_of, carried_state}
-use Rattle.net_world.specs.Passes.{SentStatesWereTaken, WasSent, CarriedStatesWereSent, KeptStatesWereSent, CopiedStatesWereSent, SavedStatesWereKept, WasKept, CheckedStatesWereSent}
+use Rattle.net_world.specs.Passes.{SentStatesWereTaken, WasSent, CarriedStatesWereSent, KeptStatesWereSent}
+use Rattle.net_world.specs.Passes.{CopiedStatesWereSent, SavedStatesWereKept, WasKept, CheckedStatesWereSent}
 use Rattle.net_world.specs.Claims.{OfEachList, OfEachTrace}
 use Rattle.net_world.proofs.ListLemmas.{found_in}
 use Rattle.net_world.proofs.MirrorLemmas.{sent_by_mirror, mirror_copies}
-use Rattle.net_world.proofs.TraceLemmas.{own_step, taken_stays, sent_cases, sent_none, sent_stays, taken_was_sent, came_was_sent, copied_was_sent, heard_was_sent, same_packet}
+use Rattle.net_world.proofs.TraceLemmas.{own_step, taken_stays, sent_cases, sent_none, sent_stays, taken_was_sent}
+use Rattle.net_world.proofs.TraceLemmas.{came_was_sent, copied_was_sent, heard_was_sent, same_packet}
 use Rattle.disk_model.proofs.ListLemmas.{none_in, first_of}
 
 -- ---- what is sent in a State was taken
 
-taken_at_key : (o : Opening) (r j : ℕ) (past : List server.Entry) (state : State) → state.key ≡ record { run = r; server = o.me; job = j } → takings o r j past ≡ state ∷ []
+taken_at_key : (o : Opening) (r j : ℕ) (past : List server.Entry) (state : State) → state.key ≡ record { run = r; server = o.me; job = j }
+    → takings o r j past ≡ state ∷ []
     → (state.key.server ≡ o.me) × Contains (takings o state.key.run state.key.job past) state
 taken_at_key o r j past state key one =
     let run : state.key.run ≡ r = ap (λ (k : Key). k.run) key in
     let job : state.key.job ≡ j = ap (λ (k : Key). k.job) key in
-    let here : takings o state.key.run state.key.job past ≡ state ∷ [] = ap (λ n. takings o n state.key.job past) run ∙ ap (λ n. takings o r n past) job ∙ one in
+    let here : takings o state.key.run state.key.job past ≡ state ∷ [] =
+    ap (λ n. takings o n state.key.job past) run ∙ ap (λ n. takings o r n past) job ∙ one in
     (ap (λ (k : Key). k.server) key, subst (λ l. Contains l state) (sym here) (first_of state []))
 
-sends_taken : served.SendsTheTaken → (o : Opening) (past : List server.Entry) (e : server.Entry) (p : PacketParts) (jobs : ℕ) (state : State) → Contains (servers.packets o past e) p → p.body ≡ bodies.State jobs state
+sends_taken : served.SendsTheTaken → (o : Opening) (past : List server.Entry) (e : server.Entry) (p : PacketParts) (jobs : ℕ) (state : State)
+    → Contains (servers.packets o past e) p → p.body ≡ bodies.State jobs state
     → (state.key.server ≡ o.me) × Contains (takings o state.key.run state.key.job (e ∷ past)) state
 sends_taken s o past e p jobs state h is =
     let k = s o past e p jobs state h is in
     taken_at_key o (last_run o (e ∷ past)) k.0 (e ∷ past) state (k.1).key (k.1).one
 
 -- The client sends no State.
-pub no_state : asked.PacketsGoToPeers → (o : client.Opening) (past : List client.Entry) (e : client.Entry) (p : PacketParts) (jobs : ℕ) (state : State) → Contains (clients.packets o past e) p → p.body ≡ bodies.State jobs state → ⊥
+pub no_state : asked.PacketsGoToPeers → (o : client.Opening) (past : List client.Entry) (e : client.Entry) (p : PacketParts) (jobs : ℕ) (state : State)
+    → Contains (clients.packets o past e) p → p.body ≡ bodies.State jobs state → ⊥
 no_state goes o past e p jobs state h is = elim (goes o past e p h) [
-  | inl k ↦ (let kind : IsTrue (is_for_server (kind_of (bodies.State jobs state))) = subst (λ (b : Body). IsTrue (is_for_server (kind_of b))) is k.3 in absurd cc)
-  | inr k ↦ (let kind : IsTrue (is_for_mirror (kind_of (bodies.State jobs state))) = subst (λ (b : Body). IsTrue (is_for_mirror (kind_of b))) is k.2 in absurd cc)
+  | inl k ↦ (let kind : IsTrue (is_for_server (kind_of (bodies.State jobs state))) = subst (λ (b : Body). IsTrue (is_for_server (kind_of b))) is k.3 in
+      absurd cc)
+  | inr k ↦ (let kind : IsTrue (is_for_mirror (kind_of (bodies.State jobs state))) = subst (λ (b : Body). IsTrue (is_for_mirror (kind_of b))) is k.2 in
+      absurd cc)
 ]
 
 -- Nor does the mirror, or a Saved.
-not_of_mirror : mirror_laws.PacketsGoToTheClient → (o : Noted) (past : List mirror.Entry) (e : mirror.Entry) (p : PacketParts) (b : Body) → Contains (mirrors.packets o past e) p → p.body ≡ b → is_of_mirror (kind_of b) ≡ false → ⊥
-not_of_mirror goes o past e p b h is none = clash (is_of_mirror (kind_of b)) (subst (λ (x : Body). is_of_mirror (kind_of x) ≡ true) is (sent_by_mirror goes o past e p h).2) none
+not_of_mirror : mirror_laws.PacketsGoToTheClient → (o : Noted) (past : List mirror.Entry) (e : mirror.Entry) (p : PacketParts) (b : Body)
+    → Contains (mirrors.packets o past e) p → p.body ≡ b → is_of_mirror (kind_of b) ≡ false → ⊥
+not_of_mirror goes o past e p b h is none =
+    clash (is_of_mirror (kind_of b)) (subst (λ (x : Body). is_of_mirror (kind_of x) ≡ true) is (sent_by_mirror goes o past e p h).2) none
   where
     clash : (t : Bool) → t ≡ true → t ≡ false → ⊥
     clash true h g = absurd cc
     clash false h g = absurd cc
 
-sent_now : served.SendsTheTaken → asked.PacketsGoToPeers → mirror_laws.PacketsGoToTheClient → (w : Setup) (step : Step) (past : List Step) (p : PacketParts) (jobs : ℕ) (state : State) → Contains (packets_of w past step) p → p.body ≡ bodies.State jobs state → Contains (taken_of state.key (step ∷ past)) state
+sent_now : served.SendsTheTaken → asked.PacketsGoToPeers → mirror_laws.PacketsGoToTheClient
+    → (w : Setup) (step : Step) (past : List Step) (p : PacketParts) (jobs : ℕ) (state : State) → Contains (packets_of w past step) p
+    → p.body ≡ bodies.State jobs state → Contains (taken_of state.key (step ∷ past)) state
 sent_now s goes over w (AtServer r e) past p jobs state h is =
     let k = sends_taken s (opening_of r) (of_server r past) e p jobs state h is in
     let here : r ≡ state.key.server = sym k.0 in
@@ -96,7 +109,8 @@ pub record Going : Type 0 where
   pub to_peers : asked.PacketsGoToPeers
   pub over : mirror_laws.PacketsGoToTheClient
 
-ends_now : Going → (w : Setup) (step : Step) (past : List Step) (p : PacketParts) (jobs : ℕ) (a : State) → Contains (packets_of w past step) p → p.body ≡ bodies.State jobs a → (p.from ≡ Server a.key.server) × (p.to ≡ Client)
+ends_now : Going → (w : Setup) (step : Step) (past : List Step) (p : PacketParts) (jobs : ℕ) (a : State) → Contains (packets_of w past step) p
+    → p.body ≡ bodies.State jobs a → (p.from ≡ Server a.key.server) × (p.to ≡ Client)
 ends_now laws w (AtServer r e) past p jobs a h is =
     let k = laws.to_client (opening_of r) (of_server r past) e p h in
     let t = laws.sends (opening_of r) (of_server r past) e p jobs a h is in
@@ -105,14 +119,16 @@ ends_now laws w (AtServer r e) past p jobs a h is =
 ends_now laws w (AtClient e) past p jobs a h is = absurd (no_state laws.to_peers (client_opening w) (of_client w past) e p jobs a h is)
 ends_now laws w (AtMirror e) past p jobs a h is = absurd (not_of_mirror laws.over mirror_opening (of_mirror past) e p (bodies.State jobs a) h is refl)
 
-pub ends_of : Going → (w : Setup) (t : List Step) (p : PacketParts) (jobs : ℕ) (a : State) → Contains (sent_packets w t) p → p.body ≡ bodies.State jobs a → (p.from ≡ Server a.key.server) × (p.to ≡ Client)
+pub ends_of : Going → (w : Setup) (t : List Step) (p : PacketParts) (jobs : ℕ) (a : State) → Contains (sent_packets w t) p → p.body ≡ bodies.State jobs a
+    → (p.from ≡ Server a.key.server) × (p.to ≡ Client)
 ends_of laws w [] p jobs a h is = absurd (sent_none w p h)
 ends_of laws w (step ∷ past) p jobs a h is = elim (sent_cases w step past p h) [
   | inl before ↦ ends_of laws w past p jobs a before is
   | inr now ↦ ends_now laws w step past p jobs a now is
 ]
 
-state_was_sent : Going → (w : Setup) (t : List Step) (p : PacketParts) (jobs : ℕ) (a : State) → Contains (sent_packets w t) p → p.body ≡ bodies.State jobs a → WasSent w t a
+state_was_sent : Going → (w : Setup) (t : List Step) (p : PacketParts) (jobs : ℕ) (a : State) → Contains (sent_packets w t) p → p.body ≡ bodies.State jobs a
+    → WasSent w t a
 state_was_sent laws w t p jobs a h is =
     let ends = ends_of laws w t p jobs a h is in
     (jobs, subst (Contains (sent_packets w t)) (same_packet p (from_server (bodies.State jobs a) a.key.server) ends.0 ends.1 is) h)
@@ -132,7 +148,8 @@ pub record Carrying : Type 0 where
 kept_from : Carrying → (w : Setup) (t : List Step) → IsTrace w t → CarriedStatesWereSent w t → KeptStatesWereSent w t
 kept_from laws w t trace carry state h = by (laws.notes (client_opening w) (of_client w t) state h)
   where
-    by : Contains blank.kept state ⊎ (((jobs : ℕ) × Contains (packets_come (of_client w t)) (from_server (bodies.State jobs state) state.key.server)) ⊎ Contains (packets_come (of_client w t)) (from_mirror (bodies.Copy state))) → WasSent w t state
+    by : Contains blank.kept state ⊎ (((jobs : ℕ) × Contains (packets_come (of_client w t)) (from_server (bodies.State jobs state) state.key.server))
+        ⊎ Contains (packets_come (of_client w t)) (from_mirror (bodies.Copy state))) → WasSent w t state
     by (inl opening) = absurd (none_in state opening)
     by (inr (inl in_state)) = (in_state.0, came_was_sent w t _ trace in_state.1)
     by (inr (inr copy)) = carry (from_mirror (bodies.Copy state)) state (came_was_sent w t _ trace copy) refl
@@ -149,24 +166,33 @@ was_sent_stays : (w : Setup) (step : Step) (past : List Step) (state : State) �
 was_sent_stays w step past state h = (h.0, sent_stays w step past (from_server (bodies.State h.0 state) state.key.server) h.1)
 
 -- A server sends no Saved, and no Copy.
-not_of_server : PacketsGoToClient → (o : Opening) (past : List server.Entry) (e : server.Entry) (p : PacketParts) (b : Body) → Contains (servers.packets o past e) p → p.body ≡ b → is_of_server (kind_of b) ≡ false → ⊥
-not_of_server goes o past e p b h is none = clash (is_of_server (kind_of b)) (subst (λ (x : Body). IsTrue (is_of_server (kind_of x))) is (goes o past e p h).kind) none
+not_of_server : PacketsGoToClient → (o : Opening) (past : List server.Entry) (e : server.Entry) (p : PacketParts) (b : Body)
+    → Contains (servers.packets o past e) p → p.body ≡ b → is_of_server (kind_of b) ≡ false → ⊥
+not_of_server goes o past e p b h is none =
+    clash (is_of_server (kind_of b)) (subst (λ (x : Body). IsTrue (is_of_server (kind_of x))) is (goes o past e p h).kind) none
   where
     clash : (t : Bool) → IsTrue t → t ≡ false → ⊥
     clash true h g = absurd cc
     clash false h g = absurd cc
 
-saved_now : Carrying → (w : Setup) (step : Step) (past : List Step) (p : PacketParts) (attempt : ℕ) (state : State) → IsTrace w past → CarriedStatesWereSent w past → Contains (packets_of w past step) p → p.body ≡ bodies.Saved attempt state → WasSent w past state
-saved_now laws w (AtServer r e) past p attempt state trace carry h is = absurd (not_of_server laws.going.to_client (opening_of r) (of_server r past) e p (bodies.Saved attempt state) h is refl)
+saved_now : Carrying → (w : Setup) (step : Step) (past : List Step) (p : PacketParts) (attempt : ℕ) (state : State) → IsTrace w past
+    → CarriedStatesWereSent w past → Contains (packets_of w past step) p → p.body ≡ bodies.Saved attempt state → WasSent w past state
+saved_now laws w (AtServer r e) past p attempt state trace carry h is =
+    absurd (not_of_server laws.going.to_client (opening_of r) (of_server r past) e p (bodies.Saved attempt state) h is refl)
 saved_now laws w (AtClient e) past p attempt state trace carry h is =
-    kept_from laws w past trace carry state (found_in state.key (words_noted (client_opening w) (of_client w past)).kept state (laws.saved (client_opening w) (of_client w past) e p attempt state h is))
-saved_now laws w (AtMirror e) past p attempt state trace carry h is = absurd (not_of_mirror laws.going.over mirror_opening (of_mirror past) e p (bodies.Saved attempt state) h is refl)
+    kept_from laws w past trace carry state (found_in state.key (words_noted (client_opening w) (of_client w past)).kept state
+    (laws.saved (client_opening w) (of_client w past) e p attempt state h is))
+saved_now laws w (AtMirror e) past p attempt state trace carry h is =
+    absurd (not_of_mirror laws.going.over mirror_opening (of_mirror past) e p (bodies.Saved attempt state) h is refl)
 
-copy_now : Carrying → (w : Setup) (step : Step) (past : List Step) (p : PacketParts) (state : State) → IsTrace w (step ∷ past) → CarriedStatesWereSent w past → Contains (packets_of w past step) p → p.body ≡ bodies.Copy state → WasSent w past state
-copy_now laws w (AtServer r e) past p state trace carry h is = absurd (not_of_server laws.going.to_client (opening_of r) (of_server r past) e p (bodies.Copy state) h is refl)
+copy_now : Carrying → (w : Setup) (step : Step) (past : List Step) (p : PacketParts) (state : State) → IsTrace w (step ∷ past) → CarriedStatesWereSent w past
+    → Contains (packets_of w past step) p → p.body ≡ bodies.Copy state → WasSent w past state
+copy_now laws w (AtServer r e) past p state trace carry h is =
+    absurd (not_of_server laws.going.to_client (opening_of r) (of_server r past) e p (bodies.Copy state) h is refl)
 copy_now laws w (AtClient e) past p state trace carry h is = elim (laws.copies (client_opening w) (of_client w past) e p state h is) [
   | inl i ↦ kept_from laws w past trace.0 carry state i
-  | inr k ↦ state_was_sent laws.going w past (from_server (bodies.State k.1 state) k.0) k.1 state (taken_was_sent w (AtClient e) past (from_server (bodies.State k.1 state) k.0) trace.1 k.2) refl
+  | inr k ↦ state_was_sent laws.going w past (from_server (bodies.State k.1 state) k.0) k.1 state
+      (taken_was_sent w (AtClient e) past (from_server (bodies.State k.1 state) k.0) trace.1 k.2) refl
 ]
 copy_now laws w (AtMirror e) past p state trace carry h is =
     copied_from laws w past trace.0 carry state (mirror_copies laws.going.over laws.mirror_copies mirror_opening (of_mirror past) e p state h is)
@@ -175,9 +201,11 @@ same_state : (x state : State) → Some x ≡ Some state → x ≡ state
 same_state x state h = cc
 
 -- What a packet carries that is sent now was sent in a State.
-carried_now : Carrying → (w : Setup) (step : Step) (past : List Step) (p : PacketParts) (state : State) (b : Body) → p.body ≡ b → IsTrace w (step ∷ past) → CarriedStatesWereSent w past
+carried_now : Carrying → (w : Setup) (step : Step) (past : List Step) (p : PacketParts) (state : State) (b : Body) → p.body ≡ b → IsTrace w (step ∷ past)
+    → CarriedStatesWereSent w past
     → Contains (sent_packets w (step ∷ past)) p → Contains (packets_of w past step) p → carried_state b ≡ Some state → WasSent w (step ∷ past) state
-carried_now laws w step past p state (bodies.State jobs x) is trace carry all h c = state_was_sent laws.going w (step ∷ past) p jobs state all (is ∙ ap (bodies.State jobs) (same_state x state c))
+carried_now laws w step past p state (bodies.State jobs x) is trace carry all h c =
+    state_was_sent laws.going w (step ∷ past) p jobs state all (is ∙ ap (bodies.State jobs) (same_state x state c))
 carried_now laws w step past p state (bodies.Saved attempt x) is trace carry all h c =
     was_sent_stays w step past state (saved_now laws w step past p attempt state trace.0 carry h (is ∙ ap (bodies.Saved attempt) (same_state x state c)))
 carried_now laws w step past p state (bodies.Copy x) is trace carry all h c =
@@ -202,25 +230,32 @@ copied_states_were_sent laws w t trace = copied_from laws w t trace (carried_sta
 -- ---- so it was taken
 
 -- What was sent in a State was taken.
-pub was_taken : OfEachList SentStatesWereTaken → (w : Setup) (t : List Step) (key : Key) (state : State) → state.key ≡ key → WasSent w t state → Contains (taken_of key t) state
+pub was_taken : OfEachList SentStatesWereTaken → (w : Setup) (t : List Step) (key : Key) (state : State) → state.key ≡ key → WasSent w t state
+    → Contains (taken_of key t) state
 was_taken taken w t key state is h =
     subst (λ i. Contains (taken_of i t) state) is (taken w t (from_server (bodies.State h.0 state) state.key.server) h.0 state h.1 refl)
 
 -- What is kept was taken.
-pub kept_was_taken : OfEachList SentStatesWereTaken → FoundHasItsKey → OfEachTrace KeptStatesWereSent → (w : Setup) (t : List Step) (key : Key) (state : State) → IsTrace w t → kept_state (client_opening w) (of_client w t) key ≡ Some state → Contains (taken_of key t) state
+pub kept_was_taken : OfEachList SentStatesWereTaken → FoundHasItsKey → OfEachTrace KeptStatesWereSent → (w : Setup) (t : List Step) (key : Key) (state : State)
+    → IsTrace w t → kept_state (client_opening w) (of_client w t) key ≡ Some state → Contains (taken_of key t) state
 kept_was_taken taken has kept_sent w t key state trace h =
     let states = (words_noted (client_opening w) (of_client w t)).kept in
     was_taken taken w t key state (has key states state h) (kept_sent w t trace state (found_in key states state h))
 
 -- ---- what is sent in a Saved was kept by then
 
-saved_kept_now : PacketsGoToClient → mirror_laws.PacketsGoToTheClient → asked.SavedIsKept → (w : Setup) (step : Step) (past : List Step) (p : PacketParts) (attempt : ℕ) (state : State) → Contains (packets_of w past step) p → p.body ≡ bodies.Saved attempt state → kept_state (client_opening w) (of_client w past) state.key ≡ Some state
-saved_kept_now goes over k w (AtServer r e) past p attempt state h is = absurd (not_of_server goes (opening_of r) (of_server r past) e p (bodies.Saved attempt state) h is refl)
+saved_kept_now : PacketsGoToClient → mirror_laws.PacketsGoToTheClient → asked.SavedIsKept
+    → (w : Setup) (step : Step) (past : List Step) (p : PacketParts) (attempt : ℕ) (state : State) → Contains (packets_of w past step) p
+    → p.body ≡ bodies.Saved attempt state → kept_state (client_opening w) (of_client w past) state.key ≡ Some state
+saved_kept_now goes over k w (AtServer r e) past p attempt state h is =
+    absurd (not_of_server goes (opening_of r) (of_server r past) e p (bodies.Saved attempt state) h is refl)
 saved_kept_now goes over k w (AtClient e) past p attempt state h is = k (client_opening w) (of_client w past) e p attempt state h is
-saved_kept_now goes over k w (AtMirror e) past p attempt state h is = absurd (not_of_mirror over mirror_opening (of_mirror past) e p (bodies.Saved attempt state) h is refl)
+saved_kept_now goes over k w (AtMirror e) past p attempt state h is =
+    absurd (not_of_mirror over mirror_opening (of_mirror past) e p (bodies.Saved attempt state) h is refl)
 
 pub kept_before : (w : Setup) (step : Step) (past : List Step) (key : Key) (state : State) → WasKept w past key state → WasKept w (step ∷ past) key state
-kept_before w step past key state k = record { later = step ∷ k.later; earlier = k.earlier; split = ap (λ (l : List Step). step ∷ l) k.split; kept_there = k.kept_there }
+kept_before w step past key state k =
+    record { later = step ∷ k.later; earlier = k.earlier; split = ap (λ (l : List Step). step ∷ l) k.split; kept_there = k.kept_there }
 
 pub saved_states_were_kept : PacketsGoToClient → mirror_laws.PacketsGoToTheClient → asked.SavedIsKept → OfEachList SavedStatesWereKept
 saved_states_were_kept goes over k w [] p attempt state h is = absurd (sent_none w p h)

@@ -19,7 +19,8 @@ use Rattle.disk_model.proofs.ListLemmas.{first_of, behind_one}
 pub heard_is_the_taken : OnlySentIsHeard → OfEachTrace HeldIsTheTaken → OfEachFrameTrace (OfTheHeard HeldIsTheTaken)
 heard_is_the_taken heard one w t h fits = one w (trace_heard w t) (heard w t h fits)
 
-all_sent : OnlySentComesTogether → (ps : List PacketParts) → ArePackets ps → OneBodyOfEachTag ps → (qs : List PieceParts) → ((q : PieceParts) → Contains qs q → IsFrameOf ps (Piece q)) → WasSent ps (all_taken [] qs)
+all_sent : OnlySentComesTogether → (ps : List PacketParts) → ArePackets ps → OneBodyOfEachTag ps → (qs : List PieceParts)
+    → ((q : PieceParts) → Contains qs q → IsFrameOf ps (Piece q)) → WasSent ps (all_taken [] qs)
 all_sent law ps are one [] f = tt
 all_sent law ps are one (q ∷ qs) f =
     let w = all_sent law ps are one qs (λ x i. f x (behind_one q qs x i)) in
@@ -30,7 +31,8 @@ given_sent : (ps : List PacketParts) (p q : PacketParts) → Contains ps p → (
 given_sent ps p q i x (inl e) g = let no : Waits ≡ Gives q = sym e ∙ g in absurd cc
 given_sent ps p q i x (inr e) g = let same : Gives p ≡ Gives q = sym e ∙ g in let p_is : p ≡ q = cc in subst (Contains ps) p_is i
 
-pub pieces_hold_the_taken : OnlySentComesTogether → FramesAreOfPackets → TagsNameOneBody → SentAreInRange → OnlySentIsHeard → OfEachTrace HeldIsTheTaken → OfEachFrameTrace PiecesHoldTheTaken
+pub pieces_hold_the_taken : OnlySentComesTogether → FramesAreOfPackets → TagsNameOneBody → SentAreInRange → OnlySentIsHeard → OfEachTrace HeldIsTheTaken
+    → OfEachFrameTrace PiecesHoldTheTaken
 pieces_hold_the_taken law frames tags ranges heard one w t h fits key state k =
     let ps = sent_packets w (trace_heard w t) in
     let trace = heard w t h fits in

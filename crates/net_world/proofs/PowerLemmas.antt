@@ -24,16 +24,22 @@ says_same old new n h s = subst (λ (x : Note). Says x.bytes n) (sym h) s
 spent : (b : ℕ) → b ≡ 2 ^ 64 - 1 → nat_lt (b + 1) (2 ^ 64) ≡ false
 spent b h = rw h refl
 
-pub restart_ok : (o : Opening) (past : List FrameEntry) (notes : Kept) (server : Server Kept) (me : ℕ) → o.me ≡ me → Stands o past (Off notes) → Opened note_of me notes server → Restarts o past (On server) (Ok tt)
+pub restart_ok : (o : Opening) (past : List FrameEntry) (notes : Kept) (server : Server Kept) (me : ℕ) → o.me ≡ me → Stands o past (Off notes)
+    → Opened note_of me notes server → Restarts o past (On server) (Ok tt)
 restart_ok o past notes server me is s h =
     let stands = h.stands o past is s.0 in
     (s.1, lt-ltb (boot o (packets_heard o past) + 1) (2 ^ 64) stands.core.durable.boot_range, (stands, refl))
 
-pub restart_err : (o : Opening) (past : List FrameEntry) (notes back : Kept) (fault : Fault) → Stands o past (Off notes) → NotOpened (note_of notes) (note_of back) fault → Restarts o past (Off back) (Err fault)
+pub restart_err : (o : Opening) (past : List FrameEntry) (notes back : Kept) (fault : Fault) → Stands o past (Off notes)
+    → NotOpened (note_of notes) (note_of back) fault → Restarts o past (Off back) (Err fault)
 restart_err o past notes back LoadFault s h = absurd (omega (arith, h.0))
 restart_err o past notes back BadNote s h = absurd (h.1 (words_noted o (packets_heard o past)) s.0)
-restart_err o past notes back NumbersSpent s h =
-    (s.1, spent (boot o (packets_heard o past)) (h.1 (words_noted o (packets_heard o past)) s.0), (says_same (note_of notes) (note_of back) (words_noted o (packets_heard o past)) h.0 s.0, s.1), refl)
+restart_err o past notes back NumbersSpent s h = (
+  s.1,
+  spent (boot o (packets_heard o past)) (h.1 (words_noted o (packets_heard o past)) s.0),
+  (says_same (note_of notes) (note_of back) (words_noted o (packets_heard o past)) h.0 s.0, s.1),
+  refl,
+)
 restart_err o past notes back NoMemory s h = (s.1, (says_same (note_of notes) (note_of back) (words_noted o (packets_heard o past)) h s.0, s.1))
 restart_err o past notes back SaveFault s h = absurd (omega (arith, h.0))
 restart_err o past notes back _ s h = absurd h

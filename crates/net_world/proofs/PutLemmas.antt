@@ -10,7 +10,8 @@ use Rattle.net_world.specs.Events.{happening}
 use Rattle.net_world.specs.PutIn.{stop_in, stopped_first}
 
 -- One more is copied.
-pub one_more : (all es : List WorldEvent) (before : List Happening) (i : ℕ) (e copy : WorldEvent) → i < length es → e ≡ get_or es i e → happening copy ≡ happening e
+pub one_more : (all es : List WorldEvent) (before : List Happening) (i : ℕ) (e copy : WorldEvent) → i < length es → e ≡ get_or es i e
+    → happening copy ≡ happening e
     → map happening all ≡ before ++ map happening (take i es) → map happening (all ++ copy ∷ []) ≡ before ++ map happening (take (i + 1) es)
 one_more all es before i e copy lt is same h =
     let more : i + 1 ≡ suc i = omega arith in
@@ -24,9 +25,11 @@ one_more all es before i e copy lt is same h =
 
 -- Two are put between the copies of what stands before a place and of what stands behind it.
 pub two_put_in : (es front : List WorldEvent) (at : ℕ) (one two : WorldEvent) → map happening front ≡ map happening (take at es)
-    → map happening ((front ++ one ∷ []) ++ two ∷ []) ++ map happening (drop at es) ≡ take at (map happening es) ++ happening one ∷ happening two ∷ drop at (map happening es)
+    → map happening ((front ++ one ∷ []) ++ two ∷ []) ++ map happening (drop at es)
+    ≡ take at (map happening es) ++ happening one ∷ happening two ∷ drop at (map happening es)
 two_put_in es front at one two h =
-    ap (λ l. l ++ map happening (drop at es)) (map-append happening (front ++ one ∷ []) (two ∷ []) ∙ ap (λ l. l ++ happening two ∷ []) (map-append happening front (one ∷ [])))
+    ap (λ l. l ++ map happening (drop at es)) (map-append happening (front ++ one ∷ []) (two ∷ [])
+    ∙ ap (λ l. l ++ happening two ∷ []) (map-append happening front (one ∷ [])))
     ∙ append_assoc (map happening front ++ happening one ∷ []) (happening two ∷ []) (map happening (drop at es))
     ∙ append_assoc (map happening front) (happening one ∷ []) (happening two ∷ map happening (drop at es))
     ∙ ap (λ l. l ++ happening one ∷ happening two ∷ map happening (drop at es)) (h ∙ sym (take-map happening at es))

@@ -25,7 +25,8 @@ use Rattle.mirror_core.specs.History as mirror
 use Rattle.mirror_core.specs.Note as mirror_note
 use Rattle.mirror_core.specs.Laws as mirrors
 use Rattle.net_world.specs.Setup.{Setup}
-use Rattle.net_world.specs.Trace.{Step, AtServer, AtClient, AtMirror, IsTrace, WasSentTo, taken_by, node_of, sent_packets, packets_of, of_server, of_client, of_mirror, opening_of, client_opening, mirror_opening, first_entry}
+use Rattle.net_world.specs.Trace.{Step, AtServer, AtClient, AtMirror, IsTrace, WasSentTo, taken_by, node_of, sent_packets, packets_of}
+use Rattle.net_world.specs.Trace.{of_server, of_client, of_mirror, opening_of, client_opening, mirror_opening, first_entry}
 use Rattle.net_world.specs.InRange.{ReportFits, EntryFits, StepFits, SentAreInRange}
 
 AllSent : List PacketParts → Step → Type 0
@@ -34,14 +35,16 @@ AllSent ps step = AllByRecursion (WasSentTo ps (node_of step)) (taken_by step)
 both : (xs ys : List PacketParts) → ArePackets xs → ArePackets ys → ArePackets (xs ++ ys)
 both xs ys a b p i = elim (Contains-append_cases xs ys p i) [ inl j ↦ a p j | inr j ↦ b p j ]
 
-event_in : (ps : List PacketParts) (s : ℕ) (e : Event) (left : Left) → ArePackets ps → AllSent ps (AtServer s (history.Met e left)) → ReportFits e → ranges.IsInRange e
+event_in : (ps : List PacketParts) (s : ℕ) (e : Event) (left : Left) → ArePackets ps → AllSent ps (AtServer s (history.Met e left)) → ReportFits e
+    → ranges.IsInRange e
 unfolding AllSent
 event_in ps s (events.Deliver p) left are w r = are p w.0.0
 event_in ps s (events.Issue j) left are w r = tt
 event_in ps s (events.WriteDone ticket end) left are w r = tt
 event_in ps s (events.CheckDone boot a j report) left are w r = r
 
-more_in : (ps : List PacketParts) (s : ℕ) (e : history.Entry) (past : List history.Entry) → ArePackets ps → AllSent ps (AtServer s e) → EntryFits e → ranges.CameInRange past → ranges.CameInRange (e ∷ past)
+more_in : (ps : List PacketParts) (s : ℕ) (e : history.Entry) (past : List history.Entry) → ArePackets ps → AllSent ps (AtServer s e) → EntryFits e
+    → ranges.CameInRange past → ranges.CameInRange (e ∷ past)
 more_in ps s (history.Met e left) past are w r h = (event_in ps s e left are w r, h)
 more_in ps s history.Cut past are w r h = h
 more_in ps s (history.Restart left) past are w r h = h
@@ -65,7 +68,8 @@ came_to w s (AtServer r e ∷ past) h f are =
 came_to w s (AtClient e ∷ past) h f are = came_to w s past h.0 f.1 (before w (AtClient e) past are)
 came_to w s (AtMirror e ∷ past) h f are = came_to w s past h.0 f.1 (before w (AtMirror e) past are)
 
-call_in : (ps : List PacketParts) (c : Call) (left : Left) (older : List PacketParts) → ArePackets ps → AllSent ps (AtClient (entry.Met c left)) → AllByRecursion IsPacket older → AllByRecursion IsPacket (packet_in (entry.Met c left) ++ older)
+call_in : (ps : List PacketParts) (c : Call) (left : Left) (older : List PacketParts) → ArePackets ps → AllSent ps (AtClient (entry.Met c left))
+    → AllByRecursion IsPacket older → AllByRecursion IsPacket (packet_in (entry.Met c left) ++ older)
 unfolding AllSent
 call_in ps (calls.Deliver p) left older are w h = (are p w.0.0, h)
 call_in ps (calls.Begin text) left older are w h = h
@@ -74,7 +78,8 @@ call_in ps (calls.Stop run) left older are w h = h
 call_in ps (calls.Verify run text) left older are w h = h
 call_in ps calls.Tick left older are w h = h
 
-more_heard : (ps : List PacketParts) (e : entry.Entry) (past : List entry.Entry) → ArePackets ps → AllSent ps (AtClient e) → AllByRecursion IsPacket (packets_come past) → AllByRecursion IsPacket (packets_come (e ∷ past))
+more_heard : (ps : List PacketParts) (e : entry.Entry) (past : List entry.Entry) → ArePackets ps → AllSent ps (AtClient e)
+    → AllByRecursion IsPacket (packets_come past) → AllByRecursion IsPacket (packets_come (e ∷ past))
 more_heard ps (entry.Met c left) past are w h = call_in ps c left (packets_come past) are w h
 more_heard ps entry.Cut past are w h = h
 more_heard ps (entry.Restart mirror) past are w h = h
@@ -94,7 +99,8 @@ came_back w (AtClient e ∷ past) h are =
     more_heard (sent_packets w past) e (of_client w past) a h.1 (came_back w past h.0 a)
 came_back w (AtMirror e ∷ past) h are = came_back w past h.0 (before w (AtMirror e) past are)
 
-more_copied : (ps : List PacketParts) (e : mirror.Entry) (past : List mirror.Entry) → ArePackets ps → AllSent ps (AtMirror e) → mirrors.CameInRange past → mirrors.CameInRange (e ∷ past)
+more_copied : (ps : List PacketParts) (e : mirror.Entry) (past : List mirror.Entry) → ArePackets ps → AllSent ps (AtMirror e) → mirrors.CameInRange past
+    → mirrors.CameInRange (e ∷ past)
 unfolding AllSent
 more_copied ps (mirror.Met (Whole p) left) past are w h = (are p w.0.0, h)
 more_copied ps (mirror.Met (Piece q) left) past are w h = h
@@ -119,12 +125,16 @@ blank_noted = record { generation = omega arith; runs = omega arith; attempts = 
 each : (ps : List PacketParts) → AllByRecursion IsPacket ps → ArePackets ps
 each ps h p i = each_of IsPacket ps p h i
 
-step_in : servers.PacketsAreInRange → clients.PacketsAreInRange → mirrors.PacketsAreInRange → (w : Setup) (step : Step) (past : List Step) → w.servers ≤ MAX_SERVERS → IsTrace w (step ∷ past) → AllByRecursion StepFits (step ∷ past) → ArePackets (sent_packets w past) → ArePackets (packets_of w past step)
+step_in : servers.PacketsAreInRange → clients.PacketsAreInRange → mirrors.PacketsAreInRange → (w : Setup) (step : Step) (past : List Step)
+    → w.servers ≤ MAX_SERVERS → IsTrace w (step ∷ past) → AllByRecursion StepFits (step ∷ past) → ArePackets (sent_packets w past)
+    → ArePackets (packets_of w past step)
 unfolding AllSent
 step_in by_server by_client by_mirror w (AtServer s e) past l h f are =
-    each _ (by_server (opening_of s) (of_server s past) e (record { me = f.0.0; last = omega arith }) (more_in (sent_packets w past) s e (of_server s past) are h.1 f.0.1 (came_to w s past h.0 f.1 are)))
+    each _ (by_server (opening_of s) (of_server s past) e (record { me = f.0.0; last = omega arith })
+    (more_in (sent_packets w past) s e (of_server s past) are h.1 f.0.1 (came_to w s past h.0 f.1 are)))
 step_in by_server by_client by_mirror w (AtClient e) past l h f are =
-    each _ (by_client (client_opening w) (of_client w past) e (record { servers = l; note = blank_noted }) (more_heard (sent_packets w past) e (of_client w past) are h.1 (came_back w past h.0 are)))
+    each _ (by_client (client_opening w) (of_client w past) e (record { servers = l; note = blank_noted })
+    (more_heard (sent_packets w past) e (of_client w past) are h.1 (came_back w past h.0 are)))
 step_in by_server by_client by_mirror w (AtMirror e) past l h f are =
     each _ (by_mirror mirror_opening (of_mirror past) e mirror_blank (more_copied (sent_packets w past) e (of_mirror past) are h.1 (came_over w past h.0 are)))
 
@@ -132,7 +142,8 @@ none_sent : (w : Setup) → ArePackets (sent_packets w [])
 unfolding sent_packets
 none_sent w p i = absurd (none_in p i)
 
-one_step : (w : Setup) (step : Step) (past : List Step) → ArePackets (sent_packets w past) → ArePackets (packets_of w past step) → ArePackets (sent_packets w (step ∷ past))
+one_step : (w : Setup) (step : Step) (past : List Step) → ArePackets (sent_packets w past) → ArePackets (packets_of w past step)
+    → ArePackets (sent_packets w (step ∷ past))
 unfolding sent_packets
 one_step w step past a b = both (sent_packets w past) (packets_of w past step) a b
 

@@ -66,7 +66,8 @@ bad_note : SaysOneThing → (mirror : Bool) (bytes : List ℕ) (n : Noted) → S
 bad_note one mirror bytes n s (inl none) = absurd (none n s)
 bad_note one mirror bytes n s (inr empty) = rw (empty.0, said_is one bytes n empty.1 s) refl
 
-pub not_started : SaysOneThing → (o : Opening) (past : List FrameEntry) (mirror : Bool) (old new : Kept) (fault : Fault) → Stands o past (Off old) → NotOpened mirror (note_of old) (note_of new) fault → Restarts o past mirror (Off new) (Err fault)
+pub not_started : SaysOneThing → (o : Opening) (past : List FrameEntry) (mirror : Bool) (old new : Kept) (fault : Fault) → Stands o past (Off old)
+    → NotOpened mirror (note_of old) (note_of new) fault → Restarts o past mirror (Off new) (Err fault)
 not_started one o past mirror old new LoadFault h k = absurd (omega (arith, k.0))
 not_started one o past mirror old new BadNote h k =
     (h.1, bad_note one mirror (note_of old).bytes (words_noted o (packets_heard o past)) h.0 k.1, restand o past old new k.0 h, refl)
@@ -82,7 +83,8 @@ written_note : (bytes : List ℕ) (n : Noted) → bytes ≢ [] → IsEmptyIfBlan
 written_note bytes n some (inl none) = absurd (some none)
 written_note bytes n some (inr written) = written
 
-pub not_renewed : (o : Opening) (past : List FrameEntry) (g : ℕ) (old new : Kept) (fault : Fault) → is_generation g ≡ true → Stands o past (Off old) → NotRenewed g (note_of old) (note_of new) fault → Renews o past g (Off new) (Err fault)
+pub not_renewed : (o : Opening) (past : List FrameEntry) (g : ℕ) (old new : Kept) (fault : Fault) → is_generation g ≡ true → Stands o past (Off old)
+    → NotRenewed g (note_of old) (note_of new) fault → Renews o past g (Off new) (Err fault)
 not_renewed o past g old new BadGeneration fits h k = absurd (never (is_generation g) fits k.1)
 not_renewed o past g old new LoadFault fits h k = absurd (omega (arith, k.0))
 not_renewed o past g old new SaveFault fits h k = absurd (omega (arith, k.0))
@@ -94,12 +96,14 @@ not_renewed o past g old new _ fits h k = absurd k
 -- ---- a cut within one
 
 -- Behind the save.
-pub cut_new : (o : Opening) (past : List FrameEntry) (g : ℕ) (new : ClientNode) → Stands o (Cut ∷ Renew g Saved ∷ past) new → Stands o (Renew g LostNew ∷ past) new
+pub cut_new : (o : Opening) (past : List FrameEntry) (g : ℕ) (new : ClientNode) → Stands o (Cut ∷ Renew g Saved ∷ past) new
+    → Stands o (Renew g LostNew ∷ past) new
 cut_new o past g (On client) s = let clash = s.1 in absurd cc
 cut_new o past g (Off notes) s = (s.0, refl, s.2)
 
 -- Before it: there is no note, as before.
-pub cut_old : (o : Opening) (past : List FrameEntry) (g : ℕ) (notes : Kept) → (note_of notes).bytes ≡ [] → is_blank (words_noted o (packets_heard o past)) ≡ true → Stands o (Renew g LostOld ∷ past) (Off notes)
+pub cut_old : (o : Opening) (past : List FrameEntry) (g : ℕ) (notes : Kept) → (note_of notes).bytes ≡ []
+    → is_blank (words_noted o (packets_heard o past)) ≡ true → Stands o (Renew g LostOld ∷ past) (Off notes)
 cut_old o past g notes none h = (says_nothing (note_of notes).bytes (words_noted o (packets_heard o past)) none h, refl, inl none)
 
 -- A renewal that is refused saves nothing: there is a note, or it is refused as it is.

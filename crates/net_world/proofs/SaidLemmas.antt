@@ -18,7 +18,8 @@ use Rattle.client_core.specs.Laws as asked
 use Rattle.client_core.specs.Words.{has_mirror}
 use Rattle.mirror_core.specs.Laws as mirrors
 use Rattle.net_world.specs.Setup.{Setup}
-use Rattle.net_world.specs.Trace.{Step, AtServer, AtClient, AtMirror, opening_of, client_opening, mirror_opening, of_server, of_client, of_mirror, packets_of, sent_packets}
+use Rattle.net_world.specs.Trace.{Step, AtServer, AtClient, AtMirror, opening_of, client_opening}
+use Rattle.net_world.specs.Trace.{mirror_opening, of_server, of_client, of_mirror, packets_of, sent_packets}
 use Rattle.net_world.proofs.MirrorLemmas.{sent_by_mirror}
 use Rattle.net_world.proofs.TraceLemmas.{own_step, sent_cases, sent_none}
 use Rattle.net_world.proofs.BegunLemmas.{begun, work_begun, begun_stays}
@@ -65,12 +66,19 @@ later s (AtServer r e) past p h = more_if s (r == s) (of_server s past) e p h
 later s (AtClient e) past p h = h
 later s (AtMirror e) past p h = h
 
-sent_now : Sayings → (w : Setup) (s : ℕ) (step : Step) (past : List Step) (p : PacketParts) → p.from ≡ Server s → Contains (packets_of w past step) p → SentBy s (of_server s (step ∷ past)) p
+sent_now : Sayings → (w : Setup) (s : ℕ) (step : Step) (past : List Step) (p : PacketParts) → p.from ≡ Server s → Contains (packets_of w past step) p
+    → SentBy s (of_server s (step ∷ past)) p
 sent_now laws w s (AtServer r e) past p from h =
     let k = laws.to_client (opening_of r) (of_server r past) e p h in
     let same : r ≡ s = server_apart r s (sym (ap (λ (q : PacketParts). q.from) k.ends) ∙ from) in
     rw (own_step r s e past same)
-    (record { newer = []; entry = e; older = of_server s past; split = refl; sends = subst (λ m. Contains (servers.packets (opening_of m) (of_server m past) e) p) same h })
+    (record {
+      newer = [];
+      entry = e;
+      older = of_server s past;
+      split = refl;
+      sends = subst (λ m. Contains (servers.packets (opening_of m) (of_server m past) e) p) same h;
+    })
 sent_now laws w s (AtClient e) past p from h =
     absurd (not_client s (sym (from_client (laws.to_peers (client_opening w) (of_client w past) e p h)) ∙ from))
   where
@@ -87,7 +95,8 @@ sent_by laws w s (step ∷ past) p from h =
       | inr now ↦ sent_now laws w s step past p from now
     ]
 
-begun_on : served.NumbersGrow → (o : Opening) (run : ℕ) (newer older : List Entry) (jobs : List Job) → begun o run older ≡ Some jobs → begun o run (newer ++ older) ≡ Some jobs
+begun_on : served.NumbersGrow → (o : Opening) (run : ℕ) (newer older : List Entry) (jobs : List Job) → begun o run older ≡ Some jobs
+    → begun o run (newer ++ older) ≡ Some jobs
 begun_on grow o run [] older jobs h = h
 begun_on grow o run (e ∷ newer) older jobs h = begun_stays grow o run e (newer ++ older) jobs (begun_on grow o run newer older jobs h)
 
@@ -97,15 +106,18 @@ pub record SaysJobs (o : Opening) (list : List Entry) (run jobs : ℕ) : Type 0 
   pub is : begun o run list ≡ Some set
   pub count : jobs ≡ length set
 
-says_jobs : Sayings → (o : Opening) (list newer older : List Entry) (e : Entry) (run jobs : ℕ) (w : Work) → list ≡ newer ++ e ∷ older → work o (e ∷ older) ≡ Some w → w.run ≡ run → jobs ≡ length w.jobs → SaysJobs o list run jobs
+says_jobs : Sayings → (o : Opening) (list newer older : List Entry) (e : Entry) (run jobs : ℕ) (w : Work) → list ≡ newer ++ e ∷ older
+    → work o (e ∷ older) ≡ Some w → w.run ≡ run → jobs ≡ length w.jobs → SaysJobs o list run jobs
 says_jobs laws o list newer older e run jobs w split works same number = record {
   set = w.jobs;
-  is = subst (λ l. begun o run l ≡ Some w.jobs) (sym split) (begun_on laws.grow o run newer (e ∷ older) w.jobs (subst (λ r. begun o r (e ∷ older) ≡ Some w.jobs) same (work_begun o (e ∷ older) w works)));
+  is = subst (λ l. begun o run l ≡ Some w.jobs) (sym split)
+      (begun_on laws.grow o run newer (e ∷ older) w.jobs (subst (λ r. begun o r (e ∷ older) ≡ Some w.jobs) same (work_begun o (e ∷ older) w works)));
   count = number;
 }
 
 -- A State that was sent.
-pub state_says : Sayings → (s : ℕ) (list : List Entry) (p : PacketParts) (jobs : ℕ) (a : State) → SentBy s list p → p.body ≡ bodies.State jobs a → SaysJobs (opening_of s) list a.key.run jobs
+pub state_says : Sayings → (s : ℕ) (list : List Entry) (p : PacketParts) (jobs : ℕ) (a : State) → SentBy s list p → p.body ≡ bodies.State jobs a
+    → SaysJobs (opening_of s) list a.key.run jobs
 state_says laws s list p jobs a h is =
     let o = opening_of s in
     let k = laws.jobs o h.older h.entry p jobs a h.sends is in
@@ -121,7 +133,8 @@ pub record SaysNone (o : Opening) (list : List Entry) (run j jobs : ℕ) : Type 
   pub says : SaysJobs o list run jobs
   pub none : takings o run j list ≡ []
 
-pub none_says : Sayings → (s : ℕ) (list : List Entry) (p : PacketParts) (run j jobs : ℕ) → SentBy s list p → p.body ≡ bodies.NoState run j jobs → SaysNone (opening_of s) list run j jobs
+pub none_says : Sayings → (s : ℕ) (list : List Entry) (p : PacketParts) (run j jobs : ℕ) → SentBy s list p → p.body ≡ bodies.NoState run j jobs
+    → SaysNone (opening_of s) list run j jobs
 none_says laws s list p run j jobs h is =
     let o = opening_of s in
     let here = h.entry ∷ h.older in

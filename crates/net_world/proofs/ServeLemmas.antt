@@ -1,5 +1,6 @@
 -- What a step of a server's node comes to in a world.
-use Rattle.std.proofs.Common.{◌≡◌, refl, sym, ◌∙◌, ap, subst, inl, inr, ◌⊎◌, ℕ, ◌<◌, ◌≤◌, ◌+◌, ◌*◌, arith, Bool, true, false, List, [], length, Option, Some, None, Result, Ok, Err}
+use Rattle.std.proofs.Common.{◌≡◌, refl, sym, ◌∙◌, ap, subst, inl, inr, ◌⊎◌, ℕ, ◌<◌, ◌≤◌, ◌+◌, ◌*◌, arith}
+use Rattle.std.proofs.Common.{Bool, true, false, List, [], length, Option, Some, None, Result, Ok, Err}
 use Rattle.std.specs.Prelude.{map, nat_lt, slice_get, get_or, Vec}
 use Rattle.std.specs.declared.alloc.Global.{Global}
 use Rattle.disk_model.specs.declared.mem_disk.MemDisk.{MemDisk}
@@ -67,7 +68,8 @@ pub up_is : (w : Setup) (past : List Change) (s : ℕ) → is_up (opening_of s) 
 up_is w past s = ap words.is_on (heard_is w past s)
 
 -- The frames of an entry are those of its step.
-pub frames_are : (w : Setup) (past : List Change) (s : ℕ) (e : FrameEntry) → answers.frames (opening_of s) (entries past s) e ≡ frames_of_step w (steps past) (step_of s e)
+pub frames_are : (w : Setup) (past : List Change) (s : ℕ) (e : FrameEntry)
+    → answers.frames (opening_of s) (entries past s) e ≡ frames_of_step w (steps past) (step_of s e)
 frames_are w past s e =
     ap (answers.frames (opening_of s) (entries past s)) (sym (entry_again e)) ∙ (servers_stand w s (steps past)).sends (coming_of e)
 
@@ -85,11 +87,15 @@ second_fails a b f g h k = rw (h, k) refl
 pub none_there : (w : Setup) (past : List Change) (s : ℕ) → w.servers ≤ s → unless_on w (trace w past) (nodes.Server s) ≡ Some NoServer
 none_there w past s h = first_fails (nat_lt s w.servers) (is_on w (trace w past) (nodes.Server s)) NoServer NodeOff (le-ltb s w.servers h)
 
-pub is_off : (w : Setup) (past : List Change) (s : ℕ) → s < w.servers → is_up (opening_of s) (entries past s) ≡ false → unless_on w (trace w past) (nodes.Server s) ≡ Some NodeOff
-is_off w past s l h = second_fails (nat_lt s w.servers) (is_on w (trace w past) (nodes.Server s)) NoServer NodeOff (lt-ltb s w.servers l) (sym (up_is w past s) ∙ h)
+pub is_off : (w : Setup) (past : List Change) (s : ℕ) → s < w.servers → is_up (opening_of s) (entries past s) ≡ false
+    → unless_on w (trace w past) (nodes.Server s) ≡ Some NodeOff
+is_off w past s l h =
+    second_fails (nat_lt s w.servers) (is_on w (trace w past) (nodes.Server s)) NoServer NodeOff (lt-ltb s w.servers l) (sym (up_is w past s) ∙ h)
 
-pub is_there : (w : Setup) (past : List Change) (s : ℕ) → s < w.servers → is_up (opening_of s) (entries past s) ≡ true → unless_on w (trace w past) (nodes.Server s) ≡ None
-is_there w past s l h = tests_pass (nat_lt s w.servers) (is_on w (trace w past) (nodes.Server s)) NoServer NodeOff (lt-ltb s w.servers l) (sym (up_is w past s) ∙ h)
+pub is_there : (w : Setup) (past : List Change) (s : ℕ) → s < w.servers → is_up (opening_of s) (entries past s) ≡ true
+    → unless_on w (trace w past) (nodes.Server s) ≡ None
+is_there w past s l h =
+    tests_pass (nat_lt s w.servers) (is_on w (trace w past) (nodes.Server s)) NoServer NodeOff (lt-ltb s w.servers l) (sym (up_is w past s) ∙ h)
 
 -- ---- frames are counted
 
@@ -101,20 +107,24 @@ first_is w past now stands = count_frames w past (sent_in now.sent) stands.sent_
 
 -- ---- what is refused sends nothing
 
-none_sent : (me : ℕ) (lost : Bool) (x : Option Fault) (fault : Fault) (bodies : List Body) → x ≡ Some fault → flat_map frames_of (to_client me (sent_by lost x bodies)) ≡ []
+none_sent : (me : ℕ) (lost : Bool) (x : Option Fault) (fault : Fault) (bodies : List Body) → x ≡ Some fault
+    → flat_map frames_of (to_client me (sent_by lost x bodies)) ≡ []
 none_sent me lost x fault bodies h = rw h refl
 
-event_sends : (o : server.Opening) (list : List server.Entry) (e : Event) (fault : Fault) → packet_answers.refusal o list e ≡ Some fault → answers.frames_by o list (Some (server.Met e NoSave)) ≡ []
+event_sends : (o : server.Opening) (list : List server.Entry) (e : Event) (fault : Fault) → packet_answers.refusal o list e ≡ Some fault
+    → answers.frames_by o list (Some (server.Met e NoSave)) ≡ []
 event_sends o list e fault h = none_sent o.me false (packet_answers.refusal o list e) fault (replies (packet_answers.now o list) (request_of o.me e)) h
 
-piece_sends : (o : server.Opening) (list : List server.Entry) (q : PieceParts) (m : Meaning) (fault : Fault) → answers.refusal_of_sense o list (answers.sense_of q m) ≡ Some fault
+piece_sends : (o : server.Opening) (list : List server.Entry) (q : PieceParts) (m : Meaning) (fault : Fault)
+    → answers.refusal_of_sense o list (answers.sense_of q m) ≡ Some fault
     → answers.frames_by o list (heard_by (rules o) NoSave m) ≡ []
 piece_sends o list q (Says p) fault h = event_sends o list (events.Deliver p) fault h
 piece_sends o list q Waits fault h = refl
 piece_sends o list q Spoils fault h = refl
 piece_sends o list q Strays fault h = refl
 
-refused_sends : (o : server.Opening) (past : List FrameEntry) (e : Input) (fault : Fault) → answers.refusal o past e ≡ Some fault → answers.frames o past (Met e NoSave) ≡ []
+refused_sends : (o : server.Opening) (past : List FrameEntry) (e : Input) (fault : Fault) → answers.refusal o past e ≡ Some fault
+    → answers.frames o past (Met e NoSave) ≡ []
 refused_sends o past (inputs.Deliver (Whole p)) fault h = event_sends o (packets_heard o past) (events.Deliver p) fault h
 refused_sends o past (inputs.Deliver (Piece q)) fault h = piece_sends o (packets_heard o past) q (meaning (rules o) (heard_at o past) (Piece q)) fault h
 refused_sends o past (inputs.Issue j) fault h = event_sends o (packets_heard o past) (events.Issue j) fault h
@@ -138,7 +148,8 @@ pub record IsOf (sent : List (List ℕ)) (outs : Outs) (served : Served) : Type 
   pub issue : served.issue ≡ outs.issue
   pub act : served.act ≡ outs.act
 
-pub serve_ends : (w : Setup) (past : List Change) (s : ℕ) (e : Input) (outs : Outs) (served : Served) (old new : World) → StandsFor w past old → HasServed s e (Ok outs) outs.frames old new → IsOf (sent_in old.sent) outs served
+pub serve_ends : (w : Setup) (past : List Change) (s : ℕ) (e : Input) (outs : Outs) (served : Served) (old new : World) → StandsFor w past old
+    → HasServed s e (Ok outs) outs.frames old new → IsOf (sent_in old.sent) outs served
     → Serves w past s e new served
 serve_ends w past s e outs served old new stands h is =
     let o = opening_of s in
@@ -157,8 +168,10 @@ serve_ends w past s e outs served old new stands h is =
       stands = server_stepped w past s (answers.answered_entry o es e) h.node outs.frames old new stands h.moved sent a.stands;
     }
 
-refused : (w : Setup) (past : List Change) (s : ℕ) (e : Input) (fault : Fault) (old new : World) → StandsFor w past old → (h : HasServed s e (Err fault) [] old new) → s < w.servers
-    → any_node.IsOff (server_nodes (opening_of s)) (entries past s) fault h.node ⊎ any_node.Refuses (server_nodes (opening_of s)) (entries past s) e fault h.node
+refused : (w : Setup) (past : List Change) (s : ℕ) (e : Input) (fault : Fault) (old new : World) → StandsFor w past old
+    → (h : HasServed s e (Err fault) [] old new) → s < w.servers
+    → any_node.IsOff (server_nodes (opening_of s)) (entries past s) fault h.node
+    ⊎ any_node.Refuses (server_nodes (opening_of s)) (entries past s) e fault h.node
     → IsBarred w past s fault new ⊎ Refuses w past s e fault new
 refused w past s e fault old new stands h l (inl off) =
     inl (record { why = is_off w past s l off.off ∙ ap Some (sym off.why); unchanged = server_kept w past s h.node old new stands h.moved off.unchanged })
@@ -172,13 +185,15 @@ refused w past s e fault old new stands h l (inr r) =
       unchanged = λ d. server_kept w past s h.node old new stands h.moved (r.unchanged d);
     })
 
-by_sort : (w : Setup) (past : List Change) (s : ℕ) (e : Input) (fault : Fault) (old new : World) → StandsFor w past old → (h : HasServed s e (Err fault) [] old new) → s < w.servers
+by_sort : (w : Setup) (past : List Change) (s : ℕ) (e : Input) (fault : Fault) (old new : World) → StandsFor w past old
+    → (h : HasServed s e (Err fault) [] old new) → s < w.servers
     → (sort : FaultSort) → any_node.Faults (server_nodes (opening_of s)) (entries past s) e sort fault h.node → Faults w past s e sort fault new
 by_sort w past s e fault old new stands h l sorts.Memory f = (f.0, server_kept w past s h.node old new stands h.moved f.1)
 by_sort w past s e fault old new stands h l sorts.Save f = f
 by_sort w past s e fault old new stands h l sorts.Refusal f = refused w past s e fault old new stands h l f
 
-pub serve_fails : (w : Setup) (past : List Change) (s : ℕ) (e : Input) (fault : Fault) (old new : World) → StandsFor w past old → HasServed s e (Err fault) [] old new
+pub serve_fails : (w : Setup) (past : List Change) (s : ℕ) (e : Input) (fault : Fault) (old new : World) → StandsFor w past old
+    → HasServed s e (Err fault) [] old new
     → ServerEnds w past s e new (Err fault)
 serve_fails w past s e fault old new stands h =
     let l : s < w.servers = omega (arith, h.moved.there, stands.number) in
@@ -187,13 +202,15 @@ serve_fails w past s e fault old new stands h =
 -- ---- nothing comes of it
 
 -- There is no such server.
-pub none_serves : (w : Setup) (past : List Change) (s : ℕ) (e : Input) (now : World) → StandsFor w past now → nat_lt s (length now.servers.items) ≡ false → ServerEnds w past s e now (Err NoServer)
+pub none_serves : (w : Setup) (past : List Change) (s : ℕ) (e : Input) (now : World) → StandsFor w past now → nat_lt s (length now.servers.items) ≡ false
+    → ServerEnds w past s e now (Err NoServer)
 none_serves w past s e now stands h =
     let l : w.servers ≤ s = omega (arith, stands.number, ltb-false s (length now.servers.items) h) in
     inl (record { why = none_there w past s l; unchanged = stands })
 
 -- All but the frames' places in memory is as it was.
-pub settled : (w : Setup) (past : List Change) (old new : World) → StandsFor w past old → sent_in new.sent ≡ sent_in old.sent → new.servers ≡ old.servers → new.client ≡ old.client → new.files ≡ old.files → new.mirror ≡ old.mirror → StandsFor w past new
+pub settled : (w : Setup) (past : List Change) (old new : World) → StandsFor w past old → sent_in new.sent ≡ sent_in old.sent → new.servers ≡ old.servers
+    → new.client ≡ old.client → new.files ≡ old.files → new.mirror ≡ old.mirror → StandsFor w past new
 settled w past old new stands sent servers client files mirror = record {
   some = stands.some;
   few = stands.few;
@@ -208,7 +225,8 @@ settled w past old new stands sent servers client files mirror = record {
 }
 
 -- Memory has run out.
-pub lacks : (w : Setup) (past : List Change) (s : ℕ) (e : Input) (old new : World) → StandsFor w past old → sent_in new.sent ≡ sent_in old.sent → new.servers ≡ old.servers → new.client ≡ old.client → new.files ≡ old.files
+pub lacks : (w : Setup) (past : List Change) (s : ℕ) (e : Input) (old new : World) → StandsFor w past old → sent_in new.sent ≡ sent_in old.sent
+    → new.servers ≡ old.servers → new.client ≡ old.client → new.files ≡ old.files
     → new.mirror ≡ old.mirror → ServerEnds w past s e new (Err NoMemory)
 lacks w past s e old new stands sent servers client files mirror = (refl, settled w past old new stands sent servers client files mirror)
 
@@ -233,7 +251,8 @@ up_of w past s h = up_is w past s ∙ by_test (is_on w (trace w past) (nodes.Ser
   where
     by_test : (b : Bool) → is_on w (trace w past) (nodes.Server s) ≡ b → is_on w (trace w past) (nodes.Server s) ≡ true
     by_test true e = e
-    by_test false e = absurd (some_none (sym (second_fails (nat_lt s w.servers) (is_on w (trace w past) (nodes.Server s)) NoServer NodeOff (lt-ltb s w.servers (on_below w past s h)) e) ∙ h))
+    by_test false e = absurd (some_none (sym (second_fails (nat_lt s w.servers) (is_on w (trace w past) (nodes.Server s)) NoServer NodeOff
+        (lt-ltb s w.servers (on_below w past s h)) e) ∙ h))
       where
         some_none : Some NodeOff ≡ None → ⊥
         some_none e = cc

@@ -14,7 +14,8 @@ use Rattle.net_world.specs.declared.server_node.ServerNode.TheVariants.{On}
 use Rattle.net_world.specs.ServerNodes.{server_nodes, is_up}
 use Rattle.net_world.proofs.NodeLemmas.{Laws, stays}
 
-piece_stays : (o : Opening) (list : List server.Entry) (left : Left) (m : Meaning) → words.is_on list ≡ true → is_lost left ≡ false → words.is_on (with_entry (heard_by (rules o) left m) list) ≡ true
+piece_stays : (o : Opening) (list : List server.Entry) (left : Left) (m : Meaning) → words.is_on list ≡ true → is_lost left ≡ false
+    → words.is_on (with_entry (heard_by (rules o) left m) list) ≡ true
 piece_stays o list left (Says p) h k = stays (words.is_on list) (is_lost left) h k
 piece_stays o list left Waits h k = h
 piece_stays o list left Spoils h k = h

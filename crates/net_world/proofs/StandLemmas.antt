@@ -40,7 +40,8 @@ unfolding next
 hears_same s [] = refl
 hears_same s (c ∷ past) = ap (λ h. next s h (coming_of (frame_entry c))) (hears_same s past) ∙ next_same s (heard (at_server s) past) c
 
-frames_same : (s : ℕ) (list : List server.Entry) (x : Option server.Entry) → sends.frames_by (opening_of s) list x ≡ frames_by (answers.packets (opening_of s)) list x
+frames_same : (s : ℕ) (list : List server.Entry) (x : Option server.Entry)
+    → sends.frames_by (opening_of s) list x ≡ frames_by (answers.packets (opening_of s)) list x
 frames_same s list None = refl
 frames_same s list (Some e) = refl
 

@@ -9,7 +9,8 @@ use Rattle.disk_model.specs.declared.left.Left.{Left}
 use Rattle.disk_model.specs.declared.left.Left.TheVariants.{NoSave, Saved, LostNew, LostOld}
 use Rattle.server_core.specs.declared.event.Event.{Event}
 use Rattle.server_core.specs.History.{Opening, Entry, Met, Cut, Restart}
-use Rattle.server_core.specs.Request.{Request, ToStage, ToStart, ToTrigger, ToMark, ToStop, ToVerify, ToHold, ToPassFully, ToIssue, ToEnd, ToReport, ToNobody, request_of}
+use Rattle.server_core.specs.Request.{Request, ToStage, ToStart, ToTrigger, ToMark, ToStop, ToVerify}
+use Rattle.server_core.specs.Request.{ToHold, ToPassFully, ToIssue, ToEnd, ToReport, ToNobody, request_of}
 use Rattle.server_core.specs.Run.{Work, is_open}
 use Rattle.server_core.specs.Words.{Staged, for_run, is_on, due_by, last_run, work, staged_run, due}
 use Rattle.server_core.specs.Laws.{NumbersGrow}
@@ -64,10 +65,13 @@ weaker : (a b : ℕ) (xs : List ℕ) → a ≤ b → AllByRecursion (λ r. r ≤
 weaker a b [] l h = tt
 weaker a b (x ∷ xs) l h = (let p = h.0 in omega (arith, l), weaker a b xs l h.1)
 
-started_now : (o : Opening) (past : List Entry) (e : Event) (left : Left) (d : Option Staged) → NumbersGrow → due o past e ≡ d → AllByRecursion (λ r. r ≤ last_run o past) (started_runs o past)
+started_now : (o : Opening) (past : List Entry) (e : Event) (left : Left) (d : Option Staged) → NumbersGrow → due o past e ≡ d
+    → AllByRecursion (λ r. r ≤ last_run o past) (started_runs o past)
     → AllByRecursion (λ r. r ≤ last_run o (Met e left ∷ past)) (started_by left d ++ started_runs o past)
-started_now o past e Saved (Some s) grow is h =
-    (let now = recorded_now o past e s is in omega (arith, now), weaker (last_run o past) (last_run o (Met e Saved ∷ past)) (started_runs o past) (grow o (Met e Saved) past).0 h)
+started_now o past e Saved (Some s) grow is h = (
+  let now = recorded_now o past e s is in omega (arith, now),
+  weaker (last_run o past) (last_run o (Met e Saved ∷ past)) (started_runs o past) (grow o (Met e Saved) past).0 h,
+)
 started_now o past e Saved None grow is h = weaker (last_run o past) (last_run o (Met e Saved ∷ past)) (started_runs o past) (grow o (Met e Saved) past).0 h
 started_now o past e NoSave d grow is h = weaker (last_run o past) (last_run o (Met e NoSave ∷ past)) (started_runs o past) (grow o (Met e NoSave) past).0 h
 started_now o past e LostNew d grow is h = weaker (last_run o past) (last_run o (Met e LostNew ∷ past)) (started_runs o past) (grow o (Met e LostNew) past).0 h
@@ -86,7 +90,8 @@ not_has (x ∷ xs) a r l h =
     let other : (x == r) ≡ false = grind (arith, nat_tests) in
     rw (other, not_has xs a r l h.1) refl
 
-distinct_after : (o : Opening) (past : List Entry) (e : Event) (left : Left) (d : Option Staged) → NumbersGrow → due o past e ≡ d → is_distinct (started_runs o past) ≡ true → is_distinct (started_by left d ++ started_runs o past) ≡ true
+distinct_after : (o : Opening) (past : List Entry) (e : Event) (left : Left) (d : Option Staged) → NumbersGrow → due o past e ≡ d
+    → is_distinct (started_runs o past) ≡ true → is_distinct (started_by left d ++ started_runs o past) ≡ true
 distinct_after o past e Saved (Some s) grow is h =
     rw (not_has (started_runs o past) (last_run o past) s.run (due_above o past e s is) (started_below grow o past), h) refl
 distinct_after o past e Saved None grow is h = h

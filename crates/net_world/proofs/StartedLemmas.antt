@@ -59,7 +59,8 @@ same_generation true (Some NextAttempt) n = refl
 same_generation true (Some (Keep state)) n = refl
 same_generation false (Some a) n = refl
 
-met_written : (on : Bool) (p : Peers) (n : Noted) (c : Call) (left : Left) → (on ≡ true → nat_lt 0 n.generation ≡ true) → (is_blank n ≡ false → nat_lt 0 n.generation ≡ true)
+met_written : (on : Bool) (p : Peers) (n : Noted) (c : Call) (left : Left) → (on ≡ true → nat_lt 0 n.generation ≡ true)
+    → (is_blank n ≡ false → nat_lt 0 n.generation ≡ true)
     → is_blank (noted_after (has_new left) (due_by on p n c) n) ≡ false → nat_lt 0 (noted_after (has_new left) (due_by on p n c) n).generation ≡ true
 met_written true p n c left f g h = ap (λ (x : ℕ). nat_lt 0 x) (same_generation (has_new left) (due_by true p n c) n) ∙ f refl
 met_written false p n c left f g h = g h
@@ -67,7 +68,8 @@ met_written false p n c left f g h = g h
 positive : (g : ℕ) → is_generation g ≡ true → nat_lt 0 g ≡ true
 positive g h = let low = (and_parts (nat_le 1 g) _ h).0 in grind (arith, nat_tests)
 
-renewed_positive : (b : Bool) (g : ℕ) (n : Noted) → is_generation g ≡ true → (b ≡ false → nat_lt 0 n.generation ≡ true) → nat_lt 0 (if b then new_note g else n).generation ≡ true
+renewed_positive : (b : Bool) (g : ℕ) (n : Noted) → is_generation g ≡ true → (b ≡ false → nat_lt 0 n.generation ≡ true)
+    → nat_lt 0 (if b then new_note g else n).generation ≡ true
 renewed_positive true g n h f = positive g h
 renewed_positive false g n h f = f refl
 
@@ -82,13 +84,15 @@ not_blank g left b h s e = by left (is_generation g) h s e
     by lefts.LostNew x f k y = absurd cc
     by lefts.LostOld x f k y = absurd cc
 
-renewed_written : (b : Bool) (g : ℕ) (n : Noted) → is_generation g ≡ true → (is_blank n ≡ false → nat_lt 0 n.generation ≡ true) → is_blank (if b then new_note g else n) ≡ false → nat_lt 0 (if b then new_note g else n).generation ≡ true
+renewed_written : (b : Bool) (g : ℕ) (n : Noted) → is_generation g ≡ true → (is_blank n ≡ false → nat_lt 0 n.generation ≡ true)
+    → is_blank (if b then new_note g else n) ≡ false → nat_lt 0 (if b then new_note g else n).generation ≡ true
 renewed_written true g n h f e = positive g h
 renewed_written false g n h f e = f e
 
 goes_on : (o : Opening) (e : Entry) (past : List Entry) → is_with_mirror o past e ≡ true → IsOfGeneration o past → IsOfGeneration o (e ∷ past)
 goes_on o (client.Met c left) past h s = record {
-  on = λ k. ap (λ (x : ℕ). nat_lt 0 x) (same_generation (has_new left) (due_by (is_on past) (peers o past) (words_noted o past) c) (words_noted o past)) ∙ s.on (and_parts (is_on past) (not (is_lost left)) k).0;
+  on = λ k. ap (λ (x : ℕ). nat_lt 0 x) (same_generation (has_new left) (due_by (is_on past) (peers o past) (words_noted o past) c) (words_noted o past))
+      ∙ s.on (and_parts (is_on past) (not (is_lost left)) k).0;
   written = met_written (is_on past) (peers o past) (words_noted o past) c left s.on s.written;
 }
 goes_on o client.Cut past h s = record { on = λ k. absurd cc; written = s.written }
@@ -117,7 +121,8 @@ said_so w list left Strays = tt
 heard_so : (w : Setup) (past : List FrameStep) (c : Coming Entry Left) → w.mirror ≡ true → is_allowed w past (OfClient c) ≡ true
     → IsWithMirror (client_opening w) (of_client w (trace_heard w past)) (entry_of (at_client w) (heard (at_client w) (frames.of_client w past)) c)
 unfolding IsWithMirror
-heard_so w past (Comes f left) has h = said_so w (of_client w (trace_heard w past)) left (meaning (at_client w) (heard (at_client w) (frames.of_client w past)) f)
+heard_so w past (Comes f left) has h =
+    said_so w (of_client w (trace_heard w past)) left (meaning (at_client w) (heard (at_client w) (frames.of_client w past)) f)
 heard_so w past (Happens e) has h =
     when_with w.mirror (is_with_mirror (client_opening w) (of_client w (trace_heard w past)) e) (is_alone e) has h
 
@@ -130,10 +135,12 @@ first_one : (w : Setup) (b : Bool) → b ≡ true → IsOfGeneration (client_ope
 first_one w true h = record { on = λ k. refl; written = λ k. refl }
 first_one w false h = absurd cc
 
-pub is_of_generation : (w : Setup) (ps : List FrameStep) → w.mirror ≡ true → IsFrameTrace w ps → IsOfGeneration (client_opening w) (of_client w (trace_heard w ps))
+pub is_of_generation : (w : Setup) (ps : List FrameStep) → w.mirror ≡ true → IsFrameTrace w ps
+    → IsOfGeneration (client_opening w) (of_client w (trace_heard w ps))
 is_of_generation w [] has h = first_one w w.mirror has
 is_of_generation w (OfServer s c ∷ past) has h =
-    subst (IsOfGeneration (client_opening w)) (sym (client_by_server w s (entry_of (at_server s) (heard (at_server s) (of_server s past)) c) (trace_heard w past))) (is_of_generation w past has h.0)
+    subst (IsOfGeneration (client_opening w)) (sym (client_by_server w s (entry_of (at_server s) (heard (at_server s) (of_server s past)) c)
+    (trace_heard w past))) (is_of_generation w past has h.0)
 is_of_generation w (OfClient c ∷ past) has h =
     let x = entry_of (at_client w) (heard (at_client w) (frames.of_client w past)) c in
     subst (IsOfGeneration (client_opening w)) (sym (client_with w x (trace_heard w past)))
@@ -146,7 +153,8 @@ starts : (b blank : Bool) (g : ℕ) → (b && blank) ≡ false → (b ≡ true �
 starts true blank g h f = f refl h
 starts false blank g h f = refl
 
-pub restart_fits : (w : Setup) (ps : List FrameStep) → IsFrameTrace w ps → (w.mirror && is_blank (noted_in w (trace_heard w ps))) ≡ false → is_of_setup w (trace_heard w ps) (AtClient (client.Restart w.mirror)) ≡ true
+pub restart_fits : (w : Setup) (ps : List FrameStep) → IsFrameTrace w ps → (w.mirror && is_blank (noted_in w (trace_heard w ps))) ≡ false
+    → is_of_setup w (trace_heard w ps) (AtClient (client.Restart w.mirror)) ≡ true
 restart_fits w ps h e =
     starts w.mirror (is_blank (noted_in w (trace_heard w ps))) (noted_in w (trace_heard w ps)).generation e (λ has k. (is_of_generation w ps has h).written k)
 
@@ -161,11 +169,13 @@ none_of (x ∷ gs) g h =
     differ : (a b : ℕ) → nat_lt a b ≡ true → (a == b) ≡ false
     differ a b l = grind (arith, nat_tests)
 
-renews : (b : Bool) (g : ℕ) (gs : List ℕ) (y : Bool) → b ≡ true → is_generation g ≡ true → has gs g ≡ false → (if b then (is_generation g && not (has gs g)) else y) ≡ true
+renews : (b : Bool) (g : ℕ) (gs : List ℕ) (y : Bool) → b ≡ true → is_generation g ≡ true → has gs g ≡ false
+    → (if b then (is_generation g && not (has gs g)) else y) ≡ true
 renews true g gs y h k l = rw (k, l) refl
 renews false g gs y h k l = absurd cc
 
-pub renewal_fits : (w : Setup) (ps : List FrameStep) (g : ℕ) (left : Left) → option_or (unless_losable w (trace_heard w ps)) (unless_unused w (trace_heard w ps) g) ≡ None
+pub renewal_fits : (w : Setup) (ps : List FrameStep) (g : ℕ) (left : Left)
+    → option_or (unless_losable w (trace_heard w ps)) (unless_unused w (trace_heard w ps) g) ≡ None
     → is_of_setup w (trace_heard w ps) (AtClient (client.Renew g left)) ≡ true
 renewal_fits w ps g left h =
     let t = trace_heard w ps in

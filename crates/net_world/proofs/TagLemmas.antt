@@ -38,7 +38,8 @@ long law b h k c = short b (length_limit (kind_of b)) (law b h k) (omega arith) 
 tags_are : (b c x y : Body) → b ≡ x → c ≡ y → tag_of b ≡ tag_of c → tag_of x ≡ tag_of y
 tags_are b c x y h k e = sym (ap tag_of h) ∙ e ∙ ap tag_of k
 
-same_body : OfEachTrace OneTextOfEachRun → OfEachTrace OneTextOfEachAttempt → (w : Setup) (t : List Step) → IsTrace w t → (p q : PacketParts) → Contains (sent_packets w t) p → Contains (sent_packets w t) q → tag_of p.body ≡ tag_of q.body → Long p.body → Long q.body → p.body ≡ q.body
+same_body : OfEachTrace OneTextOfEachRun → OfEachTrace OneTextOfEachAttempt → (w : Setup) (t : List Step) → IsTrace w t → (p q : PacketParts)
+    → Contains (sent_packets w t) p → Contains (sent_packets w t) q → tag_of p.body ≡ tag_of q.body → Long p.body → Long q.body → p.body ≡ q.body
 same_body texts checks w t trace p q i j e (OfJobs run text h) (OfJobs other more k) =
     let run_is : run ≡ other = ap (λ (x : Tag). x.run) (tags_are p.body q.body (bodies.Jobs run text) (bodies.Jobs other more) h k e) in
     let k_is : q.body ≡ bodies.Jobs run more = subst (λ x. q.body ≡ bodies.Jobs x more) (sym run_is) k in
@@ -47,7 +48,8 @@ same_body texts checks w t trace p q i j e (OfVerify run a text h) (OfVerify oth
     let tags = tags_are p.body q.body (bodies.Verify run a text) (bodies.Verify other b more) h k e in
     let attempt_is : a ≡ b = ap (λ (x : Tag). x.number) tags in
     let run_is : run ≡ other = ap (λ (x : Tag). x.run) tags in
-    let k_is : q.body ≡ bodies.Verify run a more = subst (λ x. q.body ≡ bodies.Verify run x more) (sym attempt_is) (subst (λ x. q.body ≡ bodies.Verify x b more) (sym run_is) k) in
+    let k_is : q.body ≡ bodies.Verify run a more =
+    subst (λ x. q.body ≡ bodies.Verify run x more) (sym attempt_is) (subst (λ x. q.body ≡ bodies.Verify x b more) (sym run_is) k) in
     h ∙ ap (bodies.Verify run a) (checks w t trace p q a run run text more i h j k_is).1 ∙ sym k_is
 same_body texts checks w t trace p q i j e (OfJobs run text h) (OfVerify other b more k) =
     let x = ap (λ (y : Tag). y.whole) (tags_are p.body q.body (bodies.Jobs run text) (bodies.Verify other b more) h k e) in absurd cc
@@ -59,4 +61,5 @@ in_range p h = (and_parts (is_node p.from && is_node p.to) (is_body p.body) h.in
 
 pub tags_name_one_body : LengthsAreBounded → OfEachTrace OneTextOfEachRun → OfEachTrace OneTextOfEachAttempt → TagsNameOneBody
 tags_name_one_body law texts checks w t trace are p q i j c d e =
-    same_body texts checks w t trace p q i j e (long law p.body (in_range p (are p i)) (are p i).state c) (long law q.body (in_range q (are q j)) (are q j).state d)
+    same_body texts checks w t trace p q i j e (long law p.body (in_range p (are p i)) (are p i).state c)
+    (long law q.body (in_range q (are q j)) (are q j).state d)

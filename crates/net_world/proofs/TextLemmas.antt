@@ -12,7 +12,8 @@ use Rattle.client_core.specs.Packets as clients
 use Rattle.client_core.specs.Laws.{OneTextOfARun, OneTextOfAnAttempt}
 use Rattle.mirror_core.specs.Laws.{PacketsGoToTheClient}
 use Rattle.net_world.specs.Setup.{Setup}
-use Rattle.net_world.specs.Trace.{Step, AtServer, AtClient, AtMirror, opening_of, client_opening, mirror_opening, of_server, of_client, of_mirror, packets_of, sent_packets}
+use Rattle.net_world.specs.Trace.{Step, AtServer, AtClient, AtMirror, opening_of, client_opening}
+use Rattle.net_world.specs.Trace.{mirror_opening, of_server, of_client, of_mirror, packets_of, sent_packets}
 use Rattle.net_world.specs.Claims.{OfEachTrace}
 use Rattle.net_world.specs.Headline.{OneTextOfEachRun, OneTextOfEachAttempt}
 use Rattle.net_world.proofs.MirrorLemmas.{sent_by_mirror}
@@ -25,7 +26,8 @@ before : (w : Setup) (step : Step) (past : List Step) (p : PacketParts) → BySe
 unfolding BySelf
 before w (AtServer r e) past p h = h
 before w (AtMirror e) past p h = h
-before w (AtClient e) past p h = Contains-append_left (clients.sent_packets (client_opening w) (of_client w past)) (clients.packets (client_opening w) (of_client w past) e) p h
+before w (AtClient e) past p h =
+    Contains-append_left (clients.sent_packets (client_opening w) (of_client w past)) (clients.packets (client_opening w) (of_client w past) e) p h
 
 -- No server sends this, nor does the mirror.
 IsOfClient : Body → Type 0
@@ -35,14 +37,18 @@ not_both : (b : Bool) → IsTrue b → b ≡ false → ⊥
 not_both true h k = absurd cc
 not_both false h k = absurd cc
 
-now : PacketsGoToClient → PacketsGoToTheClient → (w : Setup) (step : Step) (past : List Step) (p : PacketParts) → IsOfClient p.body → Contains (packets_of w past step) p → BySelf w (step ∷ past) p
+now : PacketsGoToClient → PacketsGoToTheClient → (w : Setup) (step : Step) (past : List Step) (p : PacketParts) → IsOfClient p.body
+    → Contains (packets_of w past step) p → BySelf w (step ∷ past) p
 unfolding BySelf IsOfClient
 now goes over w (AtServer r e) past p own h = absurd (not_both (is_of_server (kind_of p.body)) (goes (opening_of r) (of_server r past) e p h).kind own.0)
-now goes over w (AtClient e) past p own h = Contains-append_right (clients.sent_packets (client_opening w) (of_client w past)) (clients.packets (client_opening w) (of_client w past) e) p h
-now goes over w (AtMirror e) past p own h = absurd (not_both (is_of_mirror (kind_of p.body)) (sent_by_mirror over mirror_opening (of_mirror past) e p h).2 own.1)
+now goes over w (AtClient e) past p own h =
+    Contains-append_right (clients.sent_packets (client_opening w) (of_client w past)) (clients.packets (client_opening w) (of_client w past) e) p h
+now goes over w (AtMirror e) past p own h =
+    absurd (not_both (is_of_mirror (kind_of p.body)) (sent_by_mirror over mirror_opening (of_mirror past) e p h).2 own.1)
 
 -- A packet of a kind that no server and no mirror sends was sent by the client.
-client_sent : PacketsGoToClient → PacketsGoToTheClient → (w : Setup) (t : List Step) (p : PacketParts) → IsOfClient p.body → Contains (sent_packets w t) p → BySelf w t p
+client_sent : PacketsGoToClient → PacketsGoToTheClient → (w : Setup) (t : List Step) (p : PacketParts) → IsOfClient p.body → Contains (sent_packets w t) p
+    → BySelf w t p
 client_sent goes over w [] p own h = absurd (sent_none w p h)
 client_sent goes over w (step ∷ past) p own h = elim (sent_cases w step past p h) [
   | inl i ↦ before w step past p (client_sent goes over w past p own i)

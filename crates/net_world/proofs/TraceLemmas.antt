@@ -27,7 +27,8 @@ use Rattle.client_core.specs.Ranges.{packet_in, packets_come}
 use Rattle.client_core.specs.Words.{words_noted}
 use Rattle.mirror_core.specs.Laws as mirror_laws
 use Rattle.net_world.specs.Setup.{Setup}
-use Rattle.net_world.specs.Trace.{Step, AtServer, AtClient, AtMirror, opening_of, client_opening, first_entry, of_server, of_client, of_mirror, packets_of, sent_packets, taken_by, node_of, WasSentTo, is_alone, is_with_mirror, IsTrace}
+use Rattle.net_world.specs.Trace.{Step, AtServer, AtClient, AtMirror, opening_of, client_opening, first_entry, of_server, of_client}
+use Rattle.net_world.specs.Trace.{of_mirror, packets_of, sent_packets, taken_by, node_of, WasSentTo, is_alone, is_with_mirror, IsTrace}
 use Rattle.net_world.specs.Holders.{taken_of}
 use Rattle.disk_model.proofs.ListLemmas.{none_in, behind_one, each_of}
 
@@ -61,10 +62,12 @@ loses_none : (w : Setup) (t : List Step) → w.mirror ≡ false → IsTrace w t 
 loses_none w [] alone trace = rw alone refl
 loses_none w (AtServer s e ∷ past) alone trace = loses_none w past alone trace.0
 loses_none w (AtClient e ∷ past) alone trace =
-    loses_no_more e (of_client w past) (when_alone w.mirror (is_with_mirror (client_opening w) (of_client w past) e) (is_alone e) alone trace.2) (loses_none w past alone trace.0)
+    loses_no_more e (of_client w past) (when_alone w.mirror (is_with_mirror (client_opening w) (of_client w past) e) (is_alone e) alone trace.2)
+    (loses_none w past alone trace.0)
 loses_none w (AtMirror e ∷ past) alone trace = loses_none w past alone trace.0
 
-mirrored_more : (o : client.Opening) (e : client.Entry) (past : List client.Entry) → is_with_mirror o past e ≡ true → is_mirrored o past ≡ true → is_mirrored o (e ∷ past) ≡ true
+mirrored_more : (o : client.Opening) (e : client.Entry) (past : List client.Entry) → is_with_mirror o past e ≡ true → is_mirrored o past ≡ true
+    → is_mirrored o (e ∷ past) ≡ true
 mirrored_more o (client.Met c left) past h k = k
 mirrored_more o client.Cut past h k = k
 mirrored_more o (client.Restart mirror) past h k = both (mirror && nat_lt 0 (words_noted o past).generation) (is_mirrored o past) h k
@@ -76,7 +79,8 @@ mirrored : (w : Setup) (t : List Step) → w.mirror ≡ true → IsTrace w t →
 mirrored w [] has trace = rw has refl
 mirrored w (AtServer s e ∷ past) has trace = mirrored w past has trace.0
 mirrored w (AtClient e ∷ past) has trace =
-    mirrored_more (client_opening w) e (of_client w past) (when_with w.mirror (is_with_mirror (client_opening w) (of_client w past) e) (is_alone e) has trace.2) (mirrored w past has trace.0)
+    mirrored_more (client_opening w) e (of_client w past) (when_with w.mirror (is_with_mirror (client_opening w) (of_client w past) e) (is_alone e) has trace.2)
+    (mirrored w past has trace.0)
 mirrored w (AtMirror e ∷ past) has trace = mirrored w past has trace.0
 
 -- Its numbers stay apart either way.
@@ -102,7 +106,8 @@ among : (x : Option State) (states : List State) (state : State) → Contains st
 among None states state h = h
 among (Some y) states state h = behind_one y states state h
 
-taking_stays : (o : Opening) (run j : ℕ) (e : server.Entry) (past : List server.Entry) (state : State) → Contains (takings o run j past) state → Contains (takings o run j (e ∷ past)) state
+taking_stays : (o : Opening) (run j : ℕ) (e : server.Entry) (past : List server.Entry) (state : State) → Contains (takings o run j past) state
+    → Contains (takings o run j (e ∷ past)) state
 taking_stays o run j (server.Met e left) past state h = among (takes run j (request_of o.me e) (work o past)) (takings o run j past) state h
 taking_stays o run j server.Cut past state h = h
 taking_stays o run j (server.Restart left) past state h = h
@@ -112,7 +117,8 @@ stays_if : (key : Key) (t : Bool) (e : server.Entry) (past : List Step) (state :
 stays_if key true e past state h = taking_stays (opening_of key.server) key.run key.job e (of_server key.server past) state h
 stays_if key false e past state h = h
 
-pub taken_stays : (key : Key) (step : Step) (past : List Step) (state : State) → Contains (taken_of key past) state → Contains (taken_of key (step ∷ past)) state
+pub taken_stays : (key : Key) (step : Step) (past : List Step) (state : State) → Contains (taken_of key past) state
+    → Contains (taken_of key (step ∷ past)) state
 taken_stays key (AtServer r e) past state h = stays_if key (r == key.server) e past state h
 taken_stays key (AtClient e) past state h = h
 taken_stays key (AtMirror e) past state h = h
@@ -129,7 +135,8 @@ front_is_trace w (step ∷ later) t h = front_is_trace w later t h.0
 
 -- ---- what was sent stays sent
 
-pub sent_cases : (w : Setup) (step : Step) (past : List Step) (p : PacketParts) → Contains (sent_packets w (step ∷ past)) p → Contains (sent_packets w past) p ⊎ Contains (packets_of w past step) p
+pub sent_cases : (w : Setup) (step : Step) (past : List Step) (p : PacketParts) → Contains (sent_packets w (step ∷ past)) p
+    → Contains (sent_packets w past) p ⊎ Contains (packets_of w past step) p
 unfolding sent_packets
 sent_cases w step past p h = Contains-append_cases (sent_packets w past) (packets_of w past step) p h
 
@@ -144,7 +151,8 @@ sent_none w p h = none_in p h
 -- ---- what came was sent
 
 -- What a step of a trace takes was sent before.
-pub taken_was_sent : (w : Setup) (step : Step) (past : List Step) (p : PacketParts) → AllByRecursion (WasSentTo (sent_packets w past) (node_of step)) (taken_by step) → Contains (taken_by step) p → Contains (sent_packets w past) p
+pub taken_was_sent : (w : Setup) (step : Step) (past : List Step) (p : PacketParts)
+    → AllByRecursion (WasSentTo (sent_packets w past) (node_of step)) (taken_by step) → Contains (taken_by step) p → Contains (sent_packets w past) p
 taken_was_sent w step past p h c = (each_of (WasSentTo (sent_packets w past) (node_of step)) (taken_by step) p h c).0
 
 none_came : (b : Bool) (p : PacketParts) → Contains (packets_come (first_entry b ∷ [])) p → ⊥
@@ -163,7 +171,8 @@ came_was_sent w (AtClient e ∷ past) p h c =
 came_was_sent w (AtMirror e ∷ past) p h c = sent_stays w (AtMirror e) past p (came_was_sent w past p h.0 c)
 
 -- All that came to the mirror.
-pub copied_was_sent : (w : Setup) (t : List Step) (p : PacketParts) → IsTrace w t → Contains (mirror_laws.packets_come (of_mirror t)) p → Contains (sent_packets w t) p
+pub copied_was_sent : (w : Setup) (t : List Step) (p : PacketParts) → IsTrace w t → Contains (mirror_laws.packets_come (of_mirror t)) p
+    → Contains (sent_packets w t) p
 copied_was_sent w [] p h c = absurd (none_in p c)
 copied_was_sent w (AtServer r e ∷ past) p h c = sent_stays w (AtServer r e) past p (copied_was_sent w past p h.0 c)
 copied_was_sent w (AtClient e ∷ past) p h c = sent_stays w (AtClient e) past p (copied_was_sent w past p h.0 c)
@@ -180,19 +189,23 @@ heard_by (events.Issue j) older p h = inr h
 heard_by (events.WriteDone ticket end) older p h = inr h
 heard_by (events.CheckDone boot a j report) older p h = inr h
 
-heard_now : (e : server.Entry) (past : List server.Entry) (p : PacketParts) → Contains (heard_packets (e ∷ past)) p → Contains (heard_packets (e ∷ [])) p ⊎ Contains (heard_packets past) p
+heard_now : (e : server.Entry) (past : List server.Entry) (p : PacketParts) → Contains (heard_packets (e ∷ past)) p
+    → Contains (heard_packets (e ∷ [])) p ⊎ Contains (heard_packets past) p
 heard_now (server.Met e left) past p h = heard_by e (heard_packets past) p h
 heard_now server.Cut past p h = absurd (none_in p h)
 heard_now (server.Restart left) past p h = absurd (none_in p h)
 
-heard_if : (w : Setup) (r s : ℕ) (t : Bool) (e : server.Entry) (past : List Step) (p : PacketParts) → AllByRecursion (WasSentTo (sent_packets w past) (Server r)) (heard_packets (e ∷ []))
-    → (Contains (heard_packets (of_server s past)) p → Contains (sent_packets w past) p) → Contains (heard_packets (if t then e ∷ of_server s past else of_server s past)) p → Contains (sent_packets w past) p
+heard_if : (w : Setup) (r s : ℕ) (t : Bool) (e : server.Entry) (past : List Step) (p : PacketParts)
+    → AllByRecursion (WasSentTo (sent_packets w past) (Server r)) (heard_packets (e ∷ []))
+    → (Contains (heard_packets (of_server s past)) p → Contains (sent_packets w past) p)
+    → Contains (heard_packets (if t then e ∷ of_server s past else of_server s past)) p → Contains (sent_packets w past) p
 heard_if w r s false e past p was before h = before h
 heard_if w r s true e past p was before h =
     elim (heard_now e (of_server s past) p h) [ inl now ↦ taken_was_sent w (AtServer r e) past p was now | inr i ↦ before i ]
 
 -- All that came to a server in this life.
-pub heard_was_sent : (w : Setup) (s : ℕ) (t : List Step) (p : PacketParts) → IsTrace w t → Contains (heard_packets (of_server s t)) p → Contains (sent_packets w t) p
+pub heard_was_sent : (w : Setup) (s : ℕ) (t : List Step) (p : PacketParts) → IsTrace w t → Contains (heard_packets (of_server s t)) p
+    → Contains (sent_packets w t) p
 heard_was_sent w s [] p trace h = absurd (none_in p h)
 heard_was_sent w s (AtServer r e ∷ past) p trace h =
     sent_stays w (AtServer r e) past p (heard_if w r s (r == s) e past p trace.1 (heard_was_sent w s past p trace.0) h)

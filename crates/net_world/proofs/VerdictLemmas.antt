@@ -38,20 +38,25 @@ pub record Passes : Type 0 where
   pub checked_sent : OfEachTrace CheckedStatesWereSent
 
 -- What was taken in this life was taken.
-taken_or : (lost : Bool) (x : Option State) (states all : List State) (state : State) → (Contains states state → Contains all state) → Contains (if lost then [] else and_those x states) state → Contains (and_those x all) state
+taken_or : (lost : Bool) (x : Option State) (states all : List State) (state : State) → (Contains states state → Contains all state)
+    → Contains (if lost then [] else and_those x states) state → Contains (and_those x all) state
 taken_or true x states all state f h = absurd (none_in state h)
 taken_or false None states all state f h = f h
-taken_or false (Some y) states all state f h = elim (first_or_behind y states state h) [ inl e ↦ subst (Contains (y ∷ all)) e (first_of y all) | inr i ↦ behind_one y all state (f i) ]
+taken_or false (Some y) states all state f h =
+    elim (first_or_behind y states state h) [ inl e ↦ subst (Contains (y ∷ all)) e (first_of y all) | inr i ↦ behind_one y all state (f i) ]
 
-taken_in_life_was_taken : (o : Opening) (run j : ℕ) (past : List Entry) (state : State) → Contains (taken_in_life o run j past) state → Contains (takings o run j past) state
+taken_in_life_was_taken : (o : Opening) (run j : ℕ) (past : List Entry) (state : State) → Contains (taken_in_life o run j past) state
+    → Contains (takings o run j past) state
 taken_in_life_was_taken o run j [] state h = absurd (none_in state h)
 taken_in_life_was_taken o run j (Met e left ∷ past) state h =
-    taken_or (is_lost left) (takes run j (request_of o.me e) (work o past)) (taken_in_life o run j past) (takings o run j past) state (taken_in_life_was_taken o run j past state) h
+    taken_or (is_lost left) (takes run j (request_of o.me e) (work o past)) (taken_in_life o run j past) (takings o run j past) state
+    (taken_in_life_was_taken o run j past state) h
 taken_in_life_was_taken o run j (Cut ∷ past) state h = absurd (none_in state h)
 taken_in_life_was_taken o run j (Restart left ∷ past) state h = absurd (none_in state h)
 
 -- What a packet carries was taken.
-carried_was_taken : Passes → (w : Setup) (t : List Step) (p : PacketParts) (key : Key) (state : State) → state.key ≡ key → IsTrace w t → Contains (sent_packets w t) p → carried_state p.body ≡ Some state → Contains (taken_of key t) state
+carried_was_taken : Passes → (w : Setup) (t : List Step) (p : PacketParts) (key : Key) (state : State) → state.key ≡ key → IsTrace w t
+    → Contains (sent_packets w t) p → carried_state p.body ≡ Some state → Contains (taken_of key t) state
 carried_was_taken passes w t p key state is trace h c = was_taken passes.sent_taken w t key state is (passes.in_packets w t trace p state h c)
 
 -- Whoever holds a state holds one that was taken.
@@ -77,15 +82,18 @@ counts_the_completed passes counts w t trace key state h =
     counts (opening_of key.server) key.run key.job (of_server key.server t) state (held_was_taken passes w t key state trace h)
 
 -- A list behind a taking, split once more.
-split_more : (list newer later between rest : List Entry) (x y : Entry) → list ≡ newer ++ y ∷ rest → newer ≡ later ++ x ∷ between → list ≡ later ++ x ∷ (between ++ y ∷ rest)
+split_more : (list newer later between rest : List Entry) (x y : Entry) → list ≡ newer ++ y ∷ rest → newer ≡ later ++ x ∷ between
+    → list ≡ later ++ x ∷ (between ++ y ∷ rest)
 split_more list newer later between rest x y h g =
     h ∙ ap (λ l. l ++ y ∷ rest) g ∙ append_assoc later (x ∷ between) (y ∷ rest)
 
-since_is_quiet : QuietUntilChecked → (o : Opening) (run j : ℕ) (list : List Entry) (state : State) → state.key.run ≡ run → progress o list j ≡ Some (With state) → (taking : IsTaking o run j list state) → IsQuiet taking
+since_is_quiet : QuietUntilChecked → (o : Opening) (run j : ℕ) (list : List Entry) (state : State) → state.key.run ≡ run → progress o list j ≡ Some (With state)
+    → (taking : IsTaking o run j list state) → IsQuiet taking
 since_is_quiet quiet o run j list state is with taking later between e left g =
     let rest = taking.between ++ Met taking.start Saved ∷ taking.older in
     quiet o rest between later taking.trigger e taking.left left run j j state state taking.pulls
-    (subst (λ l. progress o l j ≡ Some (With state)) (split_more list taking.newer later between rest (Met e left) (Met taking.trigger taking.left) taking.split g) with)
+    (subst (λ l. progress o l j ≡ Some (With state)) (split_more list taking.newer later between rest (Met e left)
+    (Met taking.trigger taking.left) taking.split g) with)
     is
 
 pub quiet_until_the_check : Passes → CountsTheDone → WithWasHeard → QuietUntilChecked → OfEachTrace QuietUntilTheCheck
@@ -93,5 +101,6 @@ quiet_until_the_check passes counts heard quiet w t trace m j state h =
     let o = opening_of m in
     let run = last_run o (of_server m t) in
     let key : state.key ≡ record { run = run; server = m; job = j } = (heard o (of_server m t) j state h).key in
-    let taking : IsTaking o run j (of_server m t) state = counts_the_completed passes counts w t trace (record { run = run; server = m; job = j }) state (ByCheck m j h key) in
+    let taking : IsTaking o run j (of_server m t) state =
+    counts_the_completed passes counts w t trace (record { run = run; server = m; job = j }) state (ByCheck m j h key) in
     record { run = run; key = key; taking = taking; quiet = since_is_quiet quiet o run j (of_server m t) state (ap (λ (k : Key). k.run) key) h taking }

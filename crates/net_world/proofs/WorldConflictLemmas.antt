@@ -27,7 +27,8 @@ use Rattle.client_core.specs.Words as clients
 use Rattle.client_core.specs.Note.{is_blank}
 use Rattle.mirror_core.specs.Words as mirrors
 use Rattle.net_world.specs.Setup.{Setup}
-use Rattle.net_world.specs.Happenings.{Happening, Begin, Trigger, StopRun, Verify, Tick, Deliver, Issue, Land, Done, Fail, Rot, Cut, Restart, LoseNote, Renew, CutIn}
+use Rattle.net_world.specs.Happenings.{Happening, Begin, Trigger, StopRun, Verify, Tick, Deliver, Issue}
+use Rattle.net_world.specs.Happenings.{Land, Done, Fail, Rot, Cut, Restart, LoseNote, Renew, CutIn}
 use Rattle.net_world.specs.Happenings as happenings
 use Rattle.net_world.specs.Trace.{Step, IsTrace, of_server, of_client, of_mirror, opening_of, client_opening, mirror_opening, sent_packets}
 use Rattle.net_world.specs.Frames as frames
@@ -39,7 +40,9 @@ use Rattle.net_world.specs.Changes.{Change, steps, trace}
 use Rattle.net_world.specs.Writes.{open_at}
 use Rattle.net_world.specs.Checks.{end_of_check}
 use Rattle.net_world.specs.Barred.{barring_fault}
-use Rattle.net_world.specs.Outcomes.{Outcome, Does, Refuses, Drops, met_by_server, met_by_client, comes_to_server, comes_to_client, said_to_server, said_to_client, comes_to, delivery, end_of_write, end_of_check_met, has_boot, cut, noted_in, restart_of, cut_in, server_frame_cut, client_frame_cut, frame_cut, delivery_cut_in, restart_cut_in, brings, outcome}
+use Rattle.net_world.specs.Outcomes.{Outcome, Does, Refuses, Drops, met_by_server, met_by_client, comes_to_server, comes_to_client, said_to_server}
+use Rattle.net_world.specs.Outcomes.{said_to_client, comes_to, delivery, end_of_write, end_of_check_met, has_boot, cut, noted_in, restart_of}
+use Rattle.net_world.specs.Outcomes.{cut_in, server_frame_cut, client_frame_cut, frame_cut, delivery_cut_in, restart_cut_in, brings, outcome}
 use Rattle.net_world.specs.World.{told_by, world}
 use Rattle.net_world.specs.WorldLaws.{EachWorldIsAFrameTrace}
 use Rattle.net_world.specs.Claims.{OfEachTrace, OfEachWorld}
@@ -62,23 +65,27 @@ pub record Peace : Type 0 where
 -- ---- a frame that comes
 
 -- A packet that a frame says to the client was sent.
-said_was_sent : Peace → (w : Setup) (t : List FrameStep) → IsFrameTrace w t → FitsFrames w t → (f : Frame) → Contains (frames_sent w t) f → to_of f ≡ Client → (p : PacketParts) → said_to_client w t f ≡ Says p → Contains (sent_packets w (trace_heard w t)) p
+said_was_sent : Peace → (w : Setup) (t : List FrameStep) → IsFrameTrace w t → FitsFrames w t → (f : Frame) → Contains (frames_sent w t) f → to_of f ≡ Client
+    → (p : PacketParts) → said_to_client w t f ≡ Says p → Contains (sent_packets w (trace_heard w t)) p
 said_was_sent laws w t steps_are fits f i to p is =
     let s = stands laws.law laws.frames laws.tags laws.ranges w t steps_are fits in
     let ps = sent_packets w (trace_heard w t) in
     let are = laws.ranges w (trace_heard w t) s.trace (heard_fits w t fits) in
-    let k = keeps laws.law (at_client w) ps are (laws.tags w (trace_heard w t) s.trace are) (heard (at_client w) (frames.of_client w t)) s.client_rows Client f (frame_is laws.frames w t f i) to lefts.NoSave in
+    let k = keeps laws.law (at_client w) ps are (laws.tags w (trace_heard w t) s.trace are) (heard (at_client w) (frames.of_client w t)) s.client_rows Client f
+    (frame_is laws.frames w t f i) to lefts.NoSave in
     let says : SaysSent ps Client (Says p) = subst (SaysSent ps Client) is k.says in
     says.0
 
 fine_to_server : (t : List Step) (s : ℕ) (f : Frame) (m : Meaning) → FineCome (comes_to_server t s f m)
 unfolding FineCome
-fine_to_server t s f (Says p) h = fine_step _ (fine_unless (answers.refusal (opening_of s) (of_server s t) (events.Deliver p)) _ (fine_server s (of_server s t) (events.Deliver p))) h
+fine_to_server t s f (Says p) h =
+    fine_step _ (fine_unless (answers.refusal (opening_of s) (of_server s t) (events.Deliver p)) _ (fine_server s (of_server s t) (events.Deliver p))) h
 fine_to_server t s f Waits h = cc
 fine_to_server t s f Spoils h = cc
 fine_to_server t s f Strays h = cc
 
-fine_to_client : (w : Setup) (t : List Step) (f : Frame) (m : Meaning) → ((p : PacketParts) → m ≡ Says p → Fine (clients.refusal (client_opening w) (of_client w t) (calls.Deliver p))) → FineCome (comes_to_client w t f m)
+fine_to_client : (w : Setup) (t : List Step) (f : Frame) (m : Meaning)
+    → ((p : PacketParts) → m ≡ Says p → Fine (clients.refusal (client_opening w) (of_client w t) (calls.Deliver p))) → FineCome (comes_to_client w t f m)
 unfolding FineCome
 fine_to_client w t f (Says p) g h = fine_step _ (fine_unless (clients.refusal (client_opening w) (of_client w t) (calls.Deliver p)) _ (g p refl)) h
 fine_to_client w t f Waits g h = cc
@@ -86,7 +93,8 @@ fine_to_client w t f Spoils g h = cc
 fine_to_client w t f Strays g h = cc
 
 -- A whole frame at the mirror is a packet that was sent, and a piece is never for it.
-fine_at_mirror : Peace → (w : Setup) (t : List FrameStep) → IsTrace w (trace_heard w t) → (f : Frame) → Contains (frames_sent w t) f → Fine (mirrors.refusal mirror_opening (of_mirror (trace_heard w t)) f)
+fine_at_mirror : Peace → (w : Setup) (t : List FrameStep) → IsTrace w (trace_heard w t) → (f : Frame) → Contains (frames_sent w t) f
+    → Fine (mirrors.refusal mirror_opening (of_mirror (trace_heard w t)) f)
 unfolding Fine
 fine_at_mirror laws w t trace (Whole p) i = laws.copies w (trace_heard w t) trace p (frame_is laws.frames w t (Whole p) i)
 fine_at_mirror laws w t trace (Piece q) i = piece (mirrors.is_on (of_mirror (trace_heard w t)))
@@ -95,18 +103,21 @@ fine_at_mirror laws w t trace (Piece q) i = piece (mirrors.is_on (of_mirror (tra
     piece true h = cc
     piece false h = cc
 
-fine_to : Peace → (w : Setup) (past : List Change) → IsFrameTrace w (steps past) → FitsFrames w (steps past) → IsTrace w (trace w past) → (node : Node) (f : Frame) → Contains (frames_sent w (steps past)) f → to_of f ≡ node → FineCome (comes_to w past node f)
+fine_to : Peace → (w : Setup) (past : List Change) → IsFrameTrace w (steps past) → FitsFrames w (steps past) → IsTrace w (trace w past)
+    → (node : Node) (f : Frame) → Contains (frames_sent w (steps past)) f → to_of f ≡ node → FineCome (comes_to w past node f)
 unfolding Fine FineCome
 fine_to laws w past steps_are fits t (Server s) f i to = fine_to_server (trace w past) s f (said_to_server (steps past) s f)
 fine_to laws w past steps_are fits t Client f i to =
     fine_to_client w (trace w past) f (said_to_client w (steps past) f)
     (λ p is. laws.never w (trace w past) t p (said_was_sent laws w (steps past) steps_are fits f i to p is))
-fine_to laws w past steps_are fits t Mirror f i to = fine_step _ (fine_unless (mirrors.refusal mirror_opening (of_mirror (trace w past)) f) _ (fine_at_mirror laws w (steps past) t f i))
+fine_to laws w past steps_are fits t Mirror f i to =
+    fine_step _ (fine_unless (mirrors.refusal mirror_opening (of_mirror (trace w past)) f) _ (fine_at_mirror laws w (steps past) t f i))
 
 sent_at : (fs : List Frame) (i : ℕ) (f : Frame) → slice_get fs i ≡ Some f → Contains fs f
 sent_at fs i f h = (i, slice_get_within fs i f h, get_or_from_slice_get fs i f f h)
 
-fine_delivered : Peace → (w : Setup) (past : List Change) → IsFrameTrace w (steps past) → FitsFrames w (steps past) → IsTrace w (trace w past) → (x : Option Frame) → ((f : Frame) → x ≡ Some f → Contains (frames_sent w (steps past)) f) → FineCome (delivery w past x)
+fine_delivered : Peace → (w : Setup) (past : List Change) → IsFrameTrace w (steps past) → FitsFrames w (steps past) → IsTrace w (trace w past)
+    → (x : Option Frame) → ((f : Frame) → x ≡ Some f → Contains (frames_sent w (steps past)) f) → FineCome (delivery w past x)
 unfolding FineCome
 fine_delivered laws w past steps_are fits t None g h = cc
 fine_delivered laws w past steps_are fits t (Some f) g h = fine_to laws w past steps_are fits t (to_of f) f (g f refl) refl h
@@ -145,7 +156,8 @@ fine_restarted w t (Server s) h = fine_if_step (has_boot t s) _ NumbersSpent (λ
 fine_restarted w t Client h = fine_unless_step (w.mirror && is_blank (noted_in w t)) _ BadNote (λ h. cc) h
 fine_restarted w t Mirror h = cc
 
-fine_renewal : (w : Setup) (t : List Step) (step : FrameStep) (fault : Fault) → Fine (Some fault) → FineStep (if is_blank (noted_in w t) then Ok step else Err fault)
+fine_renewal : (w : Setup) (t : List Step) (step : FrameStep) (fault : Fault) → Fine (Some fault)
+    → FineStep (if is_blank (noted_in w t) then Ok step else Err fault)
 fine_renewal w t step fault f = fine_if_step (is_blank (noted_in w t)) step fault f
 
 fine_cut : (node : Node) → FineStep (cut node)
@@ -203,14 +215,16 @@ fine_cut_in w past landed (happenings.Check s j) h = cc
 fine_cut_in w past landed (Cut node) h = cc
 fine_cut_in w past landed (CutIn again e) h = cc
 
-fine_bring : Peace → (w : Setup) (past : List Change) → IsFrameTrace w (steps past) → FitsFrames w (steps past) → IsTrace w (trace w past) → (e : Happening) → FineCome (brings w past e)
+fine_bring : Peace → (w : Setup) (past : List Change) → IsFrameTrace w (steps past) → FitsFrames w (steps past) → IsTrace w (trace w past) → (e : Happening)
+    → FineCome (brings w past e)
 unfolding Fine FineCome NoPacket
 fine_bring laws w past steps_are fits t (Begin text) h = fine_step _ (fine_met_client w (trace w past) (calls.Begin text) tt) h
 fine_bring laws w past steps_are fits t (Trigger run act) h = fine_step _ (fine_met_client w (trace w past) (calls.Trigger run act) tt) h
 fine_bring laws w past steps_are fits t (StopRun run) h = fine_step _ (fine_met_client w (trace w past) (calls.Stop run) tt) h
 fine_bring laws w past steps_are fits t (Verify run text) h = fine_step _ (fine_met_client w (trace w past) (calls.Verify run text) tt) h
 fine_bring laws w past steps_are fits t Tick h = fine_step _ (fine_met_client w (trace w past) calls.Tick tt) h
-fine_bring laws w past steps_are fits t (Deliver i) h = fine_delivered laws w past steps_are fits t (slice_get (frames_sent w (steps past)) i) (sent_at (frames_sent w (steps past)) i) h
+fine_bring laws w past steps_are fits t (Deliver i) h =
+    fine_delivered laws w past steps_are fits t (slice_get (frames_sent w (steps past)) i) (sent_at (frames_sent w (steps past)) i) h
 fine_bring laws w past steps_are fits t (Issue s j) h = fine_step _ (fine_met_server (trace w past) s (events.Issue j)) h
 fine_bring laws w past steps_are fits t (Land s j k mask) h = cc
 fine_bring laws w past steps_are fits t (Done s j k) h = fine_step _ (fine_ended (trace w past) s k ends.Done (open_at (trace w past) s j k)) h
@@ -235,5 +249,6 @@ none_is_a_conflict laws w events few e h =
     let steps_are = laws.traces w events in
     let fits = world_fits laws.reports w events few in
     let t = (stands laws.law laws.frames laws.tags laws.ranges w (steps past) steps_are fits).trace in
-    fine_barred (barring_fault w (trace w past) (frames_sent w (steps past)) e) (brings w past e) (fine_bar w (trace w past) (frames_sent w (steps past)) e) (fine_bring laws w past steps_are fits t e)
+    fine_barred (barring_fault w (trace w past) (frames_sent w (steps past)) e) (brings w past e) (fine_bar w (trace w past) (frames_sent w (steps past)) e)
+    (fine_bring laws w past steps_are fits t e)
     (told_is w past e (outcome w past e) h)

@@ -1,22 +1,12 @@
 -- The steps of a world are within their ranges: its servers are few, and each report is one.
-use Rattle.std.proofs.Common.{◌≡◌, refl, ℕ, ◌<◌, ◌≤◌, arith, Bool, true, false, ◌&&◌, List, [], ◌∷◌, Option, Some, None, Result, Ok, Err}
-use Rattle.std.specs.Prelude.{if◌then◌else◌, slice_get, nat_lt, nat_le, not, IsTrue, is_some}
-use Rattle.std.specs.Option.{option_or}
+use Rattle.std.proofs.Common.{◌≡◌, refl, ℕ, ◌<◌, ◌≤◌, Bool, true, false, ◌&&◌, List, [], ◌∷◌, Option, Some, None, Result, Ok, Err}
+use Rattle.std.specs.Prelude.{if◌then◌else◌, slice_get}
 use Rattle.std.specs.List.{AllByRecursion}
-use Rattle.std.proofs.lemmas.Bool.{and_parts}
-use Rattle.std.proofs.lemmas.Bool.Decides.{nat_tests}
-use Rattle.std.proofs.lemmas.Option.{slice_get_within, get_or_from_slice_get}
 use Rattle.fc_base.specs.declared.fault.Fault.{Fault}
-use Rattle.fc_base.specs.declared.fault.Fault.TheVariants.{NoServer, NodeOff, NodeOn, BadNote, NumbersSpent, NoSave, NoWrite}
-use Rattle.fc_base.specs.declared.limits.TheConstants.{MAX_BLOCKS, MAX_SERVERS, MAX_WRITES}
-use Rattle.fc_base.specs.JobParts.{has_block_size, has_region, has_queue, has_pattern, is_within_limits}
-use Rattle.fc_base.specs.declared.record.JobParts.{JobParts}
-use Rattle.job_file.specs.declared.job.Job.{Job}
-use Rattle.disk_model.specs.File.{block_bytes}
+use Rattle.fc_base.specs.declared.fault.Fault.TheVariants.{BadNote, NumbersSpent, NoSave}
+use Rattle.fc_base.specs.declared.limits.TheConstants.{MAX_SERVERS}
 use Rattle.disk_model.specs.declared.left.Left.{Left}
 use Rattle.disk_model.specs.declared.left.Left.TheVariants as lefts
-use Rattle.disk_model.proofs.ListLemmas.{each_of}
-use Rattle.recheck.specs.Expected.{expected_by}
 use Rattle.recheck.specs.Fits.{ReportsFit}
 use Rattle.engine.specs.Running.{Origin}
 use Rattle.engine.specs.Answers.{ticket_of}
@@ -31,7 +21,7 @@ use Rattle.server_core.specs.declared.event.WriteEnd.TheVariants as ends
 use Rattle.server_core.specs.History as server
 use Rattle.server_core.specs.Words as servers
 use Rattle.server_core.specs.Answers as answers
-use Rattle.server_core.specs.Check.{Check, Progress, Wanting, Full, With, Refused, Done as Made, check, progress_after}
+use Rattle.server_core.specs.Check.{Check, check}
 use Rattle.server_core.specs.Laws.{ChecksHaveSets}
 use Rattle.client_core.specs.declared.call.Call.{Call}
 use Rattle.client_core.specs.declared.call.Call.TheVariants as calls
@@ -41,7 +31,8 @@ use Rattle.client_core.specs.Note.{is_blank}
 use Rattle.mirror_core.specs.History as mirror
 use Rattle.mirror_core.specs.Words as mirrors
 use Rattle.net_world.specs.Setup.{Setup}
-use Rattle.net_world.specs.Happenings.{Happening, Begin, Trigger, StopRun, Verify, Tick, Deliver, Issue, Land, Done, Fail, Rot, Cut, Restart, LoseNote, Renew, CutIn}
+use Rattle.net_world.specs.Happenings.{Happening, Begin, Trigger, StopRun, Verify, Tick, Deliver, Issue}
+use Rattle.net_world.specs.Happenings.{Land, Done, Fail, Rot, Cut, Restart, LoseNote, Renew, CutIn}
 use Rattle.net_world.specs.Happenings as happenings
 use Rattle.net_world.specs.Trace.{Step, of_server, of_client, of_mirror, opening_of, client_opening, mirror_opening}
 use Rattle.net_world.specs.Frames.{FrameStep, OfServer, OfClient, OfMirror, frames_sent, to_of}
@@ -49,10 +40,14 @@ use Rattle.net_world.specs.InRange.{ReportFits, FrameStepFits, FitsFrames}
 use Rattle.net_world.specs.Changes.{Change, Met, Landed, Rotted, steps, trace}
 use Rattle.net_world.specs.Writes.{open_at}
 use Rattle.net_world.specs.Contents.{content}
-use Rattle.net_world.specs.Checks.{key_of, report_by, report_for, check_end, end_of_check_in}
-use Rattle.net_world.specs.Barred.{unless, is_on, unless_on, unless_off, unless_sent, unless_open, barring_fault}
-use Rattle.net_world.specs.Outcomes.{Outcome, Does, Refuses, Drops, outcome_of_step, unless_fault, where_saved, lost_by, met_by_server, met_by_client, comes_to_server, comes_to_client, comes_to_mirror, said_to_server, said_to_client, comes_to, delivery, end_of_write, end_of_check_met, has_boot, cut, noted_in, restart_of, client_cut_in, server_frame_cut, client_frame_cut, frame_cut, delivery_cut_in, restart_cut_in, cut_in, brings, unless_barred, outcome}
+use Rattle.net_world.specs.Checks.{end_of_check_in}
+use Rattle.net_world.specs.Barred.{unless_on, unless_off, unless_sent, barring_fault}
+use Rattle.net_world.specs.Outcomes.{Outcome, Does, Refuses, Drops, outcome_of_step, unless_fault, where_saved, lost_by, met_by_server}
+use Rattle.net_world.specs.Outcomes.{met_by_client, comes_to_server, comes_to_client, comes_to_mirror, said_to_server, said_to_client, comes_to}
+use Rattle.net_world.specs.Outcomes.{delivery, end_of_write, end_of_check_met, has_boot, cut, noted_in, restart_of, client_cut_in, server_frame_cut}
+use Rattle.net_world.specs.Outcomes.{client_frame_cut, frame_cut, delivery_cut_in, restart_cut_in, cut_in, brings, unless_barred, outcome}
 use Rattle.net_world.specs.World.{and_outcome, world}
+use Rattle.net_world.proofs.ReportFitLemmas.{server_there, server_off, write_there, SomeEnd, fit_end}
 
 FitBe : Result FrameStep Fault → Type 0
 FitBe (Ok step) = FrameStepFits step
@@ -84,62 +79,6 @@ fit_if : (b : Bool) (step : FrameStep) (fault : Fault) → FrameStepFits step �
 unfolding FitBe
 fit_if true step fault h = h
 fit_if false step fault h = tt
-
--- ---- a server that is there has a number below 8
-
-below : (w : Setup) (s : ℕ) (b : Bool) → nat_lt s w.servers ≡ b → (x : Option Fault) → option_or (if b then None else Some NoServer) x ≡ None → w.servers ≤ MAX_SERVERS → s < MAX_SERVERS
-below w s true e x h l = grind (arith, nat_tests)
-below w s false e x h l = absurd cc
-
-server_there : (w : Setup) (t : List Step) (s : ℕ) → w.servers ≤ MAX_SERVERS → unless_on w t (Server s) ≡ None → s < MAX_SERVERS
-server_there w t s l h = below w s (nat_lt s w.servers) refl (unless (is_on w t (Server s)) NodeOff) h l
-
-server_off : (w : Setup) (t : List Step) (s : ℕ) → w.servers ≤ MAX_SERVERS → unless_off w t (Server s) ≡ None → s < MAX_SERVERS
-server_off w t s l h = below w s (nat_lt s w.servers) refl (unless (not (is_on w t (Server s))) NodeOn) h l
-
-first_none : (x y : Option Fault) → option_or x y ≡ None → x ≡ None
-first_none None y h = refl
-first_none (Some fault) y h = absurd cc
-
-write_there : (w : Setup) (t : List Step) (s j k : ℕ) → w.servers ≤ MAX_SERVERS → unless_open w t s j k ≡ None → s < MAX_SERVERS
-write_there w t s j k l h = server_there w t s l (first_none (unless_on w t (Server s)) (unless (is_some (open_at t s j k)) NoWrite) h)
-
--- ---- reports
-
-few_blocks : (job : JobParts) → is_within_limits job ≡ true → job.blocks ≤ MAX_BLOCKS
-few_blocks job limits =
-    let all = and_parts (has_block_size job && has_region job && has_queue job) (has_pattern job) limits in
-    let three = and_parts (has_block_size job && has_region job) (has_queue job) all.0 in
-    let two = and_parts (has_block_size job) (has_region job) three.0 in
-    let blocks = and_parts (nat_le 1 job.blocks && nat_le job.blocks MAX_BLOCKS) (nat_le 1 job.total && nat_le job.total MAX_WRITES) two.1 in
-    le job.blocks MAX_BLOCKS (and_parts (nat_le 1 job.blocks) (nat_le job.blocks MAX_BLOCKS) blocks.0).1
-  where
-    le : (a b : ℕ) → nat_le a b ≡ true → a ≤ b
-    le a b h = grind (arith, nat_tests)
-
-SomeEnd : Option Event → Type 0
-SomeEnd None = Unit {0}
-SomeEnd (Some e) = ReportFits e
-
-fit_report : ReportsFit → (c : Check) (j : ℕ) (job : Job) (held : ℕ → List ℕ) (p : Progress) → job.rec.blocks ≤ MAX_BLOCKS → SomeEnd (check_end c j (report_by c j job p held))
-unfolding SomeEnd
-fit_report law c j job held Wanting l = tt
-fit_report law c j job held Full l = law job.fatal (expected_by (key_of c j) job.rec None) (λ block. block_bytes held job.rec.bs block) job.rec.blocks l
-fit_report law c j job held (With state) l = law job.fatal (expected_by (key_of c j) job.rec (Some state)) (λ block. block_bytes held job.rec.bs block) job.rec.blocks l
-fit_report law c j job held (Refused value) l = tt
-fit_report law c j job held (Made r) l = tt
-
-fit_for : ReportsFit → (c : Check) (j : ℕ) (held : ℕ → List ℕ) (x : Option Job) → ((job : Job) → x ≡ Some job → job.rec.blocks ≤ MAX_BLOCKS) → SomeEnd (check_end c j (report_for c j x held))
-unfolding SomeEnd
-fit_for law c j held None f = tt
-fit_for law c j held (Some job) f = fit_report law c j job held (progress_after c j job c.since) (f job refl)
-
-fit_end : ReportsFit → ChecksHaveSets → (s : ℕ) (list : List server.Entry) (j : ℕ) (held : ℕ → List ℕ) (x : Option Check) → check (opening_of s) list ≡ x → SomeEnd (end_of_check_in x j held)
-unfolding SomeEnd
-fit_end law sets s list j held None is = tt
-fit_end law sets s list j held (Some c) is =
-    fit_for law c j held (slice_get c.jobs j)
-    (λ job h. few_blocks job.rec (each_of (λ (x : Job). IsTrue (is_within_limits x.rec)) c.jobs job (sets (opening_of s) list c is).within.within (j, slice_get_within c.jobs j job h, get_or_from_slice_get c.jobs j job job h)))
 
 -- ---- each sort of happening
 
@@ -178,10 +117,12 @@ fit_restarted w t (Server s) l h = fit_if (has_boot t s) (OfServer s (Happens (s
 fit_restarted w t Client l h = fit_unless_so (w.mirror && is_blank (noted_in w t)) (OfClient (Happens (client.Restart w.mirror))) BadNote tt
 fit_restarted w t Mirror l h = tt
 
-fit_renewal : (w : Setup) (t : List Step) (g : ℕ) (left : Left) (fault : Fault) → FitBe (if is_blank (noted_in w t) then Ok (OfClient (Happens (client.Renew g left))) else Err fault)
+fit_renewal : (w : Setup) (t : List Step) (g : ℕ) (left : Left) (fault : Fault)
+    → FitBe (if is_blank (noted_in w t) then Ok (OfClient (Happens (client.Renew g left))) else Err fault)
 fit_renewal w t g left fault = fit_if (is_blank (noted_in w t)) (OfClient (Happens (client.Renew g left))) fault tt
 
-fit_restart_cut : (w : Setup) (t : List Step) (landed : Bool) (node : Node) → w.servers ≤ MAX_SERVERS → unless_off w t node ≡ None → FitBe (restart_cut_in t landed node)
+fit_restart_cut : (w : Setup) (t : List Step) (landed : Bool) (node : Node) → w.servers ≤ MAX_SERVERS → unless_off w t node ≡ None
+    → FitBe (restart_cut_in t landed node)
 unfolding FitBe
 fit_restart_cut w t landed (Server s) l h = fit_if (has_boot t s) (OfServer s (Happens (server.Restart (lost_by landed)))) NoSave (server_off w t s l h, tt)
 fit_restart_cut w t landed Client l h = tt
@@ -205,38 +146,45 @@ fit_comes_to_mirror : (t : List Step) (f : Frame) → FitBe (comes_to_mirror t f
 unfolding FitBe
 fit_comes_to_mirror t f = fit_unless (mirrors.refusal mirror_opening (of_mirror t) f) _ tt
 
-fit_comes_to : (w : Setup) (past : List Change) (node : Node) (f : Frame) → w.servers ≤ MAX_SERVERS → unless_on w (trace w past) node ≡ None → FitCome (comes_to w past node f)
+fit_comes_to : (w : Setup) (past : List Change) (node : Node) (f : Frame) → w.servers ≤ MAX_SERVERS → unless_on w (trace w past) node ≡ None
+    → FitCome (comes_to w past node f)
 unfolding FitCome
 fit_comes_to w past (Server s) f l h = fit_comes_to_server (trace w past) s f (said_to_server (steps past) s f) (server_there w (trace w past) s l h)
 fit_comes_to w past Client f l h = fit_comes_to_client w (trace w past) f (said_to_client w (steps past) f)
 fit_comes_to w past Mirror f l h = fit_step _ (fit_comes_to_mirror (trace w past) f)
 
-fit_delivered : (w : Setup) (past : List Change) (x : Option Frame) → w.servers ≤ MAX_SERVERS → unless_sent w (trace w past) x ≡ None → FitCome (delivery w past x)
+fit_delivered : (w : Setup) (past : List Change) (x : Option Frame) → w.servers ≤ MAX_SERVERS → unless_sent w (trace w past) x ≡ None
+    → FitCome (delivery w past x)
 unfolding FitCome
 fit_delivered w past None l h = tt
 fit_delivered w past (Some f) l h = fit_comes_to w past (to_of f) f l h
 
 fit_server_frame_cut : (t : List Step) (s : ℕ) (landed : Bool) (f : Frame) (m : Meaning) → s < MAX_SERVERS → FitBe (server_frame_cut t s landed f m)
 unfolding FitBe
-fit_server_frame_cut t s landed f (Says p) l = fit_save (servers.due (opening_of s) (of_server s t) (events.Deliver p)) (OfServer s (Comes f (lost_by landed))) l
+fit_server_frame_cut t s landed f (Says p) l =
+    fit_save (servers.due (opening_of s) (of_server s t) (events.Deliver p)) (OfServer s (Comes f (lost_by landed))) l
 fit_server_frame_cut t s landed f Waits l = tt
 fit_server_frame_cut t s landed f Spoils l = tt
 fit_server_frame_cut t s landed f Strays l = tt
 
 fit_client_frame_cut : (w : Setup) (t : List Step) (landed : Bool) (f : Frame) (m : Meaning) → FitBe (client_frame_cut w t landed f m)
 unfolding FitBe
-fit_client_frame_cut w t landed f (Says p) = fit_save (clients.due (client_opening w) (of_client w t) (calls.Deliver p)) (OfClient (Comes f (lost_by landed))) tt
+fit_client_frame_cut w t landed f (Says p) =
+    fit_save (clients.due (client_opening w) (of_client w t) (calls.Deliver p)) (OfClient (Comes f (lost_by landed))) tt
 fit_client_frame_cut w t landed f Waits = tt
 fit_client_frame_cut w t landed f Spoils = tt
 fit_client_frame_cut w t landed f Strays = tt
 
-fit_frame_cut : (w : Setup) (past : List Change) (landed : Bool) (node : Node) (f : Frame) → w.servers ≤ MAX_SERVERS → unless_on w (trace w past) node ≡ None → FitBe (frame_cut w past landed node f)
+fit_frame_cut : (w : Setup) (past : List Change) (landed : Bool) (node : Node) (f : Frame) → w.servers ≤ MAX_SERVERS → unless_on w (trace w past) node ≡ None
+    → FitBe (frame_cut w past landed node f)
 unfolding FitBe
-fit_frame_cut w past landed (Server s) f l h = fit_server_frame_cut (trace w past) s landed f (said_to_server (steps past) s f) (server_there w (trace w past) s l h)
+fit_frame_cut w past landed (Server s) f l h =
+    fit_server_frame_cut (trace w past) s landed f (said_to_server (steps past) s f) (server_there w (trace w past) s l h)
 fit_frame_cut w past landed Client f l h = fit_client_frame_cut w (trace w past) landed f (said_to_client w (steps past) f)
 fit_frame_cut w past landed Mirror f l h = fit_save (mirrors.due mirror_opening (of_mirror (trace w past)) f) (OfMirror (mirror.Met f (lost_by landed))) tt
 
-fit_delivery_cut : (w : Setup) (past : List Change) (landed : Bool) (x : Option Frame) → w.servers ≤ MAX_SERVERS → unless_sent w (trace w past) x ≡ None → FitBe (delivery_cut_in w past landed x)
+fit_delivery_cut : (w : Setup) (past : List Change) (landed : Bool) (x : Option Frame) → w.servers ≤ MAX_SERVERS → unless_sent w (trace w past) x ≡ None
+    → FitBe (delivery_cut_in w past landed x)
 unfolding FitBe
 fit_delivery_cut w past landed None l h = tt
 fit_delivery_cut w past landed (Some f) l h = fit_frame_cut w past landed (to_of f) f l h
@@ -249,7 +197,8 @@ pub record Reports : Type 0 where
   pub fit : ReportsFit
   pub sets : ChecksHaveSets
 
-fit_cut_in : (w : Setup) (past : List Change) (landed : Bool) (e : Happening) → w.servers ≤ MAX_SERVERS → barring_fault w (trace w past) (frames_sent w (steps past)) (CutIn landed e) ≡ None → FitBe (cut_in w past landed e)
+fit_cut_in : (w : Setup) (past : List Change) (landed : Bool) (e : Happening) → w.servers ≤ MAX_SERVERS
+    → barring_fault w (trace w past) (frames_sent w (steps past)) (CutIn landed e) ≡ None → FitBe (cut_in w past landed e)
 unfolding FitBe
 fit_cut_in w past landed (Begin text) l h = fit_client_cut w (trace w past) landed (calls.Begin text)
 fit_cut_in w past landed (Verify run text) l h = fit_client_cut w (trace w past) landed (calls.Verify run text)
@@ -269,7 +218,8 @@ fit_cut_in w past landed (happenings.Check s j) l h = tt
 fit_cut_in w past landed (Cut node) l h = tt
 fit_cut_in w past landed (CutIn again e) l h = tt
 
-fit_bring : Reports → (w : Setup) (past : List Change) (e : Happening) → w.servers ≤ MAX_SERVERS → barring_fault w (trace w past) (frames_sent w (steps past)) e ≡ None → FitCome (brings w past e)
+fit_bring : Reports → (w : Setup) (past : List Change) (e : Happening) → w.servers ≤ MAX_SERVERS
+    → barring_fault w (trace w past) (frames_sent w (steps past)) e ≡ None → FitCome (brings w past e)
 unfolding FitBe FitCome
 fit_bring laws w past (Begin text) l h = fit_step _ (fit_client w (trace w past) (calls.Begin text))
 fit_bring laws w past (Trigger run act) l h = fit_step _ (fit_client w (trace w past) (calls.Trigger run act))
@@ -279,8 +229,10 @@ fit_bring laws w past Tick l h = fit_step _ (fit_client w (trace w past) calls.T
 fit_bring laws w past (Deliver i) l h = fit_delivered w past (slice_get (frames_sent w (steps past)) i) l h
 fit_bring laws w past (Issue s j) l h = fit_step _ (fit_server (trace w past) s (events.Issue j) (server_there w (trace w past) s l h) tt)
 fit_bring laws w past (Land s j k mask) l h = tt
-fit_bring laws w past (Done s j k) l h = fit_step _ (fit_ended (trace w past) s k ends.Done (open_at (trace w past) s j k) (write_there w (trace w past) s j k l h))
-fit_bring laws w past (Fail s j k) l h = fit_step _ (fit_ended (trace w past) s k ends.Failed (open_at (trace w past) s j k) (write_there w (trace w past) s j k l h))
+fit_bring laws w past (Done s j k) l h =
+    fit_step _ (fit_ended (trace w past) s k ends.Done (open_at (trace w past) s j k) (write_there w (trace w past) s j k l h))
+fit_bring laws w past (Fail s j k) l h =
+    fit_step _ (fit_ended (trace w past) s k ends.Failed (open_at (trace w past) s j k) (write_there w (trace w past) s j k l h))
 fit_bring laws w past (Rot s j sector bytes) l h = tt
 fit_bring laws w past (happenings.Check s j) l h =
     let list = of_server s (trace w past) in

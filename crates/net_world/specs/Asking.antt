@@ -41,7 +41,8 @@ told_of first asked =
     record { answer = asked.answer; first = first; sent = length asked.frames; act = acts.None }
 
 -- The client is on, doesn't refuse what comes, and its step is added.
-pub record IsAnswered (w : Setup) (past : List Change) (e : Input) (new : World) (told : Told) : Type 0 where
+pub record IsAnswered (w : Setup) (past : List Change) (e : Input) (new : World)
+    (told : Told) : Type 0 where
   pub on : unless_on w (trace w past) Client ≡ None
   pub free : refusal (client_opening w) (entries w past) e ≡ None
   pub told_is :
@@ -58,12 +59,15 @@ pub record IsBarred (w : Setup) (past : List Change) (fault : Fault) (new : Worl
   pub why : unless_on w (trace w past) Client ≡ Some fault
   pub unchanged : StandsFor w past new
 
--- The client refuses what comes. That may stand in the list, or be left out, but where it drops a tag.
-pub record Refuses (w : Setup) (past : List Change) (e : Input) (fault : Fault) (new : World) : Type 0 where
+-- The client refuses what comes. That may stand in the list, or be left out, but where it drops a
+-- tag.
+pub record Refuses (w : Setup) (past : List Change) (e : Input) (fault : Fault)
+    (new : World) : Type 0 where
   pub on : unless_on w (trace w past) Client ≡ None
   pub why : refusal (client_opening w) (entries w past) e ≡ Some fault
   pub stands : StandsFor w (changes.Met (step_of (Met e NoSave)) ∷ past) new
-  pub unchanged : is_drop (sense (client_opening w) (entries w past) e) ≡ false → StandsFor w past new
+  pub unchanged : is_drop (sense (client_opening w) (entries w past) e) ≡ false
+      → StandsFor w past new
 
 -- How a call ends that isn't answered.
 abbrev pub Faults : Setup → List Change → Input → FaultSort → Fault → World → Type 0

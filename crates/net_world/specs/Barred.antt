@@ -1,5 +1,5 @@
--- What a world refuses before a node is asked: there is no such server or no mirror, the node is off, the
--- node is on, there is no such frame or no such write, a generation is none or was used.
+-- What a world refuses before a node is asked: there is no such server or no mirror, the node is
+-- off, the node is on, there is no such frame or no such write, a generation is none or was used.
 use Rattle.std.specs.Prelude.{ℕ, Bool, not, nat_lt, List, Option, Some, None, is_some, slice_get, if◌then◌else◌}
 use Rattle.std.specs.List.{list_all}
 use Rattle.std.specs.Option.{option_or}
@@ -15,7 +15,8 @@ use Rattle.client_core.specs.Words as clients
 use Rattle.client_core.specs.Laws.{generations}
 use Rattle.mirror_core.specs.Words as mirrors
 use Rattle.net_world.specs.Setup.{Setup}
-use Rattle.net_world.specs.Happenings.{Happening, Begin, Trigger, StopRun, Verify, Tick, Deliver, Issue, Land, Done, Fail, Rot, Check, Cut, Restart, LoseNote, Renew, CutIn}
+use Rattle.net_world.specs.Happenings.{Happening, Begin, Trigger, StopRun, Verify, Tick, Deliver, Issue}
+use Rattle.net_world.specs.Happenings.{Land, Done, Fail, Rot, Check, Cut, Restart, LoseNote, Renew, CutIn}
 use Rattle.net_world.specs.Trace.{Step, of_server, of_client, of_mirror}
 use Rattle.net_world.specs.Frames.{to_of}
 use Rattle.net_world.specs.Writes.{open_at}
@@ -59,7 +60,8 @@ unless_sent w t (Some f) = unless_on w t (to_of f)
 
 -- The server has to be on, and the write to be open.
 abbrev pub unless_open : Setup → List Step → ℕ → ℕ → ℕ → Option Fault
-unless_open w t s j k = option_or (unless_on w t (Server s)) (unless (is_some (open_at t s j k)) NoWrite)
+unless_open w t s j k =
+    option_or (unless_on w t (Server s)) (unless (is_some (open_at t s j k)) NoWrite)
 
 -- A server has 16 files.
 abbrev pub no_file : Setup → ℕ → ℕ → Option Fault
@@ -67,7 +69,8 @@ no_file w s j = option_or (no_server w s) (unless (nat_lt j MAX_JOBS) NoWrite)
 
 -- A generation is handed in once, and above all before it, those of stopped renewals too.
 abbrev pub used_generation : Setup → List Step → ℕ → Option Fault
-used_generation w t g = unless (list_all (λ earlier. nat_lt earlier g) (generations (of_client w t))) UsedGeneration
+used_generation w t g =
+    unless (list_all (λ earlier. nat_lt earlier g) (generations (of_client w t))) UsedGeneration
 
 -- The number has to be one of a generation that was not used.
 abbrev pub unless_unused : Setup → List Step → ℕ → Option Fault

@@ -4,8 +4,8 @@ use Rattle.net_world.specs.Setup.{Setup}
 use Rattle.net_world.specs.Trace.{Step}
 use Rattle.net_world.specs.Frames.{FrameStep, trace_heard}
 
--- A step of a node; sectors of an open write have landed, by a mask; a sector of a file has changed by
--- itself.
+-- A step of a node; sectors of an open write have landed, by a mask; a sector of a file has changed
+-- by itself.
 pub data Change : Type 0 where
   Met : FrameStep → Change
   Landed : ℕ → ℕ → ℕ → ℕ → Change  -- server, job, write, mask

@@ -16,8 +16,8 @@ use Rattle.net_world.specs.Trace.{of_server, opening_of}
 use Rattle.net_world.specs.Changes.{Change, trace}
 use Rattle.net_world.specs.Contents.{content}
 
--- The report of a job's file: which of its blocks hold none of what they may hold, by a state, or in a
--- full pass where there is none.
+-- The report of a job's file: which of its blocks hold none of what they may hold, by a state, or
+-- in a full pass where there is none.
 abbrev pub report_of : Key → Job → Option State → (ℕ → List ℕ) → ReportParts
 report_of key job state held =
     report job.fatal (expected_by key job.rec state) (λ block. block_bytes held job.rec.bs block)

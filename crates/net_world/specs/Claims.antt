@@ -22,11 +22,13 @@ OfEachList Claim = (w : Setup) (t : List Step) → Claim w t
 
 -- The claim holds of each trace of frames in their ranges.
 abbrev pub OfEachFrameTrace : (Setup → List FrameStep → Type 0) → Type 0
-OfEachFrameTrace Claim = (w : Setup) (t : List FrameStep) → IsFrameTrace w t → FitsFrames w t → Claim w t
+OfEachFrameTrace Claim =
+    (w : Setup) (t : List FrameStep) → IsFrameTrace w t → FitsFrames w t → Claim w t
 
 -- The claim holds of each world of at most 8 servers.
 abbrev pub OfEachWorld : (Setup → List Change → Type 0) → Type 0
-OfEachWorld Claim = (w : Setup) (events : List Happening) → w.servers ≤ MAX_SERVERS → Claim w (world w events)
+OfEachWorld Claim =
+    (w : Setup) (events : List Happening) → w.servers ≤ MAX_SERVERS → Claim w (world w events)
 
 -- The claim holds of the trace that is heard in a trace of frames.
 abbrev pub OfTheHeard : (Setup → List Step → Type 0) → Setup → List FrameStep → Type 0

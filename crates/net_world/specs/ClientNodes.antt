@@ -33,8 +33,8 @@ is_up o past = is_on (packets_heard o past)
 abbrev pub IsEmptyIfBlank : List ℕ → Noted → Type 0
 IsEmptyIfBlank bytes n = (bytes ≡ []) ⊎ (is_blank n ≡ false)
 
--- A client that runs stands for the list, which says that it is on; of one that is off, which the list
--- says, the note says what the list says, without bytes where that is nothing.
+-- A client that runs stands for the list, which says that it is on; of one that is off, which the
+-- list says, the note says what the list says, without bytes where that is nothing.
 abbrev pub Stands : Opening → List FrameEntry → ClientNode → Type 0
 Stands o past (On client) = StandsFor note_of client o past × (is_up o past ≡ true)
 Stands o past (Off notes) =
@@ -55,7 +55,8 @@ client_nodes o = record {
 -- What is answered: the number of the run or of the attempt, if one has begun.
 abbrev pub answer_to : Opening → List FrameEntry → Input → WorldAnswer
 answer_to o past (inputs.Begin text) = answers.Run ((words_noted o (packets_heard o past)).runs + 1)
-answer_to o past (inputs.Verify run text) = answers.Attempt ((words_noted o (packets_heard o past)).attempts + 1)
+answer_to o past (inputs.Verify run text) =
+    answers.Attempt ((words_noted o (packets_heard o past)).attempts + 1)
 answer_to o past _ = answers.Plain
 
 -- How a call ends: as what comes to a node does, and with that number.

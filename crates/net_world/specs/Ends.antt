@@ -18,15 +18,17 @@ use Rattle.net_world.specs.Stands.{StandsFor}
 abbrev pub changes_after : Setup → List Change → Happening → List Change
 changes_after w past e = and_outcome (outcome w past e) past
 
--- Memory ran out, and nothing has happened; or it is refused as the definitions say. No save of a world
--- fails by itself.
+-- Memory ran out, and nothing has happened; or it is refused as the definitions say. No save of a
+-- world fails by itself.
 abbrev pub Faults : Setup → List Change → Happening → FaultSort → Fault → World → Type 0
 Faults w past e sorts.Memory fault new = (fault ≡ NoMemory) × StandsFor w past new
 Faults w past e sorts.Save fault new = ⊥
 Faults w past e sorts.Refusal fault new =
     (told_of_happening w past e ≡ Err fault) × StandsFor w (changes_after w past e) new
 
--- How an event ends: it is told what the definitions say, and the world stands for what has changed then.
+-- How an event ends: it is told what the definitions say, and the world stands for what has changed
+-- then.
 abbrev pub Ends : Setup → List Change → Happening → World → Result Told Fault → Type 0
-Ends w past e new (Ok t) = (told_of_happening w past e ≡ Ok t) × StandsFor w (changes_after w past e) new
+Ends w past e new (Ok t) =
+    (told_of_happening w past e ≡ Ok t) × StandsFor w (changes_after w past e) new
 Ends w past e new (Err fault) = Faults w past e (sort_of fault) fault new

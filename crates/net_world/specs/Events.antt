@@ -6,7 +6,8 @@ use Rattle.net_world.specs.declared.event.PlainEvent.{PlainEvent}
 use Rattle.net_world.specs.declared.event.PlainEvent.TheVariants as plain
 use Rattle.net_world.specs.declared.event.WorldEvent.{WorldEvent}
 use Rattle.net_world.specs.declared.event.WorldEvent.TheVariants as events
-use Rattle.net_world.specs.Happenings.{Happening, Begin, Trigger, StopRun, Verify, Tick, Deliver, Issue, Land, Done, Fail, Rot, Check, Cut, Restart, LoseNote, Renew, CutIn}
+use Rattle.net_world.specs.Happenings.{Happening, Begin, Trigger, StopRun, Verify, Tick, Deliver, Issue}
+use Rattle.net_world.specs.Happenings.{Land, Done, Fail, Rot, Check, Cut, Restart, LoseNote, Renew, CutIn}
 
 -- An event that is no cut within a save.
 abbrev pub plain_happening : PlainEvent → Happening

@@ -20,15 +20,16 @@ use Rattle.net_world.specs.Checks.{key_of, report_of}
 
 -- Since a taking no event at its server was answered with a write.
 abbrev pub IsQuiet :
-    {o : Opening} {run j : ℕ} {list : List Entry} {state : State} → IsTaking o run j list state → Type 0
+    {o : Opening} {run j : ℕ} {list : List Entry} {state : State} → IsTaking o run j list state
+    → Type 0
 IsQuiet {o} taking =
     (later between : List Entry) (e : Event) (left : Left) →
     taking.newer ≡ later ++ Met e left ∷ between →
     gives_write (issue o (between ++ Met taking.trigger taking.left
     ∷ (taking.between ++ Met taking.start Saved ∷ taking.older)) e) ≡ false
 
--- A state of the run that is checked, of this server and this job, which was taken here; and since its
--- taking no write was issued here, of any job or run.
+-- A state of the run that is checked, of this server and this job, which was taken here; and since
+-- its taking no write was issued here, of any job or run.
 pub record IsBased (s j : ℕ) (list : List Entry) (state : State) : Type 0 where
   pub run : ℕ
   pub key : state.key ≡ key_at run s j
@@ -41,8 +42,8 @@ IsMadeWith s j list None = progress (opening_of s) list j ≡ Some Full
 IsMadeWith s j list (Some state) =
     (progress (opening_of s) list j ≡ Some (With state)) × IsBased s j list state
 
--- The report of job j's check at server s, as it is with the file's content now: by the state that the
--- job is checked with, or in a full pass.
+-- The report of job j's check at server s, as it is with the file's content now: by the state that
+-- the job is checked with, or in a full pass.
 pub record IsExact (w : Setup) (past : List Change) (s j : ℕ) (r : ReportParts) : Type 0 where
   pub now : Check
   pub is_open : check (opening_of s) (of_server s (trace w past)) ≡ Some now

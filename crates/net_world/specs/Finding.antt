@@ -22,7 +22,8 @@ use Rattle.net_world.specs.Checks.{key_of, end_of_check}
 use Rattle.net_world.specs.Barred.{unless_on, unless_open}
 
 -- Write k of job j at server s is open: its ticket, and what its job does.
-pub record IsOpen (w : Setup) (past : List Change) (s j k : ℕ) (ticket : Ticket) (rec : JobParts) : Type 0 where
+pub record IsOpen (w : Setup) (past : List Change) (s j k : ℕ) (ticket : Ticket)
+    (rec : JobParts) : Type 0 where
   pub there : unless_open w (trace w past) s j k ≡ None
   pub on : unless_on w (trace w past) (Server s) ≡ None
   pub below : j < MAX_JOBS
@@ -66,7 +67,8 @@ pub record IsReady (w : Setup) (past : List Change) (s j : ℕ) (ready : Ready) 
 abbrev pub IsUnready : Setup → List Change → ℕ → ℕ → Fault → Type 0
 IsUnready w past s j fault =
     ((unless_on w (trace w past) (Server s) ≡ Some fault) × (sort_of fault ≡ Refusal))
-    ⊎ ((unless_on w (trace w past) (Server s) ≡ None) × (fault ≡ NotInFlight) × (end_of_check w past s j ≡ None))
+    ⊎ ((unless_on w (trace w past) (Server s) ≡ None) × (fault ≡ NotInFlight)
+    × (end_of_check w past s j ≡ None))
 
 -- The job is found, or why it isn't.
 abbrev pub FindsReady : Setup → List Change → ℕ → ℕ → Result Ready Fault → Type 0

@@ -1,5 +1,5 @@
--- The steps of a client, its servers and its mirror with frames in one list, the newest first, and the
--- trace of packets that it says.
+-- The steps of a client, its servers and its mirror with frames in one list, the newest first, and
+-- the trace of packets that it says.
 use Rattle.std.specs.Prelude.{◌≡◌, ℕ, ◌==◌, if◌then◌else◌, List, [], ◌∷◌, ◌++◌, map, Option, Some, None, Contains, Bool, true, IsTrue}
 use Rattle.std.specs.List.{flat_map}
 use Rattle.std.specs.Option.{option_map}
@@ -59,11 +59,13 @@ of_mirror (OfMirror e ∷ past) = e ∷ of_mirror past
 abbrev pub at_server : ℕ → Rules server.Entry Left
 at_server s = server_hearing.rules (opening_of s)
 
+-- How the client of a setup hears frames.
 abbrev pub at_client : Setup → Rules client.Entry Left
 at_client w = client_hearing.rules (client_opening w)
 
 -- The frames of the packets that a node sends with what it hears; none where it hears nothing.
-abbrev pub frames_by : {E : Type 0} → (List E → E → List PacketParts) → List E → Option E → List Frame
+abbrev pub frames_by : {E : Type 0} → (List E → E → List PacketParts) → List E → Option E
+    → List Frame
 frames_by sends past None = []
 frames_by sends past (Some e) = flat_map frames_of (sends past e)
 
@@ -71,7 +73,8 @@ frames_by sends past (Some e) = flat_map frames_of (sends past e)
 abbrev pub frames_of_coming :
     {E : Type 0} → Rules E Left → (List E → E → List PacketParts) → List (Coming E Left)
     → Coming E Left → List Frame
-frames_of_coming r sends past c = frames_by sends (heard r past).entries (entry_of r (heard r past) c)
+frames_of_coming r sends past c =
+    frames_by sends (heard r past).entries (entry_of r (heard r past) c)
 
 -- The frames that a step sends.
 abbrev pub frames_of_step : Setup → List FrameStep → FrameStep → List Frame
@@ -79,7 +82,8 @@ frames_of_step w past (OfServer s c) =
     frames_of_coming (at_server s) (servers.packets (opening_of s)) (of_server s past) c
 frames_of_step w past (OfClient c) =
     frames_of_coming (at_client w) (clients.packets (client_opening w)) (of_client w past) c
-frames_of_step w past (OfMirror e) = flat_map frames_of (mirrors.packets mirror_opening (of_mirror past) e)
+frames_of_step w past (OfMirror e) =
+    flat_map frames_of (mirrors.packets mirror_opening (of_mirror past) e)
 
 -- Every frame that was ever sent, the oldest first.
 unfoldable pub frames_sent : Setup → List FrameStep → List Frame
@@ -121,17 +125,19 @@ is_allowed w past (OfClient (Comes f left)) = true
 is_allowed w past (OfClient (Happens e)) = is_of_setup w (trace_heard w past) (AtClient e)
 is_allowed w past (OfMirror e) = w.mirror
 
--- A trace of frames: each frame that a node takes was sent to it earlier, and each step is one of the setup.
+-- A trace of frames: each frame that a node takes was sent to it earlier, and each step is one of
+-- the setup.
 abbrev pub IsFrameTrace : Setup → List FrameStep → Type 0
 IsFrameTrace w [] = Unit {0}
 IsFrameTrace w (step ∷ past) =
     IsFrameTrace w past × MayHappen (frames_sent w past) step × IsTrue (is_allowed w past step)
 
--- What happens to a server, as an entry of its list of frames. A packet that comes besides the frames,
--- as none does in a trace, is one that comes whole.
+-- What happens to a server, as an entry of its list of frames. A packet that comes besides the
+-- frames, as none does in a trace, is one that comes whole.
 abbrev pub frame_entry : Coming server.Entry Left → server_hearing.FrameEntry
 frame_entry (Comes f left) = server_hearing.Met (inputs.Deliver f) left
-frame_entry (Happens (server.Met (events.Deliver p) left)) = server_hearing.Met (inputs.Deliver (Whole p)) left
+frame_entry (Happens (server.Met (events.Deliver p) left)) =
+    server_hearing.Met (inputs.Deliver (Whole p)) left
 frame_entry (Happens (server.Met (events.Issue j) left)) = server_hearing.Met (inputs.Issue j) left
 frame_entry (Happens (server.Met (events.WriteDone ticket end) left)) =
     server_hearing.Met (inputs.WriteDone ticket end) left
@@ -147,14 +153,18 @@ server_entries s t = map frame_entry (of_server s t)
 -- What happens to the client, as an entry of its list of frames.
 abbrev pub client_frame_entry : Coming client.Entry Left → client_hearing.FrameEntry
 client_frame_entry (Comes f left) = client_hearing.Met (client_inputs.Deliver f) left
-client_frame_entry (Happens (client.Met (calls.Begin text) left)) = client_hearing.Met (client_inputs.Begin text) left
-client_frame_entry (Happens (client.Met (calls.Trigger run act) left)) = client_hearing.Met (client_inputs.Trigger run act) left
-client_frame_entry (Happens (client.Met (calls.Stop run) left)) = client_hearing.Met (client_inputs.Stop run) left
+client_frame_entry (Happens (client.Met (calls.Begin text) left)) =
+    client_hearing.Met (client_inputs.Begin text) left
+client_frame_entry (Happens (client.Met (calls.Trigger run act) left)) =
+    client_hearing.Met (client_inputs.Trigger run act) left
+client_frame_entry (Happens (client.Met (calls.Stop run) left)) =
+    client_hearing.Met (client_inputs.Stop run) left
 client_frame_entry (Happens (client.Met (calls.Verify run text) left)) =
     client_hearing.Met (client_inputs.Verify run text) left
 client_frame_entry (Happens (client.Met (calls.Deliver p) left)) =
     client_hearing.Met (client_inputs.Deliver (Whole p)) left
-client_frame_entry (Happens (client.Met calls.Tick left)) = client_hearing.Met client_inputs.Tick left
+client_frame_entry (Happens (client.Met calls.Tick left)) =
+    client_hearing.Met client_inputs.Tick left
 client_frame_entry (Happens client.Cut) = client_hearing.Cut
 client_frame_entry (Happens (client.Restart mirror)) = client_hearing.Restart mirror
 client_frame_entry (Happens (client.Renew g left)) = client_hearing.Renew g left

@@ -4,8 +4,8 @@ use Rattle.messages.specs.declared.node.Node.{Node}
 use Rattle.messages.specs.declared.refusal.Act.{Act}
 
 -- A happening is one thing that can come about in a world: its client is asked something, a frame
--- comes, a write or a check goes on, a sector changes, or a node loses its power or its note, or starts
--- again. Any number may be given: those of no server, frame or write are refused.
+-- comes, a write or a check goes on, a sector changes, or a node loses its power or its note, or
+-- starts again. Any number may be given: those of no server, frame or write are refused.
 pub data Happening : Type 0 where
   Begin : List ℕ → Happening  -- the client begins a run with this job file
   Trigger : ℕ → Act → Happening  -- it triggers a run's states, and then this act

@@ -48,10 +48,11 @@ HeldIsTheTaken w t = (key : Key) (state : State) → Holds w t key state → tak
 -- So do pieces that were sent and hold one together.
 abbrev pub PiecesHoldTheTaken : Setup → List FrameStep → Type 0
 PiecesHoldTheTaken w t =
-    (key : Key) (state : State) → PiecesHold w t key state → taken_of key (trace_heard w t) ≡ state ∷ []
+    (key : Key) (state : State) → PiecesHold w t key state
+    → taken_of key (trace_heard w t) ≡ state ∷ []
 
--- A state that is held was taken at its server, by a Trigger behind the accepted Start of its run, and
--- counts exactly the writes that were completed between the two.
+-- A state that is held was taken at its server, by a Trigger behind the accepted Start of its run,
+-- and counts exactly the writes that were completed between the two.
 abbrev pub CountsTheCompleted : Setup → List Step → Type 0
 CountsTheCompleted w t =
     (key : Key) (state : State) → Holds w t key state →
@@ -69,7 +70,8 @@ ExactReports w past =
     (s j : ℕ) (t : Told) → told_of_happening w past (happenings.Check s j) ≡ Ok t →
     (r : ReportParts) × (t.answer ≡ Checked r) × IsExact w past s j r
 
--- On honest disks a check with a state faults only blocks to which a write was in flight at the taking.
+-- On honest disks a check with a state faults only blocks to which a write was in flight at the
+-- taking.
 abbrev pub FewFaults : Setup → List Change → Type 0
 FewFaults w past =
     (s j : ℕ) (c : Check) (job : Job) (state : State) (block : ℕ) →
@@ -101,27 +103,32 @@ KeptWhereServed w t =
     trigger_at key.run key.server (life (client_opening w) (of_client w t)) ≡ Served →
     Contains (taken_of key t) state → kept_state (client_opening w) (of_client w t) key ≡ Some state
 
--- Where a server asked for the cut, each state that it took in its run was kept by then: a note can be
--- lost since.
+-- Where a server asked for the cut, each state that it took in its run was kept by then: a note can
+-- be lost since.
 abbrev pub KeptWhereCut : Setup → List Step → Type 0
 KeptWhereCut w t =
-    (later earlier : List Step) (s : ℕ) (e : Event) (left : Left) (now : Work) (j : ℕ) (state : State) →
-    t ≡ later ++ AtServer s (Met e left) ∷ earlier → work (opening_of s) (of_server s earlier) ≡ Some now
+    (later earlier : List Step) (s : ℕ) (e : Event) (left : Left) (now : Work) (j : ℕ)
+    (state : State) →
+    t ≡ later ++ AtServer s (Met e left) ∷ earlier
+    → work (opening_of s) (of_server s earlier) ≡ Some now
     → act (opening_of s) (of_server s earlier) e ≡ acts.Cut
     → Contains (taken_of (key_at now.run s j) earlier) state
     → WasKept w earlier (key_at now.run s j) state
 
 -- No run is given twice, whatever was cut and lost.
 abbrev pub RunsAreGivenOnce : Setup → List Step → Type 0
-RunsAreGivenOnce w t = IsTrue (is_distinct (runs_in (deeds_done (client_opening w) (of_client w t))))
+RunsAreGivenOnce w t =
+    IsTrue (is_distinct (runs_in (deeds_done (client_opening w) (of_client w t))))
 
 -- No attempt is given twice.
 abbrev pub AttemptsAreGivenOnce : Setup → List Step → Type 0
-AttemptsAreGivenOnce w t = IsTrue (is_distinct (attempts_in (deeds_done (client_opening w) (of_client w t))))
+AttemptsAreGivenOnce w t =
+    IsTrue (is_distinct (attempts_in (deeds_done (client_opening w) (of_client w t))))
 
 -- A server accepts a Start of a run once.
 abbrev pub StartsAreAcceptedOnce : Setup → List Step → Type 0
-StartsAreAcceptedOnce w t = (s : ℕ) → IsTrue (is_distinct (started_runs (opening_of s) (of_server s t)))
+StartsAreAcceptedOnce w t =
+    (s : ℕ) → IsTrue (is_distinct (started_runs (opening_of s) (of_server s t)))
 
 -- All Jobs packets of a run carry one text, to whichever servers they go.
 abbrev pub OneTextOfEachRun : Setup → List Step → Type 0

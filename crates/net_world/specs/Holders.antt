@@ -40,11 +40,14 @@ carried_state (bodies.Saved attempt state) = Some state
 carried_state (bodies.Copy state) = Some state
 carried_state _ = None
 
--- Who holds a state of a key: its server, which took it in this life; a server whose open check is made
--- with it; the client and the mirror, which keep it; a packet that was sent with it.
+-- Who holds a state of a key: its server, which took it in this life; a server whose open check is
+-- made with it; the client and the mirror, which keep it; a packet that was sent with it.
 pub data Holds (w : Setup) (t : List Step) (key : Key) (state : State) : Type 0 where
-  ByTaking : Contains (taken_in_life (opening_of key.server) key.run key.job (of_server key.server t)) state → Holds w t key state
-  ByCheck : (s j : ℕ) → progress (opening_of s) (of_server s t) j ≡ Some (With state) → state.key ≡ key → Holds w t key state
+  ByTaking : Contains (taken_in_life (opening_of key.server) key.run key.job
+      (of_server key.server t)) state → Holds w t key state
+  ByCheck : (s j : ℕ) → progress (opening_of s) (of_server s t) j ≡ Some (With state)
+      → state.key ≡ key → Holds w t key state
   ByClient : kept_state (client_opening w) (of_client w t) key ≡ Some state → Holds w t key state
   ByMirror : mirrors.kept_state mirror_opening (of_mirror t) key ≡ Some state → Holds w t key state
-  ByPacket : (p : PacketParts) → Contains (sent_packets w t) p → carried_state p.body ≡ Some state → state.key ≡ key → Holds w t key state
+  ByPacket : (p : PacketParts) → Contains (sent_packets w t) p → carried_state p.body ≡ Some state
+      → state.key ≡ key → Holds w t key state

@@ -35,8 +35,8 @@ IsInFile w past (OfServer s (Happens (server.Met (WriteDone ticket Done) left)))
     HoldsWrite (content w past s ticket.key.job) origin.key origin.job ticket.seq
 IsInFile w past _ = Unit {0}
 
--- The disks were honest: no sector has rotted, and each write that was told as done was in its file by
--- then.
+-- The disks were honest: no sector has rotted, and each write that was told as done was in its file
+-- by then.
 abbrev pub AreHonest : Setup → List Change → Type 0
 AreHonest w [] = Unit {0}
 AreHonest w (Met step ∷ past) = AreHonest w past × IsInFile w past step
@@ -53,7 +53,8 @@ AreWhole w [] = Unit {0}
 AreWhole w (Met step ∷ past) = AreWhole w past
 AreWhole w (Landed s j k mask ∷ past) =
     AreWhole w past
-    × ((origin : Origin) → open_at (trace w past) s j k ≡ Some origin → HasAllSectors mask origin.job)
+    × ((origin : Origin) → open_at (trace w past) s j k ≡ Some origin
+    → HasAllSectors mask origin.job)
 AreWhole w (Rotted s j sector bytes ∷ past) = AreWhole w past
 
 -- A write to this block was in flight when the state was taken.
@@ -64,7 +65,8 @@ pub record WasInFlight (state : State) (block : ℕ) : Type 0 where
   pub there : block_of state.job write ≡ block
 
 -- Job j of the open check at server s is checked with this state.
-pub record IsCheckedWith (w : Setup) (past : List Change) (s j : ℕ) (c : Check) (job : Job) (state : State) : Type 0 where
+pub record IsCheckedWith (w : Setup) (past : List Change) (s j : ℕ) (c : Check) (job : Job)
+    (state : State) : Type 0 where
   pub is_open : check (opening_of s) (of_server s (trace w past)) ≡ Some c
   pub has_job : slice_get c.jobs j ≡ Some job
   pub made : progress_after c j job c.since ≡ With state

@@ -25,8 +25,8 @@ EntryFits (Met e left) = ReportFits e
 EntryFits Cut = Unit {0}
 EntryFits (Restart left) = Unit {0}
 
--- A step is at the client, at the mirror, or at a server with a number below 8, and its report is within
--- its ranges.
+-- A step is at the client, at the mirror, or at a server with a number below 8, and its report is
+-- within its ranges.
 abbrev pub StepFits : Step → Type 0
 StepFits (AtServer s e) = (s < MAX_SERVERS) × EntryFits e
 StepFits (AtClient e) = Unit {0}
@@ -44,10 +44,12 @@ pub record Fits (w : Setup) (t : List Step) : Type 0 where
   pub few : w.servers ≤ MAX_SERVERS
   pub steps : AllByRecursion StepFits t
 
+-- The servers of a trace of frames are few, and its steps are in their ranges.
 pub record FitsFrames (w : Setup) (t : List FrameStep) : Type 0 where
   pub few : w.servers ≤ MAX_SERVERS
   pub steps : AllByRecursion FrameStepFits t
 
 -- All that is sent in a trace is within the ranges of packets.
 abbrev pub SentAreInRange : Type 0
-SentAreInRange = (w : Setup) (t : List Step) → IsTrace w t → Fits w t → ArePackets (sent_packets w t)
+SentAreInRange =
+    (w : Setup) (t : List Step) → IsTrace w t → Fits w t → ArePackets (sent_packets w t)

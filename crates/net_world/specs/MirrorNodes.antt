@@ -16,8 +16,8 @@ use Rattle.net_world.specs.declared.mirror_node.MirrorNode.{MirrorNode}
 use Rattle.net_world.specs.declared.mirror_node.MirrorNode.TheVariants.{On, Off}
 use Rattle.net_world.specs.Nodes.{Nodes}
 
--- A mirror that runs stands for the list, which says that it is on; of one that is off, which the list
--- says, the note says what the list says.
+-- A mirror that runs stands for the list, which says that it is on; of one that is off, which the
+-- list says, the note says what the list says.
 abbrev pub Stands : Noted → List Entry → MirrorNode → Type 0
 Stands o past (On mirror) = StandsFor note_of mirror o past × (is_on past ≡ true)
 Stands o past (Off notes) = Says (note_of notes).bytes (words_noted o past) × (is_on past ≡ false)

@@ -21,13 +21,16 @@ pub record AreOpened (count : ℕ) (nodes : List ServerNode) : Type 0 where
       (s : ℕ) (node : ServerNode) → slice_get nodes s ≡ Some node
       → Stands (opening_of s) (Restart Saved ∷ []) node
 
--- Where a world has a mirror that is on since its first restart, generation 1 was handed in, else none.
+-- Where a world has a mirror that is on since its first restart, generation 1 was handed in, else
+-- none.
 abbrev pub OpensMirror : Bool → Option MirrorNode → ℕ → Type 0
 OpensMirror false None greatest = greatest ≡ 0
-OpensMirror true (Some node) greatest = mirrors.Stands mirror_opening (mirror.Restart ∷ []) node × (greatest ≡ 1)
+OpensMirror true (Some node) greatest =
+    mirrors.Stands mirror_opening (mirror.Restart ∷ []) node × (greatest ≡ 1)
 OpensMirror _ _ greatest = ⊥
 
--- The mirror is on since its first restart, where the world has one, and the client's generation was handed in.
+-- The mirror is on since its first restart, where the world has one, and the client's generation
+-- was handed in.
 abbrev pub HasOpened : Config → Mirrored → Type 0
 HasOpened config m = OpensMirror config.mirror m.node m.greatest
 

@@ -27,7 +27,8 @@ use Rattle.client_core.specs.declared.noted.Noted.{Noted}
 use Rattle.mirror_core.specs.History as mirror
 use Rattle.mirror_core.specs.Words as mirrors
 use Rattle.net_world.specs.Setup.{Setup}
-use Rattle.net_world.specs.Happenings.{Happening, Begin, Trigger, StopRun, Verify, Tick, Deliver, Issue, Land, Done, Fail, Rot, Check, Cut, Restart, LoseNote, Renew, CutIn}
+use Rattle.net_world.specs.Happenings.{Happening, Begin, Trigger, StopRun, Verify, Tick, Deliver, Issue}
+use Rattle.net_world.specs.Happenings.{Land, Done, Fail, Rot, Check, Cut, Restart, LoseNote, Renew, CutIn}
 use Rattle.net_world.specs.Trace.{Step, of_server, of_client, of_mirror, opening_of, client_opening, mirror_opening}
 use Rattle.net_world.specs.Frames as frames
 use Rattle.net_world.specs.Frames.{FrameStep, OfServer, OfClient, OfMirror, at_server, at_client, frames_sent, to_of}
@@ -36,8 +37,8 @@ use Rattle.net_world.specs.Writes.{open_at}
 use Rattle.net_world.specs.Checks.{end_of_check}
 use Rattle.net_world.specs.Barred.{barring_fault}
 
--- What comes of what happens: a change; a refusal; or a piece is refused and its tag is dropped, which
--- is a step of its node.
+-- What comes of what happens: a change; a refusal; or a piece is refused and its tag is dropped,
+-- which is a step of its node.
 pub data Outcome : Type 0 where
   Does : Change → Outcome
   Refuses : Fault → Outcome
@@ -78,8 +79,8 @@ met_by_client w t c =
     unless_fault (clients.refusal o past c)
     (Ok (OfClient (Happens (client.Met c (saved_for (clients.due o past c))))))
 
--- A frame comes to a server, which makes this of it: its packet is met, or refused; a piece waits for
--- others; or it is refused, and its tag is dropped; or it isn't for the server.
+-- A frame comes to a server, which makes this of it: its packet is met, or refused; a piece waits
+-- for others; or it is refused, and its tag is dropped; or it isn't for the server.
 abbrev pub comes_to_server : List Step → ℕ → Frame → Meaning → Outcome
 comes_to_server t s f (Says p) =
     let o = opening_of s in
@@ -105,6 +106,7 @@ comes_to_client w t f Strays = Refuses Misdirected
 abbrev pub said_to_server : List FrameStep → ℕ → Frame → Meaning
 said_to_server past s f = meaning (at_server s) (heard (at_server s) (frames.of_server s past)) f
 
+-- What a frame says to the client, behind these steps.
 abbrev pub said_to_client : Setup → List FrameStep → Frame → Meaning
 said_to_client w past f = meaning (at_client w) (heard (at_client w) (frames.of_client w past)) f
 
@@ -121,6 +123,7 @@ comes_to w past (Server s) f = comes_to_server (trace w past) s f (said_to_serve
 comes_to w past Client f = comes_to_client w (trace w past) f (said_to_client w (steps past) f)
 comes_to w past Mirror f = outcome_of_step (comes_to_mirror (trace w past) f)
 
+-- A frame that was sent comes to its node, and one that wasn't is refused.
 abbrev pub delivery : Setup → List Change → Option Frame → Outcome
 delivery w past None = Refuses NoFrame
 delivery w past (Some f) = comes_to w past (to_of f) f
@@ -149,11 +152,12 @@ has_boot t s = nat_lt (servers.boot (opening_of s) (of_server s t) + 1) (2 ^ 64)
 abbrev pub noted_in : Setup → List Step → Noted
 noted_in w t = clients.words_noted (client_opening w) (of_client w t)
 
--- A node is started again; a server saves its boot before, and a client with a mirror is started only on a
--- note.
+-- A node is started again; a server saves its boot before, and a client with a mirror is started
+-- only on a note.
 abbrev pub restart_of : Setup → List Step → Node → Result FrameStep Fault
 restart_of w t (Server s) =
-    if has_boot t s then Ok (OfServer s (Happens (server.Restart lefts.Saved))) else Err NumbersSpent
+    if has_boot t s then Ok (OfServer s (Happens (server.Restart lefts.Saved)))
+    else Err NumbersSpent
 restart_of w t Client =
     if w.mirror && is_blank (noted_in w t) then Err BadNote
     else Ok (OfClient (Happens (client.Restart w.mirror)))
@@ -162,7 +166,8 @@ restart_of w t Mirror = Ok (OfMirror mirror.Restart)
 -- The client is started on no note, and saves the generation that it is given.
 abbrev pub renewal : Setup → List Step → ℕ → Result FrameStep Fault
 renewal w t g =
-    if is_blank (noted_in w t) then Ok (OfClient (Happens (client.Renew g lefts.Saved))) else Err BadNote
+    if is_blank (noted_in w t) then Ok (OfClient (Happens (client.Renew g lefts.Saved)))
+    else Err BadNote
 
 -- The client loses its power within the save that a call is due to make.
 abbrev pub client_cut_in : Setup → List Step → Bool → Call → Result FrameStep Fault
@@ -177,6 +182,7 @@ server_frame_cut t s landed f (Says p) =
     (OfServer s (Comes f (lost_by landed)))
 server_frame_cut t s landed f _ = Err NoSave
 
+-- The client loses its power within the save of what a frame says, where there is one.
 abbrev pub client_frame_cut : Setup → List Step → Bool → Frame → Meaning → Result FrameStep Fault
 client_frame_cut w t landed f (Says p) =
     where_saved (clients.due (client_opening w) (of_client w t) (calls.Deliver p))
@@ -186,7 +192,8 @@ client_frame_cut w t landed f _ = Err NoSave
 -- The mirror does.
 abbrev pub mirror_frame_cut : List Step → Bool → Frame → Result FrameStep Fault
 mirror_frame_cut t landed f =
-    where_saved (mirrors.due mirror_opening (of_mirror t) f) (OfMirror (mirror.Met f (lost_by landed)))
+    where_saved (mirrors.due mirror_opening (of_mirror t) f)
+    (OfMirror (mirror.Met f (lost_by landed)))
 
 -- The node of a frame does.
 abbrev pub frame_cut : Setup → List Change → Bool → Node → Frame → Result FrameStep Fault
@@ -196,6 +203,7 @@ frame_cut w past landed Client f =
     client_frame_cut w (trace w past) landed f (said_to_client w (steps past) f)
 frame_cut w past landed Mirror f = mirror_frame_cut (trace w past) landed f
 
+-- A node loses its power within the save of a frame that was sent.
 abbrev pub delivery_cut_in : Setup → List Change → Bool → Option Frame → Result FrameStep Fault
 delivery_cut_in w past landed None = Err NoFrame
 delivery_cut_in w past landed (Some f) = frame_cut w past landed (to_of f) f
@@ -210,12 +218,14 @@ restart_cut_in t landed Mirror = Err NoSave
 -- The client loses its power within the save of its generation, where it has no note.
 abbrev pub renewal_cut_in : Setup → List Step → Bool → ℕ → Result FrameStep Fault
 renewal_cut_in w t landed g =
-    if is_blank (noted_in w t) then Ok (OfClient (Happens (client.Renew g (lost_by landed)))) else Err NoSave
+    if is_blank (noted_in w t) then Ok (OfClient (Happens (client.Renew g (lost_by landed))))
+    else Err NoSave
 
 -- A node loses its power within the save of what happens. Only these five make one.
 abbrev pub cut_in : Setup → List Change → Bool → Happening → Result FrameStep Fault
 cut_in w past landed (Begin text) = client_cut_in w (trace w past) landed (calls.Begin text)
-cut_in w past landed (Verify run text) = client_cut_in w (trace w past) landed (calls.Verify run text)
+cut_in w past landed (Verify run text) =
+    client_cut_in w (trace w past) landed (calls.Verify run text)
 cut_in w past landed (Deliver i) =
     delivery_cut_in w past landed (slice_get (frames_sent w (steps past)) i)
 cut_in w past landed (Restart node) = restart_cut_in (trace w past) landed node
@@ -225,17 +235,22 @@ cut_in w past landed _ = Err NoSave
 -- What comes of what the world doesn't refuse.
 abbrev pub brings : Setup → List Change → Happening → Outcome
 brings w past (Begin text) = outcome_of_step (met_by_client w (trace w past) (calls.Begin text))
-brings w past (Trigger run act) = outcome_of_step (met_by_client w (trace w past) (calls.Trigger run act))
+brings w past (Trigger run act) =
+    outcome_of_step (met_by_client w (trace w past) (calls.Trigger run act))
 brings w past (StopRun run) = outcome_of_step (met_by_client w (trace w past) (calls.Stop run))
-brings w past (Verify run text) = outcome_of_step (met_by_client w (trace w past) (calls.Verify run text))
+brings w past (Verify run text) =
+    outcome_of_step (met_by_client w (trace w past) (calls.Verify run text))
 brings w past Tick = outcome_of_step (met_by_client w (trace w past) calls.Tick)
 brings w past (Deliver i) = delivery w past (slice_get (frames_sent w (steps past)) i)
 brings w past (Issue s j) = outcome_of_step (met_by_server (trace w past) s (events.Issue j))
 brings w past (Land s j k mask) = Does (Landed s j k mask)
-brings w past (Done s j k) = outcome_of_step (end_of_write (trace w past) s k ends.Done (open_at (trace w past) s j k))
-brings w past (Fail s j k) = outcome_of_step (end_of_write (trace w past) s k ends.Failed (open_at (trace w past) s j k))
+brings w past (Done s j k) =
+    outcome_of_step (end_of_write (trace w past) s k ends.Done (open_at (trace w past) s j k))
+brings w past (Fail s j k) =
+    outcome_of_step (end_of_write (trace w past) s k ends.Failed (open_at (trace w past) s j k))
 brings w past (Rot s j sector bytes) = Does (Rotted s j sector bytes)
-brings w past (Check s j) = outcome_of_step (end_of_check_met (trace w past) s (end_of_check w past s j))
+brings w past (Check s j) =
+    outcome_of_step (end_of_check_met (trace w past) s (end_of_check w past s j))
 brings w past (Cut node) = outcome_of_step (cut node)
 brings w past (Restart node) = outcome_of_step (restart_of w (trace w past) node)
 brings w past LoseNote = Does (Met (OfClient (Happens client.Lose)))

@@ -1,5 +1,5 @@
--- How a verify state goes round: from its server to the client; into the client's note, to the mirror and
--- back, however often a note is lost; to a server again in a Saved; and into a check.
+-- How a verify state goes round: from its server to the client; into the client's note, to the
+-- mirror and back, however often a note is lost; to a server again in a Saved; and into a check.
 use Rattle.std.specs.Prelude.{◌≡◌, ℕ, List, ◌++◌, Some, Contains}
 use Rattle.fc_base.specs.declared.fault.Fault.TheVariants.{Conflict}
 use Rattle.fc_base.specs.declared.numbers.Key.{Key}
@@ -21,26 +21,31 @@ use Rattle.net_world.specs.Holders.{taken_of, carried_state}
 abbrev pub SentStatesWereTaken : Setup → List Step → Type 0
 SentStatesWereTaken w t =
     (p : PacketParts) (jobs : ℕ) (state : State) →
-    Contains (sent_packets w t) p → p.body ≡ bodies.State jobs state → Contains (taken_of state.key t) state
+    Contains (sent_packets w t) p → p.body ≡ bodies.State jobs state
+    → Contains (taken_of state.key t) state
 
 -- The state was sent to the client in a State, by the server that its key names.
 abbrev pub WasSent : Setup → List Step → State → Type 0
-WasSent w t state = (jobs : ℕ) × Contains (sent_packets w t) (from_server (bodies.State jobs state) state.key.server)
+WasSent w t state = (jobs : ℕ) × Contains (sent_packets w t)
+    (from_server (bodies.State jobs state) state.key.server)
 
 -- Each state that a packet carries was sent so: a State itself, a Saved, and a Copy.
 abbrev pub CarriedStatesWereSent : Setup → List Step → Type 0
 CarriedStatesWereSent w t =
-    (p : PacketParts) (state : State) → Contains (sent_packets w t) p → carried_state p.body ≡ Some state → WasSent w t state
+    (p : PacketParts) (state : State) → Contains (sent_packets w t) p
+    → carried_state p.body ≡ Some state → WasSent w t state
 
 -- Each state that the client's note has was sent so, in whichever life it was noted.
 abbrev pub KeptStatesWereSent : Setup → List Step → Type 0
 KeptStatesWereSent w t =
-    (state : State) → Contains (words_noted (client_opening w) (of_client w t)).kept state → WasSent w t state
+    (state : State) → Contains (words_noted (client_opening w) (of_client w t)).kept state
+    → WasSent w t state
 
 -- Each state that the mirror's note has was sent so.
 abbrev pub CopiedStatesWereSent : Setup → List Step → Type 0
 CopiedStatesWereSent w t =
-    (state : State) → Contains (mirrors.words_noted mirror_opening (of_mirror t)).kept state → WasSent w t state
+    (state : State) → Contains (mirrors.words_noted mirror_opening (of_mirror t)).kept state
+    → WasSent w t state
 
 -- There was a moment at which the client kept the state.
 pub record WasKept (w : Setup) (t : List Step) (key : Key) (state : State) : Type 0 where
@@ -53,7 +58,8 @@ pub record WasKept (w : Setup) (t : List Step) (key : Key) (state : State) : Typ
 abbrev pub SavedStatesWereKept : Setup → List Step → Type 0
 SavedStatesWereKept w t =
     (p : PacketParts) (attempt : ℕ) (state : State) →
-    Contains (sent_packets w t) p → p.body ≡ bodies.Saved attempt state → WasKept w t state.key state
+    Contains (sent_packets w t) p → p.body ≡ bodies.Saved attempt state
+    → WasKept w t state.key state
 
 -- Each state that a job is checked with was sent to its server.
 abbrev pub CheckedStatesWereSent : Setup → List Step → Type 0

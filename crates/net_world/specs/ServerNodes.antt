@@ -29,8 +29,8 @@ words_noted o past = record { boot = boot o past; last_run = last_run o past }
 abbrev pub is_up : Opening → List FrameEntry → Bool
 is_up o past = is_on (packets_heard o past)
 
--- A server that runs stands for the list, which says that it is on; of one that is off, which the list
--- says, the note says what the list says.
+-- A server that runs stands for the list, which says that it is on; of one that is off, which the
+-- list says, the note says what the list says.
 abbrev pub Stands : Opening → List FrameEntry → ServerNode → Type 0
 Stands o past (On server) = StandsFor note_of server o past × (is_up o past ≡ true)
 Stands o past (Off notes) =

@@ -34,7 +34,8 @@ abbrev pub step_by : List Change → ℕ → Input → FrameStep
 step_by past s e = step_of s (answered_entry (opening_of s) (entries past s) e)
 
 -- The server is there and on, doesn't refuse what comes, and its step is added.
-pub record Serves (w : Setup) (past : List Change) (s : ℕ) (e : Input) (new : World) (served : Served) : Type 0 where
+pub record Serves (w : Setup) (past : List Change) (s : ℕ) (e : Input) (new : World)
+    (served : Served) : Type 0 where
   pub on : unless_on w (trace w past) (nodes.Server s) ≡ None
   pub free : refusal (opening_of s) (entries past s) e ≡ None
   pub first_is : served.first ≡ length (frames_sent w (steps past))
@@ -44,12 +45,15 @@ pub record Serves (w : Setup) (past : List Change) (s : ℕ) (e : Input) (new : 
   pub stands : StandsFor w (changes.Met (step_by past s e) ∷ past) new
 
 -- There is no such server, or it is off.
-pub record IsBarred (w : Setup) (past : List Change) (s : ℕ) (fault : Fault) (new : World) : Type 0 where
+pub record IsBarred (w : Setup) (past : List Change) (s : ℕ) (fault : Fault)
+    (new : World) : Type 0 where
   pub why : unless_on w (trace w past) (nodes.Server s) ≡ Some fault
   pub unchanged : StandsFor w past new
 
--- The server refuses what comes. That may stand in the list, or be left out, but where it drops a tag.
-pub record Refuses (w : Setup) (past : List Change) (s : ℕ) (e : Input) (fault : Fault) (new : World) : Type 0 where
+-- The server refuses what comes. That may stand in the list, or be left out, but where it drops a
+-- tag.
+pub record Refuses (w : Setup) (past : List Change) (s : ℕ) (e : Input) (fault : Fault)
+    (new : World) : Type 0 where
   pub on : unless_on w (trace w past) (nodes.Server s) ≡ None
   pub why : refusal (opening_of s) (entries past s) e ≡ Some fault
   pub stands : StandsFor w (changes.Met (step_of s (Met e NoSave)) ∷ past) new
@@ -59,7 +63,8 @@ pub record Refuses (w : Setup) (past : List Change) (s : ℕ) (e : Input) (fault
 abbrev pub Faults : Setup → List Change → ℕ → Input → FaultSort → Fault → World → Type 0
 Faults w past s e sorts.Memory fault new = (fault ≡ NoMemory) × StandsFor w past new
 Faults w past s e sorts.Save fault new = ⊥
-Faults w past s e sorts.Refusal fault new = IsBarred w past s fault new ⊎ Refuses w past s e fault new
+Faults w past s e sorts.Refusal fault new =
+    IsBarred w past s fault new ⊎ Refuses w past s e fault new
 
 -- How what comes to a server ends.
 abbrev pub ServerEnds : Setup → List Change → ℕ → Input → World → Result Served Fault → Type 0

@@ -33,7 +33,8 @@ IsMirror w past (Some node) = (w.mirror ≡ true) × mirrors.Stands mirror_openi
 -- A number of a generation is above all that were handed in where it is above the greatest of them.
 abbrev pub IsGreatest : ℕ → List ℕ → Type 0
 IsGreatest greatest handed =
-    (g : ℕ) → is_generation g ≡ true → list_all (λ earlier. nat_lt earlier g) handed ≡ nat_lt greatest g
+    (g : ℕ) → is_generation g ≡ true
+    → list_all (λ earlier. nat_lt earlier g) handed ≡ nat_lt greatest g
 
 -- A world stands for changes: its frames are those that were sent, each node stands for its
 -- own list, and each file holds what it holds by them. A server has 16 files.
@@ -47,8 +48,10 @@ pub record StandsFor (w : Setup) (past : List Change) (now : World) : Type 0 whe
       → servers.Stands (opening_of s) (server_entries s (steps past)) node
   pub client_is : clients.Stands (client_opening w) (client_entries w (steps past)) now.client
   pub mirror_is : IsMirror w (of_mirror (steps past)) now.mirror.node
-  pub greatest_is : IsGreatest now.mirror.greatest (clients.handed_in (client_entries w (steps past)))
+  pub greatest_is : IsGreatest now.mirror.greatest
+      (clients.handed_in (client_entries w (steps past)))
   pub files : length now.files.items ≡ MAX_JOBS * w.servers
   pub files_are :
-      (s j : ℕ) (disk : MemDisk) → j < MAX_JOBS → slice_get now.files.items (MAX_JOBS * s + j) ≡ Some disk
+      (s j : ℕ) (disk : MemDisk) → j < MAX_JOBS
+      → slice_get now.files.items (MAX_JOBS * s + j) ≡ Some disk
       → file_of disk ≡ file w past s j

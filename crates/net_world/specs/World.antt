@@ -1,4 +1,5 @@
--- What has changed in a world once this has happened in it, the newest first, and what each is told.
+-- What has changed in a world once this has happened in it, the newest first, and what each is
+-- told.
 use Rattle.std.specs.Prelude.{ℕ, ◌+◌, List, [], ◌∷◌, length, map, Option, Some, None, Result, Ok, Err, nat_lt, ◌&&◌, if◌then◌else◌}
 use Rattle.fc_base.specs.declared.fault.Fault.{Fault}
 use Rattle.fc_base.specs.declared.fault.Fault.TheVariants.{FrameBadField}
@@ -51,7 +52,8 @@ client_note w past = clients.words_noted (client_opening w) (of_client w (trace 
 -- The state that the client keeps of a key, while it is on.
 abbrev pub saved_state : Setup → List Change → Key → Option State
 saved_state w past key =
-    if is_on w (trace w past) Client then clients.kept_state (client_opening w) (of_client w (trace w past)) key
+    if is_on w (trace w past) Client
+    then clients.kept_state (client_opening w) (of_client w (trace w past)) key
     else None
 
 -- What a server shows of itself, while it is there and on.
@@ -71,8 +73,8 @@ abbrev pub report_in : Option Event → WorldAnswer
 report_in (Some (events.CheckDone boot attempt j report)) = answers.Checked report
 report_in _ = answers.Plain
 
--- What is answered where it isn't refused: the number of the run or attempt, what the worker is told,
--- or the report.
+-- What is answered where it isn't refused: the number of the run or attempt, what the worker is
+-- told, or the report.
 abbrev pub answer : Setup → List Change → Happening → WorldAnswer
 answer w past (Begin text) = answers.Run ((client_note w past).runs + 1)
 answer w past (Verify run text) = answers.Attempt ((client_note w past).attempts + 1)

@@ -13,17 +13,20 @@ use Rattle.net_world.specs.World.{world}
 
 -- The steps of the nodes of a world are a trace of frames.
 abbrev pub EachWorldIsAFrameTrace : Type 0
-EachWorldIsAFrameTrace = (w : Setup) (events : List Happening) → IsFrameTrace w (steps (world w events))
+EachWorldIsAFrameTrace =
+    (w : Setup) (events : List Happening) → IsFrameTrace w (steps (world w events))
 
 -- So what they hear is a trace, where the world has at most 8 servers.
 abbrev pub EachWorldIsATrace : Type 0
-EachWorldIsATrace = (w : Setup) (events : List Happening) → w.servers ≤ MAX_SERVERS → IsTrace w (trace w (world w events))
+EachWorldIsATrace = (w : Setup) (events : List Happening) → w.servers ≤ MAX_SERVERS
+    → IsTrace w (trace w (world w events))
 
 -- Each frame that was sent in a world is in its ranges, and short enough to be read.
 abbrev pub SentAreFrames : Type 0
 SentAreFrames =
     (w : Setup) (events : List Happening) (f : Frame) →
-    w.servers ≤ MAX_SERVERS → Contains (frames_sent w (steps (world w events))) f → IsFrame f × IsShort f
+    w.servers ≤ MAX_SERVERS → Contains (frames_sent w (steps (world w events))) f
+    → IsFrame f × IsShort f
 
 -- A frame's bytes have no fault, and say that frame.
 abbrev pub IsReadBack : Frame → Type 0

@@ -19,16 +19,20 @@ use Rattle.node_history.specs.Rules.{Ask, Rules}
 -- ---- nothing changes
 
 -- What is refused, and left out, changes nothing.
-pub left_out_posts : (node : Node) (came : Came) (taken : Option ℕ) (old new : Network) (before after : List Logged) (fault : Fault) → is_left_out (Err fault) ≡ true → new ≡ old → after ≡ before → Posts node came taken old new before after (Err fault)
+pub left_out_posts : (node : Node) (came : Came) (taken : Option ℕ) (old new : Network) (before after : List Logged) (fault : Fault)
+    → is_left_out (Err fault) ≡ true → new ≡ old → after ≡ before → Posts node came taken old new before after (Err fault)
 left_out_posts node came taken old new before after fault out net same =
     (Err fault, [], refl, subst (λ b. Hears b node came taken (Err fault) [] old new before after) (sym out) (record { net = net; history = same }))
 
-pub not_delivered : (node : Node) (position : ℕ) (found : Option (List ℕ)) (net : Network) (history : List Logged) (fault : Fault) → is_left_out (Err fault) ≡ true → Delivers node position found net net history history (Err fault)
+pub not_delivered : (node : Node) (position : ℕ) (found : Option (List ℕ)) (net : Network) (history : List Logged) (fault : Fault)
+    → is_left_out (Err fault) ≡ true → Delivers node position found net net history history (Err fault)
 not_delivered node position None net history fault out = record { net = refl; history = refl }
-not_delivered node position (Some bytes) net history fault out = left_out_posts node (came.Frame bytes) (Some position) net net history history fault out refl refl
+not_delivered node position (Some bytes) net history fault out =
+    left_out_posts node (came.Frame bytes) (Some position) net net history history fault out refl refl
 
 -- Where no frame comes, nothing changes.
-pub not_there : (node : Node) (net : Network) (position : ℕ) (history : List Logged) (fault : Fault) → Comes net position (Err fault) → Delivers node position (slice_get net.frames position) net net history history (Err fault)
+pub not_there : (node : Node) (net : Network) (position : ℕ) (history : List Logged) (fault : Fault) → Comes net position (Err fault)
+    → Delivers node position (slice_get net.frames position) net net history history (Err fault)
 not_there node net position history NoFrame h = not_delivered node position (slice_get net.frames position) net history NoFrame refl
 not_there node net position history NoMemory h = not_delivered node position (slice_get net.frames position) net history NoMemory refl
 not_there node net position history _ h = absurd h
@@ -43,15 +47,20 @@ within net position it (bytes, is, came, frame) i e = subst (λ n. n < length ne
 -- ---- why
 
 -- A node that is off says so.
-pub why_off : {E X : Type 0} (rules : Rules E X) (history : List Logged) (past : List X) (ask : Ask E) → Makes rules history past → is_off rules past ≡ true → HasWhy rules history ask NodeOff
+pub why_off : {E X : Type 0} (rules : Rules E X) (history : List Logged) (past : List X) (ask : Ask E) → Makes rules history past → is_off rules past ≡ true
+    → HasWhy rules history ask NodeOff
 why_off rules history past ask made off = record { past = past; made = made; why = subst (λ b. IsWhyWhere b rules past ask NodeOff) (sym off) refl }
 
 -- Of one that is on it is by its rules.
-pub why_on : {E X : Type 0} (rules : Rules E X) (history : List Logged) (past : List X) (ask : Ask E) (fault : Fault) → Makes rules history past → is_off rules past ≡ false → IsWhy rules past ask fault → HasWhy rules history ask fault
+pub why_on : {E X : Type 0} (rules : Rules E X) (history : List Logged) (past : List X) (ask : Ask E) (fault : Fault) → Makes rules history past
+    → is_off rules past ≡ false → IsWhy rules past ask fault → HasWhy rules history ask fault
 why_on rules history past ask fault made on why = record { past = past; made = made; why = subst (λ b. IsWhyWhere b rules past ask fault) (sym on) why }
 
 -- One that is on takes none where there is none, or memory runs out.
-pub why_not_there : {E X : Type 0} (rules : Rules E X) (history : List Logged) (past : List X) (net : Network) (position : ℕ) (fault : Fault) → Makes rules history past → is_off rules past ≡ false → Comes net position (Err fault) → IsWhyNot rules history (slice_get net.frames position) fault
-why_not_there rules history past net position NoFrame made on h = rw h (record { past = past; made = made; why = subst (λ b. NoFrame ≡ (if b then NodeOff else NoFrame)) (sym on) refl })
-why_not_there rules history past net position NoMemory made on (bytes, is) = rw is (why_on rules history past (rules.asked (came.Frame bytes)) NoMemory made on refl)
+pub why_not_there : {E X : Type 0} (rules : Rules E X) (history : List Logged) (past : List X) (net : Network) (position : ℕ) (fault : Fault)
+    → Makes rules history past → is_off rules past ≡ false → Comes net position (Err fault) → IsWhyNot rules history (slice_get net.frames position) fault
+why_not_there rules history past net position NoFrame made on h =
+    rw h (record { past = past; made = made; why = subst (λ b. NoFrame ≡ (if b then NodeOff else NoFrame)) (sym on) refl })
+why_not_there rules history past net position NoMemory made on (bytes, is) =
+    rw is (why_on rules history past (rules.asked (came.Frame bytes)) NoMemory made on refl)
 why_not_there rules history past net position _ made on h = absurd h

@@ -26,7 +26,8 @@ no_note : (bytes : List ℕ) → IsBadNote false bytes → (said : Noted) → Sa
 no_note bytes (inl bad) said says = bad said says
 no_note bytes (inr empty) said says = cc
 
-unstarted : {T : Type 0} (note : T → Note) (o : Opening) (past : List FrameEntry) (notes back : T) (fault : Fault) → is_up o past ≡ false → Says (note notes).bytes (words_noted o (packets_heard o past)) → NotOpened false (note notes) (note back) fault
+unstarted : {T : Type 0} (note : T → Note) (o : Opening) (past : List FrameEntry) (notes back : T) (fault : Fault) → is_up o past ≡ false
+    → Says (note notes).bytes (words_noted o (packets_heard o past)) → NotOpened false (note notes) (note back) fault
     → TaskEnds (ways (client_kind note o)) past Restarts (Off back) (Err fault)
 unstarted note o past notes back LoadFault off says h = record {
   after = past;
@@ -38,11 +39,20 @@ unstarted note o past notes back BadNote off says h = absurd (no_note (note note
 unstarted note o past notes back NoMemory off says h = (refl, (subst (λ (n : Note). Says n.bytes (words_noted o (packets_heard o past))) (sym h) says, off))
 unstarted note o past notes back _ off says h = absurd h
 
-pub starts : {T : Type 0} (note : T → Note) (o : Opening) (past : List FrameEntry) (servers : ℕ) (notes : T) (result : Result (Client T) (T × Fault)) → o.servers ≡ servers → is_up o past ≡ false → Says (note notes).bytes (words_noted o (packets_heard o past)) → ends.Restarts note servers false (note notes) result
+pub starts : {T : Type 0} (note : T → Note) (o : Opening) (past : List FrameEntry) (servers : ℕ) (notes : T) (result : Result (Client T) (T × Fault))
+    → o.servers ≡ servers → is_up o past ≡ false → Says (note notes).bytes (words_noted o (packets_heard o past))
+    → ends.Restarts note servers false (note notes) result
     → TaskEnds (ways (client_kind note o)) past Restarts (left_by result) (told_of result)
 starts note o past servers notes (Ok client) is off says h = record {
   after = Restart false ∷ past;
-  ends = record { free = ap (λ b. if b then Some NodeOn else None) off; said_is = refl; entry = Restart false; entry_is = refl; sent_are = refl; after_is = refl };
+  ends = record {
+    free = ap (λ b. if b then Some NodeOn else None) off;
+    said_is = refl;
+    entry = Restart false;
+    entry_is = refl;
+    sent_are = refl;
+    after_is = refl;
+  };
   stands = h.stands o past is says;
   ranges = λ h. h;
 }
@@ -55,7 +65,9 @@ unstarted_counts old new BadNote h = ap (λ (n : Note). n.failures) h.0
 unstarted_counts old new NoMemory h = ap (λ (n : Note). n.failures) h
 unstarted_counts old new _ h = absurd h
 
-pub start_counts : {T : Type 0} (note : T → Note) (servers : ℕ) (notes : T) (result : Result (Client T) (T × Fault)) → ends.Restarts note servers false (note notes) result
-    → Counts true (note notes).failures (failures_of (λ (client : Client T). (note client.core.notes).failures) (λ notes. (note notes).failures) (left_by result)) (told_of result)
+pub start_counts : {T : Type 0} (note : T → Note) (servers : ℕ) (notes : T) (result : Result (Client T) (T × Fault))
+    → ends.Restarts note servers false (note notes) result
+    → Counts true (note notes).failures (failures_of (λ (client : Client T). (note client.core.notes).failures) (λ notes. (note notes).failures)
+    (left_by result)) (told_of result)
 start_counts note servers notes (Ok client) h = tt
 start_counts note servers notes (Err back) h = unstarted_counts (note notes) (note back.0) back.1 h

@@ -13,13 +13,15 @@ stays others entry (Short short) h = refl
 stays others entry (Other place) h = get_or_append_left others (entry ∷ []) no_entry place h
 
 -- What stands stays where the others have one more.
-pub all_stay : (others : List Logged) (entry : Logged) (rows : List Row) → All (IsPlaced (length others)) rows → map (entry_at (others ++ entry ∷ [])) rows ≡ map (entry_at others) rows
+pub all_stay : (others : List Logged) (entry : Logged) (rows : List Row) → All (IsPlaced (length others)) rows
+    → map (entry_at (others ++ entry ∷ [])) rows ≡ map (entry_at others) rows
 all_stay others entry [] h = refl
 all_stay others entry (row ∷ rows) h =
     ap (λ x. x ∷ map (entry_at (others ++ entry ∷ [])) rows) (stays others entry row (All-head (IsPlaced (length others)) row rows h))
     ∙ ap (λ xs. entry_at others row ∷ xs) (all_stay others entry rows (All-tail (IsPlaced (length others)) row rows h))
 
-pub other_stands : (others : List Logged) (entry : Logged) (rows : List Row) → All (IsPlaced (length others)) rows → map (entry_at (others ++ entry ∷ [])) (rows ++ Other (length others) ∷ []) ≡ map (entry_at others) rows ++ entry ∷ []
+pub other_stands : (others : List Logged) (entry : Logged) (rows : List Row) → All (IsPlaced (length others)) rows
+    → map (entry_at (others ++ entry ∷ [])) (rows ++ Other (length others) ∷ []) ≡ map (entry_at others) rows ++ entry ∷ []
 other_stands others entry rows h =
     map-append (entry_at (others ++ entry ∷ [])) rows (Other (length others) ∷ [])
     ∙ ap (λ xs. xs ++ slice_index_or (others ++ entry ∷ []) (length others) no_entry ∷ []) (all_stay others entry rows h)

@@ -45,15 +45,20 @@ abbrev pub entry_by : Option Turn → Came → Result Said Fault → List (List 
 entry_by by came answer sent = record { by = by; came = came; answer = answer; sent = sent }
 
 -- What was asked is entered.
-pub entered : {E X S : Type 0} (w : Ways E X S) (history : List Logged) (old new : S) (k : IsKept w history old) (by : Option Turn) (came : Came) (answer : Result Said Fault) (sent : List (List ℕ)) → Moves w k.past (w.rules.asked came) answer sent new → IsKept w (entry_by by came answer sent ∷ history) new
+pub entered : {E X S : Type 0} (w : Ways E X S) (history : List Logged) (old new : S) (k : IsKept w history old) (by : Option Turn) (came : Came)
+    (answer : Result Said Fault) (sent : List (List ℕ)) → Moves w k.past (w.rules.asked came) answer sent new
+    → IsKept w (entry_by by came answer sent ∷ history) new
 entered w history old new k by came answer sent m = record { past = m.after; made = (k.past, k.made, m.ends); stands = m.stands; ranges = m.ranges k.ranges }
 
 -- What came at the hub is entered, or left out.
-pub heard : {E X S : Type 0} (w : Ways E X S) (before after : List Logged) (old new : S) (k : IsKept w before old) (e : E) (step : Result (Said × List (List ℕ)) Fault) (node : Node) (came : Came) (taken : Option ℕ) (net net' : Network) → w.rules.asked came ≡ Meets e → StepEnds w k.past e new step
+pub heard : {E X S : Type 0} (w : Ways E X S) (before after : List Logged) (old new : S) (k : IsKept w before old) (e : E)
+    (step : Result (Said × List (List ℕ)) Fault) (node : Node) (came : Came) (taken : Option ℕ) (net net' : Network) → w.rules.asked came ≡ Meets e
+    → StepEnds w k.past e new step
     → Hears (is_left_out (outcome_of step).0) node came taken (outcome_of step).0 (outcome_of step).1 net net' before after → IsKept w after new
 heard w before after old new k e step node came taken net net' asks f h = by_test (is_left_out (outcome_of step).0) refl h
   where
-    by_test : (b : Bool) → is_left_out (outcome_of step).0 ≡ b → Hears b node came taken (outcome_of step).0 (outcome_of step).1 net net' before after → IsKept w after new
+    by_test : (b : Bool) → is_left_out (outcome_of step).0 ≡ b → Hears b node came taken (outcome_of step).0 (outcome_of step).1 net net' before after
+        → IsKept w after new
     by_test true t h = subst (λ history. IsKept w history new) (sym h.history) (same_kept w before old new k (unmoved w k.past e new step t f))
     by_test false t h = subst (λ history. IsKept w history new) (sym h.entry)
         (entered w before old new k _ came (outcome_of step).0 (outcome_of step).1
@@ -62,7 +67,8 @@ heard w before after old new k e step node came taken net net' asks f h = by_tes
 -- ---- why it isn't done
 
 -- A node that isn't ready leaves out what comes,
-pub unready : (up : Bool) (node : Node) (came : Came) (taken : Option ℕ) (old new : Network) (before after : List Logged) (fault : Fault) → IsReady up (Err fault) → new ≡ old → after ≡ before → Posts node came taken old new before after (Err fault)
+pub unready : (up : Bool) (node : Node) (came : Came) (taken : Option ℕ) (old new : Network) (before after : List Logged) (fault : Fault)
+    → IsReady up (Err fault) → new ≡ old → after ≡ before → Posts node came taken old new before after (Err fault)
 unready up node came taken old new before after NodeOff h net same = left_out_posts node came taken old new before after NodeOff refl net same
 unready up node came taken old new before after NoMemory h net same = left_out_posts node came taken old new before after NoMemory refl net same
 unready up node came taken old new before after _ h net same = absurd h
@@ -74,24 +80,31 @@ unready_counts up old new NoMemory h same = same
 unready_counts up old new _ h same = absurd h
 
 -- and says why.
-pub unready_why : {E X C N : Type 0} (k : Kind E X C N) (history : List Logged) (state : Power C N) (kept : IsKept (ways k) history state) (ask : Ask E) (fault : Fault) → IsReady (k.core.is_up kept.past) (Err fault) → HasWhy (rules_of k.core) history ask fault
+pub unready_why : {E X C N : Type 0} (k : Kind E X C N) (history : List Logged) (state : Power C N) (kept : IsKept (ways k) history state) (ask : Ask E)
+    (fault : Fault) → IsReady (k.core.is_up kept.past) (Err fault) → HasWhy (rules_of k.core) history ask fault
 unready_why k history state kept ask NodeOff h = why_off (rules_of k.core) history kept.past ask kept.made (off_where k.core kept.past false h)
 unready_why k history state kept ask NoMemory h = why_on (rules_of k.core) history kept.past ask NoMemory kept.made (off_where k.core kept.past true h) refl
 unready_why k history state kept ask _ h = absurd h
 
 -- What a step is refused for is by the rules.
-pub step_why : {E X C N : Type 0} (k : Kind E X C N) (history : List Logged) (old new : Power C N) (kept : IsKept (ways k) history old) (e : E) (step : Result (Said × List (List ℕ)) Fault) (first sent : ℕ) (result : Result CallerAnswer Fault) → k.core.is_up kept.past ≡ true → StepEnds (ways k) kept.past e new step
+pub step_why : {E X C N : Type 0} (k : Kind E X C N) (history : List Logged) (old new : Power C N) (kept : IsKept (ways k) history old) (e : E)
+    (step : Result (Said × List (List ℕ)) Fault) (first sent : ℕ) (result : Result CallerAnswer Fault) → k.core.is_up kept.past ≡ true
+    → StepEnds (ways k) kept.past e new step
     → result ≡ told_at first sent (outcome_of step).0 → IfErr result (HasWhy (rules_of k.core) history (Meets e))
-step_why k history old new kept e step first sent result up f is = subst (λ (r : Result CallerAnswer Fault). IfErr r (HasWhy (rules_of k.core) history (Meets e))) (sym is) (by_step step f)
+step_why k history old new kept e step first sent result up f is =
+    subst (λ (r : Result CallerAnswer Fault). IfErr r (HasWhy (rules_of k.core) history (Meets e))) (sym is) (by_step step f)
   where
-    by_step : (step : Result (Said × List (List ℕ)) Fault) → StepEnds (ways k) kept.past e new step → IfErr (told_at first sent (outcome_of step).0) (HasWhy (rules_of k.core) history (Meets e))
+    by_step : (step : Result (Said × List (List ℕ)) Fault) → StepEnds (ways k) kept.past e new step
+        → IfErr (told_at first sent (outcome_of step).0) (HasWhy (rules_of k.core) history (Meets e))
     by_step (Ok outs) f = tt
-    by_step (Err fault) f = why_on (rules_of k.core) history kept.past (Meets e) fault kept.made (off_where k.core kept.past true up) (refused_for (ways k) kept.past e fault new refl f)
+    by_step (Err fault) f = why_on (rules_of k.core) history kept.past (Meets e) fault kept.made (off_where k.core kept.past true up)
+        (refused_for (ways k) kept.past e fault new refl f)
 
 -- ---- the device's failures
 
 -- What is told of a step counts it.
-pub hear_counts : (before old new first sent : ℕ) (step : Result (Said × List (List ℕ)) Fault) (result : Result CallerAnswer Fault) → old ≡ before → result ≡ told_at first sent (outcome_of step).0 → Counts false old new step → Counts false before new result
+pub hear_counts : (before old new first sent : ℕ) (step : Result (Said × List (List ℕ)) Fault) (result : Result CallerAnswer Fault) → old ≡ before
+    → result ≡ told_at first sent (outcome_of step).0 → Counts false old new step → Counts false before new result
 hear_counts before old new first sent step result same is h =
     subst (λ (n : ℕ). Counts false n new result) same (subst (Counts false old new) (sym is) (by_step step h))
   where
@@ -114,7 +127,8 @@ pub packets_spelled : FramesAreSpelled → (ps : List PacketParts) → AllByRecu
 packets_spelled law ps h = subst (All IsSpelled) (spelled ps) (all_spelled law ps h)
 
 -- What a step sends is spelled, where the frames of its entry are.
-pub sent_spelled : {E X S : Type 0} (w : Ways E X S) (past : List X) (e : E) (x : X) (new : S) (step : Result (Said × List (List ℕ)) Fault) → w.rules.added past (Meets e) ≡ Some x → w.InRange past → (w.InRange (x ∷ past) → All IsSpelled (map frame_spelling (w.rules.frames past x)))
+pub sent_spelled : {E X S : Type 0} (w : Ways E X S) (past : List X) (e : E) (x : X) (new : S) (step : Result (Said × List (List ℕ)) Fault)
+    → w.rules.added past (Meets e) ≡ Some x → w.InRange past → (w.InRange (x ∷ past) → All IsSpelled (map frame_spelling (w.rules.frames past x)))
     → StepEnds w past e new step → All IsSpelled (outcome_of step).1
 sent_spelled w past e x new (Err fault) is came each f = All-nil IsSpelled
 sent_spelled {X = X} w past e x new (Ok outs) is came each f =

@@ -29,7 +29,8 @@ up false x y h = cc
 -- ---- a refusal
 
 -- What is refused, and leaves the list, leaves the node.
-pub refused : {E X S : Type 0} (w : Ways E X S) (past : List X) (ask : Ask E) (fault : Fault) (new : S) → sort_of fault ≡ sorts.Refusal → w.rules.refusal past ask ≡ Some fault → w.rules.passed past ask fault ≡ past → w.Stands past new → Moves w past ask (Err fault) [] new
+pub refused : {E X S : Type 0} (w : Ways E X S) (past : List X) (ask : Ask E) (fault : Fault) (new : S) → sort_of fault ≡ sorts.Refusal
+    → w.rules.refusal past ask ≡ Some fault → w.rules.passed past ask fault ≡ past → w.Stands past new → Moves w past ask (Err fault) [] new
 refused w past ask fault new sort why stays s = record {
   after = past;
   ends = subst (λ sort. Stops w.rules past ask sort fault [] past) (sym sort) (record { why = inl why; sends_none = refl; after_is = sym stays });
@@ -38,7 +39,8 @@ refused w past ask fault new sort why stays s = record {
 }
 
 -- What comes to a node that isn't on is refused, and nothing changes.
-pub off_ends : {E X S : Type 0} (w : Ways E X S) (past : List X) (e : E) (new : S) → w.rules.refusal past (Meets e) ≡ Some NodeOff → w.rules.passed past (Meets e) NodeOff ≡ past → w.Stands past new → StepEnds w past e new (Err NodeOff)
+pub off_ends : {E X S : Type 0} (w : Ways E X S) (past : List X) (e : E) (new : S) → w.rules.refusal past (Meets e) ≡ Some NodeOff
+    → w.rules.passed past (Meets e) NodeOff ≡ past → w.Stands past new → StepEnds w past e new (Err NodeOff)
 off_ends w past e new why stays s = record { moves = refused w past (Meets e) NodeOff new refl why stays s; unchanged = λ k. s }
 
 -- Where the fault tells of no dropped tag, it is another.
@@ -46,7 +48,8 @@ another : (fault : Fault) → is_drop fault ≡ false → fault ≡ FrameBadFiel
 another fault h e = clash (sym (ap is_drop e) ∙ h)
 
 -- What is refused stands in the list where it dropped a tag, and else it doesn't.
-pub refused_step : {E X S : Type 0} (w : Ways E X S) (past : List X) (e : E) (met : X) (fault : Fault) (new : S) → sort_of fault ≡ sorts.Refusal → w.rules.refusal past (Meets e) ≡ Some fault → w.rules.passed past (Meets e) fault ≡ (if is_drop fault then met ∷ past else past)
+pub refused_step : {E X S : Type 0} (w : Ways E X S) (past : List X) (e : E) (met : X) (fault : Fault) (new : S) → sort_of fault ≡ sorts.Refusal
+    → w.rules.refusal past (Meets e) ≡ Some fault → w.rules.passed past (Meets e) fault ≡ (if is_drop fault then met ∷ past else past)
     → w.Stands (met ∷ past) new → ((fault ≡ FrameBadField → ⊥) → w.Stands past new) → (w.InRange past → w.InRange (met ∷ past)) → Refuses w past e fault new
 refused_step w past e met fault new sort why passes stands unchanged ranges = record { moves = by_drop (is_drop fault) refl; unchanged = unchanged }
   where
@@ -71,11 +74,13 @@ left_is lefts.Saved h = cc
 left_is lefts.LostNew h = (true, refl)
 left_is lefts.LostOld h = (false, refl)
 
-pub lost : {E X S : Type 0} (w : Ways E X S) (past : List X) (ask : Ask E) (fault : Fault) (landed : Bool) (entry : X) (new : S) → sort_of fault ≡ sorts.Save → w.rules.refusal past ask ≡ None → w.rules.lost past ask landed ≡ Some entry
+pub lost : {E X S : Type 0} (w : Ways E X S) (past : List X) (ask : Ask E) (fault : Fault) (landed : Bool) (entry : X) (new : S) → sort_of fault ≡ sorts.Save
+    → w.rules.refusal past ask ≡ None → w.rules.lost past ask landed ≡ Some entry
     → w.Stands (entry ∷ past) new → (w.InRange past → w.InRange (entry ∷ past)) → Moves w past ask (Err fault) [] new
 lost w past ask fault landed entry new sort free is s ranges = record {
   after = entry ∷ past;
-  ends = subst (λ sort. Stops w.rules past ask sort fault [] (entry ∷ past)) (sym sort) (record { free = free; landed = landed; entry = entry; entry_is = is; sends_none = refl; after_is = refl });
+  ends = subst (λ sort. Stops w.rules past ask sort fault [] (entry ∷ past)) (sym sort)
+      (record { free = free; landed = landed; entry = entry; entry_is = is; sends_none = refl; after_is = refl });
   stands = s;
   ranges = ranges;
 }
@@ -86,7 +91,8 @@ no_drop : (fault : Fault) → not (is_drop fault) ≡ true → fault ≡ FrameBa
 no_drop fault h e = clash (sym h ∙ ap (λ f. not (is_drop f)) e)
 
 -- What is left out leaves a node as it was.
-pub unmoved : {E X S : Type 0} (w : Ways E X S) (past : List X) (e : E) (new : S) (step : Result (Said × List (List ℕ)) Fault) → is_left_out (outcome_of step).0 ≡ true → StepEnds w past e new step → w.Stands past new
+pub unmoved : {E X S : Type 0} (w : Ways E X S) (past : List X) (e : E) (new : S) (step : Result (Said × List (List ℕ)) Fault)
+    → is_left_out (outcome_of step).0 ≡ true → StepEnds w past e new step → w.Stands past new
 unmoved w past e new (Ok outs) h f = cc
 unmoved w past e new (Err fault) h f = by_sort (sort_of fault) h f
   where
@@ -96,7 +102,8 @@ unmoved w past e new (Err fault) h f = by_sort (sort_of fault) h f
     by_sort sorts.Refusal h f = f.unchanged (no_drop fault h)
 
 -- What isn't left out is a move of the node.
-pub moved : {E X S : Type 0} (w : Ways E X S) (past : List X) (e : E) (new : S) (step : Result (Said × List (List ℕ)) Fault) → is_left_out (outcome_of step).0 ≡ false → StepEnds w past e new step → Moves w past (Meets e) (outcome_of step).0 (outcome_of step).1 new
+pub moved : {E X S : Type 0} (w : Ways E X S) (past : List X) (e : E) (new : S) (step : Result (Said × List (List ℕ)) Fault)
+    → is_left_out (outcome_of step).0 ≡ false → StepEnds w past e new step → Moves w past (Meets e) (outcome_of step).0 (outcome_of step).1 new
 moved w past e new (Ok outs) h f = f.moves
 moved w past e new (Err fault) h f = by_sort (sort_of fault) h f
   where
@@ -109,10 +116,12 @@ moved w past e new (Err fault) h f = by_sort (sort_of fault) h f
     by_sort sorts.Refusal h f = f.moves
 
 -- Why a step isn't answered: as the rules have it, where no note is loaded.
-pub refused_for : {E X S : Type 0} (w : Ways E X S) (past : List X) (e : E) (fault : Fault) (new : S) → w.rules.loads past (Meets e) ≡ false → Faults w past e (sort_of fault) fault new → IsWhyBy w.rules past (Meets e) (sort_of fault) fault
+pub refused_for : {E X S : Type 0} (w : Ways E X S) (past : List X) (e : E) (fault : Fault) (new : S) → w.rules.loads past (Meets e) ≡ false
+    → Faults w past e (sort_of fault) fault new → IsWhyBy w.rules past (Meets e) (sort_of fault) fault
 refused_for {X = X} w past e fault new loads f = by_sort (sort_of fault) refl f
   where
-    by_why : (w.rules.refusal past (Meets e) ≡ Some fault) ⊎ ((fault ≡ LoadFault) × (w.rules.loads past (Meets e) ≡ true)) → w.rules.refusal past (Meets e) ≡ Some fault
+    by_why : (w.rules.refusal past (Meets e) ≡ Some fault) ⊎ ((fault ≡ LoadFault) × (w.rules.loads past (Meets e) ≡ true))
+        → w.rules.refusal past (Meets e) ≡ Some fault
     by_why (inl h) = h
     by_why (inr h) = absurd (clash (sym h.1 ∙ loads))
 
@@ -127,7 +136,8 @@ refused_for {X = X} w past e fault new loads f = by_sort (sort_of fault) refl f
 -- ---- a task
 
 -- Memory ran out.
-pub is_lack : {E X S : Type 0} (w : Ways E X S) (past : List X) (ask : Ask E) (new : S) (answer : Result Said Fault) → lacks_memory answer ≡ true → TaskEnds w past ask new answer → answer ≡ Err NoMemory
+pub is_lack : {E X S : Type 0} (w : Ways E X S) (past : List X) (ask : Ask E) (new : S) (answer : Result Said Fault) → lacks_memory answer ≡ true
+    → TaskEnds w past ask new answer → answer ≡ Err NoMemory
 is_lack w past ask new (Ok said) h e = cc
 is_lack w past ask new (Err fault) h e = ap (λ (f : Fault). Err f) (by_sort (sort_of fault) h e)
   where
@@ -140,7 +150,8 @@ is_lack w past ask new (Err fault) h e = ap (λ (f : Fault). Err f) (by_sort (so
 pub lack_counts : (loads : Bool) (old new : ℕ) (answer : Result Said Fault) → answer ≡ Err NoMemory → Counts loads old new answer → new ≡ old
 lack_counts loads old new answer is counted = subst (Counts loads old new) is counted
 
-pub stays : {E X S : Type 0} (w : Ways E X S) (past : List X) (ask : Ask E) (new : S) (answer : Result Said Fault) → lacks_memory answer ≡ true → TaskEnds w past ask new answer → w.Stands past new
+pub stays : {E X S : Type 0} (w : Ways E X S) (past : List X) (ask : Ask E) (new : S) (answer : Result Said Fault) → lacks_memory answer ≡ true
+    → TaskEnds w past ask new answer → w.Stands past new
 stays w past ask new (Ok said) h e = cc
 stays w past ask new (Err fault) h e = by_sort (sort_of fault) h e
   where
@@ -149,7 +160,8 @@ stays w past ask new (Err fault) h e = by_sort (sort_of fault) h e
     by_sort sorts.Save h e = cc
     by_sort sorts.Refusal h e = cc
 
-pub done : {E X S : Type 0} (w : Ways E X S) (past : List X) (ask : Ask E) (new : S) (answer : Result Said Fault) → lacks_memory answer ≡ false → TaskEnds w past ask new answer → Moves w past ask answer [] new
+pub done : {E X S : Type 0} (w : Ways E X S) (past : List X) (ask : Ask E) (new : S) (answer : Result Said Fault) → lacks_memory answer ≡ false
+    → TaskEnds w past ask new answer → Moves w past ask answer [] new
 done w past ask new (Ok said) h e = e
 done w past ask new (Err fault) h e = by_sort (sort_of fault) h e
   where
@@ -159,7 +171,8 @@ done w past ask new (Err fault) h e = by_sort (sort_of fault) h e
     by_sort sorts.Refusal h e = e
 
 -- A step that isn't answered ends as a task.
-pub unanswered : {E X S : Type 0} (w : Ways E X S) (past : List X) (e : E) (fault : Fault) (new : S) → Faults w past e (sort_of fault) fault new → TaskEnds w past (Meets e) new (Err fault)
+pub unanswered : {E X S : Type 0} (w : Ways E X S) (past : List X) (e : E) (fault : Fault) (new : S) → Faults w past e (sort_of fault) fault new
+    → TaskEnds w past (Meets e) new (Err fault)
 unanswered w past e fault new f = by_sort (sort_of fault) f
   where
     by_sort : (sort : FaultSort) → Faults w past e sort fault new → Fails w past (Meets e) sort fault new

@@ -14,21 +14,25 @@ use Rattle.node_history.proofs.MoveLemmas.{up, refused}
 
 -- ---- whether it is on
 
-pub hidden : {E X C N : Type 0} (k : Kind E X C N) (past : List X) (power : Power C N) (shown : Option (Bor C)) → Shows k past power (option_copied shown) → is_some shown ≡ false → k.core.is_up past ≡ false
+pub hidden : {E X C N : Type 0} (k : Kind E X C N) (past : List X) (power : Power C N) (shown : Option (Bor C)) → Shows k past power (option_copied shown)
+    → is_some shown ≡ false → k.core.is_up past ≡ false
 hidden k past power None s h = s
 hidden k past power (Some core) s h = cc
 
-pub there : {E X C N : Type 0} (k : Kind E X C N) (past : List X) (power : Power C N) (shown : Option (Bor C)) → Shows k past power (option_copied shown) → is_some shown ≡ true → k.core.is_up past ≡ true
+pub there : {E X C N : Type 0} (k : Kind E X C N) (past : List X) (power : Power C N) (shown : Option (Bor C)) → Shows k past power (option_copied shown)
+    → is_some shown ≡ true → k.core.is_up past ≡ true
 there k past power None s h = cc
 there k past power (Some core) s h = s.2
 
 -- ---- a cut, and a start
 
 -- A node that isn't on has no power to lose.
-pub cut_off : {E X C N : Type 0} (k : Kind E X C N) (past : List X) (power : Power C N) → k.core.is_up past ≡ false → Stands k past power → TaskEnds (ways k) past Cuts power (Err NodeOff)
+pub cut_off : {E X C N : Type 0} (k : Kind E X C N) (past : List X) (power : Power C N) → k.core.is_up past ≡ false → Stands k past power
+    → TaskEnds (ways k) past Cuts power (Err NodeOff)
 cut_off k past power off s = refused (ways k) past Cuts NodeOff power refl (ap (λ b. if b then None else Some NodeOff) off) refl s
 
-pub cut_ends : {E X C N : Type 0} (k : Kind E X C N) (past : List X) (notes : N) → IsCut k past → k.core.is_up past ≡ true → k.Says past notes → TaskEnds (ways k) past Cuts (Off notes) (Ok plain_reply)
+pub cut_ends : {E X C N : Type 0} (k : Kind E X C N) (past : List X) (notes : N) → IsCut k past → k.core.is_up past ≡ true → k.Says past notes
+    → TaskEnds (ways k) past Cuts (Off notes) (Ok plain_reply)
 cut_ends k past notes h on says = record {
   after = k.core.cut ∷ past;
   ends = record {
@@ -44,5 +48,6 @@ cut_ends k past notes h on says = record {
 }
 
 -- One that is on isn't started.
-pub on_refuses : {E X C N : Type 0} (k : Kind E X C N) (past : List X) (power : Power C N) → k.core.is_up past ≡ true → Stands k past power → TaskEnds (ways k) past Restarts power (Err NodeOn)
+pub on_refuses : {E X C N : Type 0} (k : Kind E X C N) (past : List X) (power : Power C N) → k.core.is_up past ≡ true → Stands k past power
+    → TaskEnds (ways k) past Restarts power (Err NodeOn)
 on_refuses k past power on s = refused (ways k) past Restarts NodeOn power refl (up (k.core.is_up past) (Some NodeOn) (k.core.spent past) on) refl s

@@ -47,13 +47,15 @@ not_off false h = refl
 not_off true h = cc
 
 -- A boot was left where what the note said left one.
-left_one : SaysOneThing → (old : List ℕ) (o : Opening) (past : List FrameEntry) (n : Noted) → Says old n → n.boot < 2 ^ 64 - 1 → Says old (words_noted o (packets_heard o past)) → has_boot o past ≡ true
+left_one : SaysOneThing → (old : List ℕ) (o : Opening) (past : List FrameEntry) (n : Noted) → Says old n → n.boot < 2 ^ 64 - 1
+    → Says old (words_noted o (packets_heard o past)) → has_boot o past ≡ true
 left_one one old o past n read left says =
     let same = one old n (words_noted o (packets_heard o past)) read says in
     let below = subst (λ (m : Noted). m.boot < 2 ^ 64 - 1) same left in
     lt_true (boot o (packets_heard o past) + 1) (2 ^ 64) (omega (arith, below))
 
-next_says : SaysOneThing → (old new : List ℕ) (o : Opening) (past : List FrameEntry) (n : Noted) → Says old n → n.boot < 2 ^ 64 - 1 → Says old (words_noted o (packets_heard o past)) → new ≡ spelling (record { boot = n.boot + 1; last_run = n.last_run })
+next_says : SaysOneThing → (old new : List ℕ) (o : Opening) (past : List FrameEntry) (n : Noted) → Says old n → n.boot < 2 ^ 64 - 1
+    → Says old (words_noted o (packets_heard o past)) → new ≡ spelling (record { boot = n.boot + 1; last_run = n.last_run })
     → Says new (words_noted o (packets_heard o (Restart lefts.LostNew ∷ past)))
 next_says one old new o past n read left says is =
     subst (λ (m : Noted). Says new (record { boot = m.boot + 1; last_run = m.last_run })) (one old n (words_noted o (packets_heard o past)) read says)
@@ -61,7 +63,8 @@ next_says one old new o past n read left says is =
 
 -- ---- how it ends
 
-unstarted : {T : Type 0} (note : T → Note) (o : Opening) (past : List FrameEntry) (notes back : T) (fault : Fault) → SaysOneThing → is_up o past ≡ false → Says (note notes).bytes (words_noted o (packets_heard o past)) → NotOpened (note notes) (note back) fault
+unstarted : {T : Type 0} (note : T → Note) (o : Opening) (past : List FrameEntry) (notes back : T) (fault : Fault) → SaysOneThing → is_up o past ≡ false
+    → Says (note notes).bytes (words_noted o (packets_heard o past)) → NotOpened (note notes) (note back) fault
     → TaskEnds (ways (server_kind note o)) past Restarts (Off back) (Err fault)
 unstarted note o past notes back LoadFault one off says h = record {
   after = past;
@@ -71,21 +74,27 @@ unstarted note o past notes back LoadFault one off says h = record {
 }
 unstarted note o past notes back BadNote one off says h = absurd (h.1 (words_noted o (packets_heard o past)) says)
 unstarted note o past notes back NumbersSpent one off says h =
-    refused (ways (server_kind note o)) past Restarts NumbersSpent (Off back) refl (is_spent (is_up o past) (has_boot o past) off (spent (boot o (packets_heard o past)) (h.1 (words_noted o (packets_heard o past)) says))) refl
+    refused (ways (server_kind note o)) past Restarts NumbersSpent (Off back) refl
+    (is_spent (is_up o past) (has_boot o past) off (spent (boot o (packets_heard o past)) (h.1 (words_noted o (packets_heard o past)) says))) refl
     (subst (λ (n : Note). Says n.bytes (words_noted o (packets_heard o past))) (sym h.0) says, off)
 unstarted note o past notes back NoMemory one off says h = (refl, (subst (λ (n : Note). Says n.bytes (words_noted o (packets_heard o past))) (sym h) says, off))
 unstarted note o past notes back SaveFault one off says h = half h.1
   where
-    half : (n : Noted) × Says (note notes).bytes n × (n.boot < 2 ^ 64 - 1) × (((note back).bytes ≡ (note notes).bytes) ⊎ ((note back).bytes ≡ spelling (record { boot = n.boot + 1; last_run = n.last_run }))) → TaskEnds (ways (server_kind note o)) past Restarts (Off back) (Err SaveFault)
+    half : (n : Noted) × Says (note notes).bytes n × (n.boot < 2 ^ 64 - 1)
+        × (((note back).bytes ≡ (note notes).bytes) ⊎ ((note back).bytes ≡ spelling (record { boot = n.boot + 1; last_run = n.last_run })))
+        → TaskEnds (ways (server_kind note o)) past Restarts (Off back) (Err SaveFault)
     half (n, read, left, inl is) =
-        lost (ways (server_kind note o)) past Restarts SaveFault false (Restart lefts.LostOld) (Off back) refl (may_restart (is_up o past) (has_boot o past) off (left_one one (note notes).bytes o past n read left says)) refl
+        lost (ways (server_kind note o)) past Restarts SaveFault false (Restart lefts.LostOld) (Off back) refl
+        (may_restart (is_up o past) (has_boot o past) off (left_one one (note notes).bytes o past n read left says)) refl
         (subst (λ bytes. Says bytes (words_noted o (packets_heard o past))) (sym is) says, refl) (λ h. h)
     half (n, read, left, inr is) =
-        lost (ways (server_kind note o)) past Restarts SaveFault true (Restart lefts.LostNew) (Off back) refl (may_restart (is_up o past) (has_boot o past) off (left_one one (note notes).bytes o past n read left says)) refl
+        lost (ways (server_kind note o)) past Restarts SaveFault true (Restart lefts.LostNew) (Off back) refl
+        (may_restart (is_up o past) (has_boot o past) off (left_one one (note notes).bytes o past n read left says)) refl
         (next_says one (note notes).bytes (note back).bytes o past n read left says is, refl) (λ h. h)
 unstarted note o past notes back _ one off says h = absurd h
 
-pub starts : {T : Type 0} (note : T → Note) (o : Opening) (past : List FrameEntry) (me : ℕ) (notes : T) (result : Result (Server T) (T × Fault)) → SaysOneThing → o.me ≡ me → is_up o past ≡ false → Says (note notes).bytes (words_noted o (packets_heard o past)) → ends.Opens note me notes result
+pub starts : {T : Type 0} (note : T → Note) (o : Opening) (past : List FrameEntry) (me : ℕ) (notes : T) (result : Result (Server T) (T × Fault)) → SaysOneThing
+    → o.me ≡ me → is_up o past ≡ false → Says (note notes).bytes (words_noted o (packets_heard o past)) → ends.Opens note me notes result
     → TaskEnds (ways (server_kind note o)) past Restarts (left_by result) (told_of result)
 starts note o past me notes (Ok server) one is off says h =
     let stands = h.stands o past is says in
@@ -114,6 +123,7 @@ unstarted_counts old new SaveFault h = h.0
 unstarted_counts old new _ h = absurd h
 
 pub start_counts : {T : Type 0} (note : T → Note) (me : ℕ) (notes : T) (result : Result (Server T) (T × Fault)) → ends.Opens note me notes result
-    → Counts true (note notes).failures (failures_of (λ (server : Server T). (note server.core.notes).failures) (λ notes. (note notes).failures) (left_by result)) (told_of result)
+    → Counts true (note notes).failures (failures_of (λ (server : Server T). (note server.core.notes).failures) (λ notes. (note notes).failures)
+    (left_by result)) (told_of result)
 start_counts note me notes (Ok server) h = tt
 start_counts note me notes (Err back) h = unstarted_counts (note notes) (note back.0) back.1 h

@@ -38,13 +38,16 @@ pub record Fits {E X C N D O : Type 0} (k : Kind E X C N) (s : Steps C E X D O) 
   pub ranges : Heard sorts.Save → (left : Left) → k.InRange past → k.InRange (s.met e left ∷ past)
 
 -- What comes to a node that isn't on is refused, and nothing changes.
-pub off_ends : {E X C N : Type 0} (k : Kind E X C N) (past : List X) (e : E) (power : Power C N) (fault : Fault) → (fault ≡ NodeOff) × (k.core.is_up past ≡ false) → Stands k past power → StepEnds (ways k) past e power (Err fault)
+pub off_ends : {E X C N : Type 0} (k : Kind E X C N) (past : List X) (e : E) (power : Power C N) (fault : Fault)
+    → (fault ≡ NodeOff) × (k.core.is_up past ≡ false) → Stands k past power → StepEnds (ways k) past e power (Err fault)
 off_ends k past e power fault off s =
     rw off.0 (moves.off_ends (ways k) past e power (ap (λ b. if b then k.core.refusal past e else Some NodeOff) off.1) refl s)
 
-module _ {E X C N D O : Type 0} {Heard : FaultSort → Type 0} (k : Kind E X C N) (s : Steps C E X D O) (past : List X) (e : E) (fits : Fits k s past e Heard) (on : k.core.is_up past ≡ true) (old new : C) where
+module _ {E X C N D O : Type 0} {Heard : FaultSort → Type 0} (k : Kind E X C N) (s : Steps C E X D O) (past : List X) (e : E) (fits : Fits k s past e Heard)
+    (on : k.core.is_up past ≡ true) (old new : C) where
   -- By one that is on, it is answered,
-  pub answered_ends : (outs : O) (said : Said) (sent : List (List ℕ)) → steps.Answers s past e old new outs → Heard sorts.Save → said ≡ k.core.said past e → sent ≡ map frame_spelling (k.core.frames past (k.core.answered past e)) → k.SendsFew past e sent
+  pub answered_ends : (outs : O) (said : Said) (sent : List (List ℕ)) → steps.Answers s past e old new outs → Heard sorts.Save → said ≡ k.core.said past e
+      → sent ≡ map frame_spelling (k.core.frames past (k.core.answered past e)) → k.SendsFew past e sent
       → StepEnds (ways k) past e (On new) (Ok (said, sent))
   answered_ends outs said sent a heard said_is sent_are short = record {
     moves = record {
@@ -64,27 +67,32 @@ module _ {E X C N D O : Type 0} {Heard : FaultSort → Type 0} (k : Kind E X C N
   }
 
   -- or it isn't.
-  pub unanswered_ends : (fault : Fault) (sort : FaultSort) → steps.Faults s past e sort fault old new → Heard sort → sort_of fault ≡ sort → Faults (ways k) past e sort fault (On new)
+  pub unanswered_ends : (fault : Fault) (sort : FaultSort) → steps.Faults s past e sort fault old new → Heard sort → sort_of fault ≡ sort
+      → Faults (ways k) past e sort fault (On new)
   unanswered_ends fault sorts.Memory f heard is = (f.why, fits.stands past new f.unchanged)
   unanswered_ends fault sorts.Save f heard is =
       let l = left_is f.left f.lost in
-      lost (ways k) past (Meets e) fault l.0 (s.met e f.left) (On new) is (up (k.core.is_up past) (k.core.refusal past e) (Some NodeOff) on ∙ sym fits.refusal_is ∙ f.free)
+      lost (ways k) past (Meets e) fault l.0 (s.met e f.left) (On new) is
+      (up (k.core.is_up past) (k.core.refusal past e) (Some NodeOff) on ∙ sym fits.refusal_is ∙ f.free)
       (sym (fits.unsaved_is (left_by l.0)) ∙ ap (option_map (λ due. s.met e (left_by l.0))) f.makes_one ∙ ap (λ left. Some (s.met e left)) l.1)
       (fits.stands (s.met e f.left ∷ past) new f.stands) (fits.ranges heard f.left)
   unanswered_ends fault sorts.Refusal f heard is =
-      refused_step (ways k) past e (s.met e NoSave) fault (On new) is (up (k.core.is_up past) (k.core.refusal past e) (Some NodeOff) on ∙ sym fits.refusal_is ∙ f.why)
+      refused_step (ways k) past e (s.met e NoSave) fault (On new) is
+      (up (k.core.is_up past) (k.core.refusal past e) (Some NodeOff) on ∙ sym fits.refusal_is ∙ f.why)
       (ap (λ x. if is_drop fault then x ∷ past else past) (sym fits.dropped_is))
       (fits.stands (s.met e NoSave ∷ past) new f.stands) (λ other. fits.stays fault new f.why other f.unchanged) (fits.ranges (fits.alike heard) NoSave)
 
 -- ---- the device's failures
 
 -- A step that isn't answered counts a failed save.
-pub faults_count : {E X C D O : Type 0} (s : Steps C E X D O) (past : List X) (e : E) (old new : C) (fault : Fault) (sort : FaultSort) → steps.Faults s past e sort fault old new → CountsBy (is_save sort || (is_load fault && false)) (s.note old).failures (s.note new).failures
+pub faults_count : {E X C D O : Type 0} (s : Steps C E X D O) (past : List X) (e : E) (old new : C) (fault : Fault) (sort : FaultSort)
+    → steps.Faults s past e sort fault old new → CountsBy (is_save sort || (is_load fault && false)) (s.note old).failures (s.note new).failures
 faults_count s past e old new fault sorts.Memory f = no_load fault (s.note old).failures (s.note new).failures (ap (λ (n : Note). n.failures) f.same_note)
 faults_count s past e old new fault sorts.Save f = f.cause
 faults_count s past e old new fault sorts.Refusal f = no_load fault (s.note old).failures (s.note new).failures (ap (λ (n : Note). n.failures) f.same_note)
 
 -- So does a step.
-pub counts : {E X C D O : Type 0} (s : Steps C E X D O) (past : List X) (e : E) (old new : C) (result : Result O Fault) → steps.Ends s past e old new result → Counts false (s.note old).failures (s.note new).failures result
+pub counts : {E X C D O : Type 0} (s : Steps C E X D O) (past : List X) (e : E) (old new : C) (result : Result O Fault) → steps.Ends s past e old new result
+    → Counts false (s.note old).failures (s.note new).failures result
 counts s past e old new (Ok outs) a = tt
 counts s past e old new (Err fault) f = faults_count s past e old new fault (sort_of fault) f

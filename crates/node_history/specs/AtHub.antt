@@ -28,6 +28,7 @@ is_memory sorts.Memory = true
 is_memory sorts.Save = false
 is_memory sorts.Refusal = false
 
+-- The answer is that memory ran out.
 abbrev pub lacks_memory : Result Said Fault → Bool
 lacks_memory (Ok said) = false
 lacks_memory (Err fault) = is_memory (sort_of fault)
@@ -53,16 +54,18 @@ is_quiet l = not (is_left_out l.answer) && not (is_frame l.came) && (length l.se
 
 -- What is told of an answer, with so many frames behind so many.
 abbrev pub told_at : ℕ → ℕ → Result Said Fault → Result CallerAnswer Fault
-told_at first sent (Ok said) = Ok (record { answer = said.answer; first = first; sent = sent; act = said.act })
+told_at first sent (Ok said) =
+    Ok (record { answer = said.answer; first = first; sent = sent; act = said.act })
 told_at first sent (Err fault) = Err fault
 
 -- What is told of an answer that sends nothing.
 abbrev pub told_by : Result Said Fault → Result CallerAnswer Fault
 told_by answer = told_at 0 0 answer
 
--- The event is entered in the history; its frames stand behind those of the hub; and the journal has its
--- entry, if it took or sent a frame.
-pub record IsHeard (node : Node) (came : Came) (taken : Option ℕ) (answer : Result Said Fault) (sent : List (List ℕ)) (old new : Network) (before after : List Logged) : Type 0 where
+-- The event is entered in the history; its frames stand behind those of the hub; and the journal
+-- has its entry, if it took or sent a frame.
+pub record IsHeard (node : Node) (came : Came) (taken : Option ℕ) (answer : Result Said Fault)
+    (sent : List (List ℕ)) (old new : Network) (before after : List Logged) : Type 0 where
   pub entry : after ≡ record { by = None; came = came; answer = answer; sent = sent } ∷ before
   pub frames : new.frames ≡ old.frames ++ sent
   pub journal : new.journal ≡ line_of node (length before) taken (length sent) ++ old.journal
@@ -73,15 +76,19 @@ pub record IsSame (old new : Network) (before after : List Logged) : Type 0 wher
   pub history : after ≡ before
 
 -- How an event with this answer and these frames ends.
-abbrev pub Hears : Bool → Node → Came → Option ℕ → Result Said Fault → List (List ℕ) → Network → Network → List Logged → List Logged → Type 0
+abbrev pub Hears : Bool → Node → Came → Option ℕ → Result Said Fault → List (List ℕ) → Network
+    → Network → List Logged → List Logged → Type 0
 Hears true node came taken answer sent old new before after = IsSame old new before after
-Hears false node came taken answer sent old new before after = IsHeard node came taken answer sent old new before after
+Hears false node came taken answer sent old new before after =
+    IsHeard node came taken answer sent old new before after
 
--- How what comes to a node at the hub ends: an answer is told and entered, or left out where it is a
--- refusal that changes nothing.
-abbrev pub Posts : Node → Came → Option ℕ → Network → Network → List Logged → List Logged → Result CallerAnswer Fault → Type 0
+-- How what comes to a node at the hub ends: an answer is told and entered, or left out where it is
+-- a refusal that changes nothing.
+abbrev pub Posts : Node → Came → Option ℕ → Network → Network → List Logged → List Logged
+    → Result CallerAnswer Fault → Type 0
 Posts node came taken old new before after result =
-    (answer : Result Said Fault) × (sent : List (List ℕ)) × (result ≡ told_at (length old.frames) (length sent) answer)
+    (answer : Result Said Fault) × (sent : List (List ℕ))
+    × (result ≡ told_at (length old.frames) (length sent) answer)
     × Hears (is_left_out answer) node came taken answer sent old new before after
 
 -- Why what was asked is left out: memory ran out, or the rules refuse it.
@@ -90,13 +97,15 @@ IsWhyBy rules past ask sorts.Memory fault = fault ≡ NoMemory
 IsWhyBy rules past ask sorts.Save fault = Unit {0}
 IsWhyBy rules past ask sorts.Refusal fault = rules.refusal past ask ≡ Some fault
 
+-- The fault is one that the rules give, where it is a refusal.
 abbrev pub IsWhy : {E X : Type 0} → Rules E X → List X → Ask E → Fault → Type 0
 IsWhy rules past ask fault = IsWhyBy rules past ask (sort_of fault) fault
 
 -- The frame at this position comes, by its bytes; or there is none; or memory ran out.
 abbrev pub Comes : Network → ℕ → Result (Came × Frame) Fault → Type 0
 Comes net position (Ok it) =
-    (bytes : List ℕ) × (slice_get net.frames position ≡ Some bytes) × (it.0 ≡ came.Frame bytes) × (frame_at bytes ≡ Some it.1)
+    (bytes : List ℕ) × (slice_get net.frames position ≡ Some bytes) × (it.0 ≡ came.Frame bytes)
+    × (frame_at bytes ≡ Some it.1)
 Comes net position (Err NoFrame) = slice_get net.frames position ≡ None
 Comes net position (Err NoMemory) = (bytes : List ℕ) × (slice_get net.frames position ≡ Some bytes)
 Comes net position (Err _) = ⊥

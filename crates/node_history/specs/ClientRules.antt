@@ -42,11 +42,12 @@ is_up o past = is_on (packets_heard o past)
 -- A begin is answered by its run, a verify by its attempt.
 abbrev pub answer_to : Opening → List FrameEntry → Input → Answer
 answer_to o past (inputs.Begin text) = Run ((words_noted o (packets_heard o past)).runs + 1)
-answer_to o past (inputs.Verify run text) = Attempt ((words_noted o (packets_heard o past)).attempts + 1)
+answer_to o past (inputs.Verify run text) =
+    Attempt ((words_noted o (packets_heard o past)).attempts + 1)
 answer_to o past _ = Plain
 
--- What is known of the core of a client, which asks nothing of its caller. A restart is one without a mirror,
--- and saves nothing; a renewal and the loss of a note are never added.
+-- What is known of the core of a client, which asks nothing of its caller. A restart is one without
+-- a mirror, and saves nothing; a renewal and the loss of a note are never added.
 abbrev pub core : Opening → CoreRules Input FrameEntry
 core o = record {
   asked = ask_of;

@@ -11,7 +11,8 @@ use Rattle.node_history.specs.AtHub.{is_drop}
 use Rattle.node_history.specs.Moves.{plain_reply}
 use Rattle.node_history.specs.Rules.{Ask, Meets, Cuts, Restarts, Nothing, Rules}
 
--- What has to be known of a core that meets inputs E and stands for lists of entries X, newest first.
+-- What has to be known of a core that meets inputs E and stands for lists of entries X, newest
+-- first.
 pub record CoreRules (E X : Type 0) : Type 0 where
   pub asked : Came → Ask E  -- what is asked by what comes
   pub is_up : List X → Bool  -- it is on
@@ -26,8 +27,8 @@ pub record CoreRules (E X : Type 0) : Type 0 where
   pub unstarted : Left → Option X  -- that of a restart whose save left this
   pub frames : List X → X → List Frame  -- the frames that an entry sends
 
--- A node that is off or down refuses all but a restart, and that where it can't be started; one that is on
--- refuses a restart, and what its core refuses.
+-- A node that is off or down refuses all but a restart, and that where it can't be started; one
+-- that is on refuses a restart, and what its core refuses.
 abbrev pub refusal : {E X : Type 0} → CoreRules E X → List X → Ask E → Option Fault
 refusal c past (Meets e) = if c.is_up past then c.refusal past e else Some NodeOff
 refusal c past Cuts = if c.is_up past then None else Some NodeOff

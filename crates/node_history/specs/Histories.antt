@@ -17,7 +17,12 @@ pub record Entries : Type 0 where
 
 -- What stands in no history: a cut that nobody was told of.
 abbrev pub no_entry : Logged
-no_entry = record { by = None; came = came.Cut; answer = Ok (record { answer = Plain; act = acts.None }); sent = [] }
+no_entry = record {
+  by = None;
+  came = came.Cut;
+  answer = Ok (record { answer = Plain; act = acts.None });
+  sent = [];
+}
 
 -- The entry of a row: that of a worker's turn, or the one at this place among the others.
 abbrev pub entry_at : List Logged → Row → Logged

@@ -1,5 +1,5 @@
--- How what comes to a node ends, whichever node it is: what it answers and sends, and for which list it
--- then stands.
+-- How what comes to a node ends, whichever node it is: what it answers and sends, and for which
+-- list it then stands.
 use Rattle.std.specs.Prelude.{◌≡◌, ℕ, List, [], Result, Ok, Err}
 use Rattle.fc_base.specs.declared.fault.Fault.{Fault}
 use Rattle.fc_base.specs.declared.fault.Fault.TheVariants.{NoMemory, FrameBadField}
@@ -13,29 +13,33 @@ use Rattle.node_history.specs.declared.logged.Logged.{Logged}
 use Rattle.node_history.specs.Rules.{Ask, Meets, Rules}
 use Rattle.node_history.specs.Replay.{Ends, Makes}
 
--- A node whose core meets inputs E, whose lists have entries X, and whose states are S: its rules, for which
--- lists a state stands, in which lists all is within its ranges, and which frames are few and short.
+-- A node whose core meets inputs E, whose lists have entries X, and whose states are S: its rules,
+-- for which lists a state stands, in which lists all is within its ranges, and which frames are few
+-- and short.
 pub record Ways (E X S : Type 0) : Type 1 where
   pub rules : Rules E X
   pub Stands : List X → S → Type 0
   pub InRange : List X → Type 0
   pub SendsFew : List X → E → List (List ℕ) → Type 0
 
--- What comes is answered so, and these frames are sent, as the rules have it; and the node then stands for
--- the list that they give.
-pub record Moves {E X S : Type 0} (w : Ways E X S) (past : List X) (ask : Ask E) (answer : Result Said Fault) (sent : List (List ℕ)) (new : S) : Type 0 where
+-- What comes is answered so, and these frames are sent, as the rules have it; and the node then
+-- stands for the list that they give.
+pub record Moves {E X S : Type 0} (w : Ways E X S) (past : List X) (ask : Ask E)
+    (answer : Result Said Fault) (sent : List (List ℕ)) (new : S) : Type 0 where
   pub after : List X
   pub ends : Ends w.rules past ask answer sent after
   pub stands : w.Stands after new
   pub ranges : w.InRange past → w.InRange after
 
 -- What comes is answered, by few and short frames.
-pub record Answers {E X S : Type 0} (w : Ways E X S) (past : List X) (e : E) (new : S) (said : Said) (sent : List (List ℕ)) : Type 0 where
+pub record Answers {E X S : Type 0} (w : Ways E X S) (past : List X) (e : E) (new : S) (said : Said)
+    (sent : List (List ℕ)) : Type 0 where
   pub moves : Moves w past (Meets e) (Ok said) sent new
   pub short : w.SendsFew past e sent
 
 -- What comes is refused. But where a tag is dropped, nothing changes, too.
-pub record Refuses {E X S : Type 0} (w : Ways E X S) (past : List X) (e : E) (fault : Fault) (new : S) : Type 0 where
+pub record Refuses {E X S : Type 0} (w : Ways E X S) (past : List X) (e : E) (fault : Fault)
+    (new : S) : Type 0 where
   pub moves : Moves w past (Meets e) (Err fault) [] new
   pub unchanged : (fault ≡ FrameBadField → ⊥) → w.Stands past new
 
@@ -46,7 +50,8 @@ Faults w past e sorts.Save fault new = Moves w past (Meets e) (Err fault) [] new
 Faults w past e sorts.Refusal fault new = Refuses w past e fault new
 
 -- How a step ends, which is answered so, by these frames, or isn't.
-abbrev pub StepEnds : {E X S : Type 0} → Ways E X S → List X → E → S → Result (Said × List (List ℕ)) Fault → Type 0
+abbrev pub StepEnds : {E X S : Type 0} → Ways E X S → List X → E → S
+    → Result (Said × List (List ℕ)) Fault → Type 0
 StepEnds w past e new (Ok outs) = Answers w past e new outs.0 outs.1
 StepEnds w past e new (Err fault) = Faults w past e (sort_of fault) fault new
 
@@ -57,7 +62,8 @@ Fails w past ask sorts.Save fault new = Moves w past ask (Err fault) [] new
 Fails w past ask sorts.Refusal fault new = Moves w past ask (Err fault) [] new
 
 -- How a task ends that asks this, and sends nothing.
-abbrev pub TaskEnds : {E X S : Type 0} → Ways E X S → List X → Ask E → S → Result Said Fault → Type 0
+abbrev pub TaskEnds : {E X S : Type 0} → Ways E X S → List X → Ask E → S → Result Said Fault
+    → Type 0
 TaskEnds w past ask new (Ok said) = Moves w past ask (Ok said) [] new
 TaskEnds w past ask new (Err fault) = Fails w past ask (sort_of fault) fault new
 
@@ -70,9 +76,10 @@ abbrev pub outcome_of : Result (Said × List (List ℕ)) Fault → (Result Said 
 outcome_of (Ok outs) = (Ok outs.0, outs.1)
 outcome_of (Err fault) = (Err fault, [])
 
--- What is true of every node under its lock: its state stands for a list that its history makes, in which
--- all is within its ranges.
-pub record IsKept {E X S : Type 0} (w : Ways E X S) (history : List Logged) (state : S) : Type 0 where
+-- What is true of every node under its lock: its state stands for a list that its history makes, in
+-- which all is within its ranges.
+pub record IsKept {E X S : Type 0} (w : Ways E X S) (history : List Logged)
+    (state : S) : Type 0 where
   pub past : List X
   pub made : Makes w.rules history past
   pub stands : w.Stands past state

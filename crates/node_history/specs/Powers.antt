@@ -10,9 +10,9 @@ use Rattle.node_history.specs.contracts.power.Power.{the_row}
 use Rattle.node_history.specs.Moves.{Ways, plain_reply}
 use Rattle.node_history.specs.CoreRules.{CoreRules, rules_of}
 
--- A kind of node, of cores C over notes N, whose core meets inputs E and whose lists have entries X: the
--- rules of its core, in which lists all is within its ranges, and which frames are few and short; for which
--- lists a core stands, and what notes say.
+-- A kind of node, of cores C over notes N, whose core meets inputs E and whose lists have entries
+-- X: the rules of its core, in which lists all is within its ranges, and which frames are few and
+-- short; for which lists a core stands, and what notes say.
 pub record Kind (E X C N : Type 0) : Type 1 where
   pub core : CoreRules E X
   pub InRange : List X → Type 0
@@ -20,8 +20,8 @@ pub record Kind (E X C N : Type 0) : Type 1 where
   pub StandsFor : List X → C → Type 0
   pub Says : List X → N → Type 0
 
--- A node that has power stands for the list; of one that has none, which the list says, the notes say what
--- the list says.
+-- A node that has power stands for the list; of one that has none, which the list says, the notes
+-- say what the list says.
 abbrev pub Stands : {E X C N : Type 0} → Kind E X C N → List X → Power C N → Type 0
 Stands k past (On core) = k.StandsFor past core
 Stands k past (Off notes) = k.Says past notes × (k.core.is_up past ≡ false)
@@ -59,7 +59,8 @@ abbrev pub LendsCore : (C N : RattleType) →
     MutBor (Power C.Denot N.Denot) → Result (MutBor C.Denot) Fault → Fml
 LendsCore C N power lent = LendsIfOk (the_row C N) C power lent (λ core. On core) power.now
 
--- A node is ready where it is on, and there is room for what comes; else it is off, or memory ran out.
+-- A node is ready where it is on, and there is room for what comes; else it is off, or memory ran
+-- out.
 abbrev pub IsReady : Bool → Result (Unit {0}) Fault → Type 0
 IsReady up (Ok done) = up ≡ true
 IsReady up (Err NodeOff) = up ≡ false
@@ -76,8 +77,8 @@ abbrev pub told_of : {C N : Type 0} → Result C (N × Fault) → Result Said Fa
 told_of (Ok core) = Ok plain_reply
 told_of (Err back) = Err back.1
 
--- The entry of a cut sends nothing. The node is off then, all stays within its ranges, and what notes say is
--- the same.
+-- The entry of a cut sends nothing. The node is off then, all stays within its ranges, and what
+-- notes say is the same.
 pub record IsCut {E X C N : Type 0} (k : Kind E X C N) (past : List X) : Type 0 where
   pub sends_none : k.core.frames past k.core.cut ≡ []
   pub off : k.core.is_up (k.core.cut ∷ past) ≡ false

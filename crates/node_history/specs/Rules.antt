@@ -5,7 +5,8 @@ use Rattle.messages.specs.declared.frame.Frame.{Frame}
 use Rattle.node_history.specs.declared.came.Came.{Came}
 use Rattle.node_history.specs.declared.answer.Said.{Said}
 
--- What is asked of a node: something that its core meets, a cut, a restart; or what isn't for this node.
+-- What is asked of a node: something that its core meets, a cut, a restart; or what isn't for this
+-- node.
 pub data Ask (E : Type 0) : Type 0 where
   Meets : E → Ask E
   Cuts : Ask E

@@ -56,4 +56,5 @@ answer_by deeds.Failed ticket = Plain
 
 -- The entry that a short one stands for.
 abbrev pub entry_of : Short → Logged
-entry_of s = turn_entry (turn_of s) (came_by s.deed (ticket_of s)) (reply_of (answer_by s.deed (ticket_of s)))
+entry_of s = turn_entry (turn_of s) (came_by s.deed (ticket_of s))
+    (reply_of (answer_by s.deed (ticket_of s)))

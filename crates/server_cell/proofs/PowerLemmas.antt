@@ -31,13 +31,15 @@ use Rattle.server_cell.specs.Stands.{reply_and_frames, ways}
 
 -- ---- what came stays within its ranges
 
-by_meaning : (o : Opening) (past : List packets.Entry) (left : Left) (q : _) (m : Meaning) → SenseInRange (sense_of q m) → CameInRange past → CameInRange (with_entry (heard_by (hearing o) left m) past)
+by_meaning : (o : Opening) (past : List packets.Entry) (left : Left) (q : _) (m : Meaning) → SenseInRange (sense_of q m) → CameInRange past
+    → CameInRange (with_entry (heard_by (hearing o) left m) past)
 by_meaning o past left q (Speaks p) h came = (h, came)
 by_meaning o past left q Waits h came = came
 by_meaning o past left q Spoils h came = came
 by_meaning o past left q Strays h came = came
 
-came_after : (o : Opening) (past : List FrameEntry) (e : Input) (left : Left) → SenseInRange (sense o past e) → CameInRange (packets_heard o past) → CameInRange (packets_heard o (Met e left ∷ past))
+came_after : (o : Opening) (past : List FrameEntry) (e : Input) (left : Left) → SenseInRange (sense o past e) → CameInRange (packets_heard o past)
+    → CameInRange (packets_heard o (Met e left ∷ past))
 came_after o past (inputs.Deliver (Whole p)) left h came = (h, came)
 came_after o past (inputs.Deliver (Piece q)) left h came = by_meaning o (packets_heard o past) left q (meaning (hearing o) (heard_at o past) (Piece q)) h came
 came_after o past (inputs.Issue j) left h came = (h, came)
@@ -46,7 +48,8 @@ came_after o past (inputs.CheckDone now a j report) left h came = (h, came)
 
 -- ---- a step
 
-no_drop : (o : Opening) (past : List FrameEntry) (s : Sense) (fault : Fault) → answers.refusal_of_sense o (packets_heard o past) s ≡ Some fault → (fault ≡ FrameBadField → ⊥) → is_drop s ≡ false
+no_drop : (o : Opening) (past : List FrameEntry) (s : Sense) (fault : Fault) → answers.refusal_of_sense o (packets_heard o past) s ≡ Some fault
+    → (fault ≡ FrameBadField → ⊥) → is_drop s ≡ false
 no_drop o past (Hears e) fault h k = refl
 no_drop o past (Keeps q) fault h k = refl
 no_drop o past (Drops q) fault h k = absurd (k (same FrameBadField fault h))
@@ -55,7 +58,8 @@ no_drop o past (Drops q) fault h k = absurd (k (same FrameBadField fault h))
     same x y h = cc
 no_drop o past Misses fault h k = refl
 
-fits : {T : Type 0} (note : T → Note) (o : Opening) (past : List FrameEntry) (e : Input) → Fits (server_kind note o) (ends.steps note o) past e (λ sort. UnlessMemory sort (sense o past e))
+fits : {T : Type 0} (note : T → Note) (o : Opening) (past : List FrameEntry) (e : Input)
+    → Fits (server_kind note o) (ends.steps note o) past e (λ sort. UnlessMemory sort (sense o past e))
 fits note o past e = record {
   refusal_is = refl;
   answered_is = refl;
@@ -68,16 +72,21 @@ fits note o past e = record {
 }
 
 -- A server that is on takes what comes.
-pub step_ends : {T : Type 0} (note : T → Note) (o : Opening) (past : List FrameEntry) (e : Input) (old server : Server T) (result : Result Outs Fault) → is_up o past ≡ true
-    → steps.Ends (ends.steps note o) past e old server result → HearsInRange o past e result → StepEnds (ways note o) past e (On server) (reply_and_frames result)
+pub step_ends : {T : Type 0} (note : T → Note) (o : Opening) (past : List FrameEntry) (e : Input) (old server : Server T) (result : Result Outs Fault)
+    → is_up o past ≡ true
+    → steps.Ends (ends.steps note o) past e old server result → HearsInRange o past e result
+    → StepEnds (ways note o) past e (On server) (reply_and_frames result)
 step_ends note o past e old server (Ok outs) on a h =
-    answered_ends (server_kind note o) (ends.steps note o) past e (fits note o past e) on old server outs _ outs.frames a h (rw (a.sends.issue_is, a.sends.act_is) refl) a.sends.frames_are a.sends.short
+    answered_ends (server_kind note o) (ends.steps note o) past e (fits note o past e) on old server outs _ outs.frames a h
+    (rw (a.sends.issue_is, a.sends.act_is) refl) a.sends.frames_are a.sends.short
 step_ends note o past e old server (Err fault) on f h =
     unanswered_ends (server_kind note o) (ends.steps note o) past e (fits note o past e) on old server fault (sort_of fault) f h refl
 
 -- ---- the device's failures
 
 -- A step counts a failed save.
-pub step_counts : {T : Type 0} (note : T → Note) (o : Opening) (past : List FrameEntry) (e : Input) (old server : Server T) (result : Result Outs Fault) → steps.Ends (ends.steps note o) past e old server result → Counts false (note old.core.notes).failures (note server.core.notes).failures (reply_and_frames result)
+pub step_counts : {T : Type 0} (note : T → Note) (o : Opening) (past : List FrameEntry) (e : Input) (old server : Server T) (result : Result Outs Fault)
+    → steps.Ends (ends.steps note o) past e old server result
+    → Counts false (note old.core.notes).failures (note server.core.notes).failures (reply_and_frames result)
 step_counts note o past e old server (Ok outs) a = tt
 step_counts note o past e old server (Err fault) f = faults_count (ends.steps note o) past e old server fault (sort_of fault) f

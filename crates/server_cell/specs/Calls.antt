@@ -32,32 +32,45 @@ logged_by seat came answer = record {
 abbrev pub entry_of : Seated → Task → Result Said Fault → Logged
 entry_of seat task answer = logged_by seat (came_by task) answer
 
--- The history has one entry more, a fault of the device has been counted, and the seat has applied one
--- event more and keeps its answer.
-pub record IsAdded (old : ServerLog) (seat : Seated) (task : Task) (answer : Result Said Fault) (new : ServerLog) (after : Seated) : Type 0 where
+-- The history has one entry more, a fault of the device has been counted, and the seat has applied
+-- one event more and keeps its answer.
+pub record IsAdded (old : ServerLog) (seat : Seated) (task : Task) (answer : Result Said Fault)
+    (new : ServerLog) (after : Seated) : Type 0 where
   pub opening : new.opening ≡ old.opening
   pub history : new.history ≡ entry_of seat task answer ∷ old.history
   pub failures : Counts (loads_note task) old.failures new.failures answer
-  pub seat_is : after ≡ record { server = seat.server; number = seat.number; applied = seat.applied + 1; last = Some answer }
+  pub seat_is : after ≡ record {
+    server = seat.server;
+    number = seat.number;
+    applied = seat.applied + 1;
+    last = Some answer;
+  }
 
 -- Neither changes.
-pub record IsSame (old : ServerLog) (seat : Seated) (new : ServerLog) (after : Seated) : Type 0 where
+pub record IsSame (old : ServerLog) (seat : Seated) (new : ServerLog)
+    (after : Seated) : Type 0 where
   pub cell : new ≡ old
   pub seat_is : after ≡ seat
 
--- How what is asked from a right seat ends, with this answer: for want of memory nothing changes, and any
--- other answer is entered.
-abbrev pub Enters : Bool → ServerLog → Seated → Task → ServerLog → Seated → Result Said Fault → Type 0
+-- How what is asked from a right seat ends, with this answer: for want of memory nothing changes,
+-- and any other answer is entered.
+abbrev pub Enters : Bool → ServerLog → Seated → Task → ServerLog → Seated → Result Said Fault
+    → Type 0
 Enters true old seat task new after answer = IsSame old seat new after × (answer ≡ Err NoMemory)
 Enters false old seat task new after answer = IsAdded old seat task answer new after
 
--- How what is asked ends: a wrong seat is refused, and nothing changes; else the answer is told, and
--- sends nothing.
-abbrev pub AppliesBy : Bool → ServerLog → Seated → Task → ServerLog → Seated → Result CallerAnswer Fault → Type 0
-AppliesBy false old seat task new after result = IsSame old seat new after × (result ≡ Err WrongSeat)
+-- How what is asked ends: a wrong seat is refused, and nothing changes; else the answer is told,
+-- and sends nothing.
+abbrev pub AppliesBy : Bool → ServerLog → Seated → Task → ServerLog → Seated
+    → Result CallerAnswer Fault → Type 0
+AppliesBy false old seat task new after result =
+    IsSame old seat new after × (result ≡ Err WrongSeat)
 AppliesBy true old seat task new after result =
     (answer : Result Said Fault) × (result ≡ told_by answer)
     × Enters (lacks_memory answer) old seat task new after answer
 
-abbrev pub Applies : ServerLog → Seated → Task → ServerLog → Seated → Result CallerAnswer Fault → Type 0
-Applies old seat task new after result = AppliesBy (is_right old seat) old seat task new after result
+-- How a task ends that is asked for with a seat.
+abbrev pub Applies : ServerLog → Seated → Task → ServerLog → Seated → Result CallerAnswer Fault
+    → Type 0
+Applies old seat task new after result =
+    AppliesBy (is_right old seat) old seat task new after result

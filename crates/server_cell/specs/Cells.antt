@@ -14,8 +14,8 @@ use Rattle.node_history.specs.Seats.{times, IsNumbered}
 use Rattle.node_history.specs.ServerRules.{rules}
 use Rattle.server_cell.specs.Stands.{ways}
 
--- A server under its lock: what it was opened with, its history, newest first, and how often the device of
--- its note has failed.
+-- A server under its lock: what it was opened with, its history, newest first, and how often the
+-- device of its note has failed.
 pub record ServerLog : Type 0 where
   pub opening : Opening
   pub history : List Logged
@@ -39,9 +39,10 @@ pub record AreCounted (applied : List ℕ) (history : List Logged) : Type 0 wher
   pub long : length applied ≡ 17
   pub each : (seat : ℕ) → seat < MAX_SEATS → slice_index_or applied seat 0 ≡ times seat history
 
--- What is true of every cell: the server stands for a list that its history makes, in which all is in
--- its ranges, and the events of each seat are numbered and counted.
-pub record IsCell {T : Type 0} (note : T → Note) (o : Opening) (power : Power (Server T) T) (history : List Logged) (applied : List ℕ) : Type 0 where
+-- What is true of every cell: the server stands for a list that its history makes, in which all is
+-- in its ranges, and the events of each seat are numbered and counted.
+pub record IsCell {T : Type 0} (note : T → Note) (o : Opening) (power : Power (Server T) T)
+    (history : List Logged) (applied : List ℕ) : Type 0 where
   pub kept : IsKept (ways note o) history power
   pub numbered : IsNumbered history
   pub opens : OpensInRange o

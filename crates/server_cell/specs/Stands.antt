@@ -14,9 +14,10 @@ use Rattle.node_history.specs.Powers as powers
 use Rattle.node_history.specs.ServerKind.{server_kind}
 use Rattle.node_history.specs.ServerRules.{answer_of}
 
--- A server that has power stands for the list; of one that has none, which the list says, the note says
--- what the list says.
-abbrev pub Stands : {T : Type 0} → (T → Note) → Opening → List FrameEntry → Power (Server T) T → Type 0
+-- A server that has power stands for the list; of one that has none, which the list says, the note
+-- says what the list says.
+abbrev pub Stands : {T : Type 0} → (T → Note) → Opening → List FrameEntry → Power (Server T) T
+    → Type 0
 Stands note o past power = powers.Stands (server_kind note o) past power
 
 -- The ways of a server that was opened so.
@@ -26,9 +27,11 @@ ways note o = powers.ways (server_kind note o)
 -- How often the device of its note has failed.
 abbrev pub failures_of : {T : Type 0} → (T → Note) → Power (Server T) T → ℕ
 failures_of note power =
-    powers.failures_of (λ server. (note server.core.notes).failures) (λ notes. (note notes).failures) power
+    powers.failures_of (λ server. (note server.core.notes).failures)
+    (λ notes. (note notes).failures) power
 
 -- What a step says to its caller, and the frames that it sends.
 abbrev pub reply_and_frames : Result Outs Fault → Result (Said × List (List ℕ)) Fault
-reply_and_frames (Ok outs) = Ok (record { answer = answer_of outs.issue; act = outs.act }, outs.frames)
+reply_and_frames (Ok outs) =
+    Ok (record { answer = answer_of outs.issue; act = outs.act }, outs.frames)
 reply_and_frames (Err fault) = Err fault

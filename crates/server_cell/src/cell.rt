@@ -52,9 +52,15 @@ impl<N: Notes + Drop> Model for ServerCell<N> {
 
     ghost Value = { ServerLog };
 
-    ghost view = { λ c. record { opening = record { me = c.me; boot = c.boot; last = c.last_run }; history = reverse c.history.items; failures = failures_of N.note c.power } };
+    ghost view = { λ c. record {
+      opening = record { me = c.me; boot = c.boot; last = c.last_run };
+      history = reverse c.history.items;
+      failures = failures_of N.note c.power;
+    } };
 
-    ghost invariant = { λ c. IsCell N.note (record { me = c.me; boot = c.boot; last = c.last_run }) c.power (reverse c.history.items) c.applied };
+    ghost invariant = { λ c. IsCell N.note
+        (record { me = c.me; boot = c.boot; last = c.last_run }) c.power
+        (reverse c.history.items) c.applied };
 }
 
 impl<N: Notes + Drop> ServerCell<N> {

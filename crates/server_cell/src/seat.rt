@@ -36,7 +36,12 @@ impl Model for Seat {
 
     ghost Value = { Seated };
 
-    ghost view = { λ s. record { server = s.server; number = s.number; applied = s.applied; last = s.last } };
+    ghost view = { λ s. record {
+      server = s.server;
+      number = s.number;
+      applied = s.applied;
+      last = s.last;
+    } };
 
     ghost invariant = { λ s. s.number < MAX_SEATS };
 }

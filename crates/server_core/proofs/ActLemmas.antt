@@ -1,5 +1,6 @@
 -- A server asks for the cut once the client has told of each job that its state is kept.
-use Rattle.std.proofs.Common.{◌≡◌, refl, sym, ◌∙◌, subst, ◌⊎◌, inl, inr, ℕ, zero, suc, ◌<◌, ◌≤◌, arith, Bool, true, false, ◌&&◌, ◌==◌, List, [], ◌∷◌, length, Option, None, Some}
+use Rattle.std.proofs.Common.{◌≡◌, refl, sym, ◌∙◌, subst, ◌⊎◌, inl, inr, ℕ, zero, suc, ◌<◌, ◌≤◌, arith}
+use Rattle.std.proofs.Common.{Bool, true, false, ◌&&◌, ◌==◌, List, [], ◌∷◌, length, Option, None, Some}
 use Rattle.std.specs.Prelude.{if◌then◌else◌, not, Contains}
 use Rattle.std.specs.List.{list_all}
 use Rattle.std.proofs.lemmas.Bool.{and_parts, or_cases, eqb-true, cases_lt}
@@ -9,7 +10,8 @@ use Rattle.fc_base.specs.Counted.{has, numbers_below}
 use Rattle.messages.specs.declared.refusal.Act.TheVariants as acts
 use Rattle.server_core.specs.declared.event.Event.{Event}
 use Rattle.server_core.specs.History.{Opening, Entry}
-use Rattle.server_core.specs.Request.{Request, ToStage, ToStart, ToTrigger, ToMark, ToStop, ToVerify, ToHold, ToPassFully, ToIssue, ToEnd, ToReport, ToNobody, request_of}
+use Rattle.server_core.specs.Request.{Request, ToStage, ToStart, ToTrigger, ToMark, ToStop, ToVerify}
+use Rattle.server_core.specs.Request.{ToHold, ToPassFully, ToIssue, ToEnd, ToReport, ToNobody, request_of}
 use Rattle.server_core.specs.Run.{Work, Halt, Triggered, Stopped, halt_of}
 use Rattle.server_core.specs.Words.{work}
 use Rattle.server_core.specs.Answers.{marks_by, marks, is_marked, wants_cut, completes, act_of, act}
@@ -58,7 +60,8 @@ mark_of None run x j h = cc
 marked_asked : (run : ℕ) (since : List Request) (j : ℕ) → has (marks run since) j ≡ true → Contains since (ToMark run j)
 marked_asked run [] j h = cc
 marked_asked run (x ∷ since) j h =
-    elim (or_cases (has (marks_by (halt_of run since) run x) j) (has (marks run since) j) (sym (list_any-append (λ i. i == j) (marks_by (halt_of run since) run x) (marks run since)) ∙ h)) [
+    elim (or_cases (has (marks_by (halt_of run since) run x) j) (has (marks run since) j)
+    (sym (list_any-append (λ i. i == j) (marks_by (halt_of run since) run x) (marks run since)) ∙ h)) [
       | inl a ↦ subst (λ y. Contains (x ∷ since) y) (mark_of (halt_of run since) run x j a) (first_of x since)
       | inr b ↦ Contains-append_right (x ∷ []) since (ToMark run j) (marked_asked run since j b)
     ]
@@ -73,7 +76,8 @@ cut_if : (t : Bool) → (if t then acts.Cut else acts.None) ≡ acts.Cut → t �
 cut_if true h = refl
 cut_if false h = cc
 
-cut_at : (o : Opening) (past : List Entry) (e : Event) (x : Option Work) → work o past ≡ x → WorkHeard o.me (heard_packets past) x → act_of x (request_of o.me e) ≡ acts.Cut → AreStatesKept o past e
+cut_at : (o : Opening) (past : List Entry) (e : Event) (x : Option Work) → work o past ≡ x → WorkHeard o.me (heard_packets past) x
+    → act_of x (request_of o.me e) ≡ acts.Cut → AreStatesKept o past e
 cut_at o past e None is k h = cc
 cut_at o past e (Some w) is k h =
     let x = request_of o.me e in

@@ -99,7 +99,8 @@ went_on o past e left (Some v) w f all h =
     }
 
 began_now : (o : Opening) (past : List Entry) (e : Event) (s : Staged) (w : Work) → due o past e ≡ Some s → work o (Met e Saved ∷ past) ≡ Some w
-    → ◌≡◌ {A = Option Work} (Some (record { server = o.me; boot = boot o past; run = s.run; jobs = s.jobs; since = [] })) (Some w) → Began o (Met e Saved ∷ past) w
+    → ◌≡◌ {A = Option Work} (Some (record { server = o.me; boot = boot o past; run = s.run; jobs = s.jobs; since = [] })) (Some w)
+    → Began o (Met e Saved ∷ past) w
 began_now o past e s w is all h =
     let here = same_work (record { server = o.me; boot = boot o past; run = s.run; jobs = s.jobs; since = [] }) w h in
     record {
@@ -113,7 +114,8 @@ began_now o past e s w is all h =
       since = (all, sym (ap (λ (x : Work). x.since) here));
     }
 
-began_at : (o : Opening) (past : List Entry) (e : Event) (left : Left) (d : Option Staged) (w : Work) → due o past e ≡ d → ((v : Work) → work o past ≡ Some v → Began o past v)
+began_at : (o : Opening) (past : List Entry) (e : Event) (left : Left) (d : Option Staged) (w : Work) → due o past e ≡ d
+    → ((v : Work) → work o past ≡ Some v → Began o past v)
     → work o (Met e left ∷ past) ≡ Some w → work_after left d o.me (boot o past) (request_of o.me e) (work o past) ≡ Some w → Began o (Met e left ∷ past) w
 began_at o past e NoSave d w is f all h = went_on o past e NoSave (work o past) w f all h
 began_at o past e Saved None w is f all h = went_on o past e Saved (work o past) w f all h

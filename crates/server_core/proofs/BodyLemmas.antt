@@ -77,9 +77,11 @@ job_number js j s l = let m = s.within.few in omega arith
 
 -- ---- refusals
 
-pub refuse_fits : (asked : Asked) (reason : Reason) (r a value : ℕ) → is_run r ≡ true → is_word value ≡ true → is_job_refused reason 0 0 ≡ true → is_attempt_refused asked a ≡ true → Fit (refuse asked reason r a value)
+pub refuse_fits : (asked : Asked) (reason : Reason) (r a value : ℕ) → is_run r ≡ true → is_word value ≡ true → is_job_refused reason 0 0 ≡ true
+    → is_attempt_refused asked a ≡ true → Fit (refuse asked reason r a value)
 refuse_fits asked reason r a value h v j k = ((and_from _ _ (and_from _ _ (and_from _ _ h v) j) k, tt), tt)
 
 pub gone_fits : (asked : Asked) (r last : ℕ) → is_run r ≡ true → last < 2 ^ 64 → is_attempt_refused asked 0 ≡ true → Fit (gone_or_unknown asked r last)
 gone_fits asked r last h l a =
-    fit_if (nat_le r last) _ _ (refuse_fits asked reasons.Gone r 0 last h (word last l) refl a) (refuse_fits asked reasons.Unknown r 0 last h (word last l) refl a)
+    fit_if (nat_le r last) _ _ (refuse_fits asked reasons.Gone r 0 last h (word last l) refl a)
+    (refuse_fits asked reasons.Unknown r 0 last h (word last l) refl a)

@@ -17,8 +17,10 @@ use Rattle.server_core.specs.Request.{Request, ToStage, ToStart, ToTrigger, ToMa
 use Rattle.server_core.specs.Texts.{jobs_for}
 use Rattle.server_core.specs.Run.{is_open, is_unended}
 use Rattle.verify_state.specs.Misfit.{misfit}
-use Rattle.server_core.specs.Check.{Check, Progress, Wanting, Full, With, Refused, Done, progress_with_state, progress_without_state, progress_with_report, progress_at_first, progress_after, progress_by, progress_at, progress_in}
-use Rattle.server_core.specs.Replies.{Now, progress_frame, check_frames_from, check_frames, reply_to_check_text, reply_to_new_check, reply_to_attempt, misfit_frame, reply_to_state_for, reply_to_state, reply_to_report}
+use Rattle.server_core.specs.Check.{Check, Progress, Wanting, Full, With, Refused, Done, progress_with_state, progress_without_state}
+use Rattle.server_core.specs.Check.{progress_with_report, progress_at_first, progress_after, progress_by, progress_at, progress_in}
+use Rattle.server_core.specs.Replies.{Now, progress_frame, check_frames_from, check_frames, reply_to_check_text, reply_to_new_check}
+use Rattle.server_core.specs.Replies.{reply_to_attempt, misfit_frame, reply_to_state_for, reply_to_state, reply_to_report}
 use Rattle.server_core.specs.Answers.{is_ready, is_open_attempt as is_attempt_of, refused_by}
 use Rattle.server_core.proofs.RangeLemmas.{fault_word, TextFits, text_fits, RequestFits}
 use Rattle.disk_model.proofs.ListLemmas.{all_append}
@@ -59,10 +61,12 @@ reported_fits r (Done report) k h = h
 
 step_fits : (c : Check) (i : ℕ) (job : Job) (x : Request) (p : Progress) → RequestFits x → ProgressFits p → ProgressFits (progress_by c i job x p)
 step_fits c i job (ToHold a state) p r h =
-    progress_if ((a == c.attempt) && (state.key.job == i)) (progress_with_state (misfit state (record { run = c.run; server = c.server; job = i }) job.rec) state p) p
+    progress_if ((a == c.attempt) && (state.key.job == i))
+    (progress_with_state (misfit state (record { run = c.run; server = c.server; job = i }) job.rec) state p) p
     (held_fits (misfit state (record { run = c.run; server = c.server; job = i }) job.rec) state p h) h
 step_fits c i job (ToPassFully a j) p r h = progress_if ((a == c.attempt) && (j == i)) (progress_without_state p) p (passed_fits p h) h
-step_fits c i job (ToReport b a j report) p r h = progress_if ((b == c.boot) && ((a == c.attempt) && (j == i))) (progress_with_report report p) p (reported_fits report p r h) h
+step_fits c i job (ToReport b a j report) p r h =
+    progress_if ((b == c.boot) && ((a == c.attempt) && (j == i))) (progress_with_report report p) p (reported_fits report p r h) h
 step_fits c i job (ToStage u text) p r h = h
 step_fits c i job (ToStart u) p r h = h
 step_fits c i job (ToTrigger u act) p r h = h
@@ -98,14 +102,17 @@ all_checks : (c : Check) → CheckInRange c → Fit (check_frames c)
 all_checks c k = checks_fit c 0 c.jobs k (omega arith)
 
 check_text_reply : (n : Now) (r a : ℕ) (t : Result (List Job) ℕ) → is_run r ≡ true → is_attempt a ≡ true → TextFits t → Fit (reply_to_check_text n r a t)
-check_text_reply n r a (Ok js) h k f = all_checks (record { server = n.server; boot = n.boot; run = r; attempt = a; jobs = js; since = [] }) (record { run = h; attempt = k; jobs = f; since = tt })
+check_text_reply n r a (Ok js) h k f = all_checks (record { server = n.server; boot = n.boot; run = r; attempt = a; jobs = js; since = [] })
+    (record { run = h; attempt = k; jobs = f; since = tt })
 check_text_reply n r a (Err value) h k f = refuse_fits asks.Verify reasons.BadJobs r a value h f refl k
 
 new_check_reply : Below → (n : Now) (r a : ℕ) (text : List ℕ) → is_run r ≡ true → is_attempt a ≡ true → Fit (reply_to_new_check n r a text)
 new_check_reply below n r a text h k =
-    fit_if (is_open n.run || is_unended n.run) _ _ (refuse_fits asks.Verify reasons.Busy r a 0 h refl refl k) (check_text_reply n r a (jobs_for Read text) h k (text_fits below.texts Read text))
+    fit_if (is_open n.run || is_unended n.run) _ _ (refuse_fits asks.Verify reasons.Busy r a 0 h refl refl k)
+    (check_text_reply n r a (jobs_for Read text) h k (text_fits below.texts Read text))
 
-pub attempt_reply : Below → (n : Now) (r a : ℕ) (text : List ℕ) (c : Option Check) → is_run r ≡ true → is_attempt a ≡ true → SomeCheck c → Fit (reply_to_attempt n r a text c)
+pub attempt_reply : Below → (n : Now) (r a : ℕ) (text : List ℕ) (c : Option Check) → is_run r ≡ true → is_attempt a ≡ true → SomeCheck c
+    → Fit (reply_to_attempt n r a text c)
 attempt_reply below n r a text None h k f = new_check_reply below n r a text h k
 attempt_reply below n r a text (Some c) h k f =
     fit_if (nat_lt a c.attempt) _ _ (refuse_fits asks.Verify reasons.Old r a c.attempt h (run_word c.attempt f.attempt) refl k)
@@ -127,12 +134,14 @@ is_below [] j job h = cc
 is_below (first ∷ jobs) zero job h = omega arith
 is_below (first ∷ jobs) (suc j) job h = let l = is_below jobs j job h in omega arith
 
-state_for_reply : (c : Check) (a : ℕ) (s : SavedState) (found : Option Job) → slice_get c.jobs s.key.job ≡ found → CheckInRange c → Fit (reply_to_state_for c a s found)
+state_for_reply : (c : Check) (a : ℕ) (s : SavedState) (found : Option Job) → slice_get c.jobs s.key.job ≡ found → CheckInRange c
+    → Fit (reply_to_state_for c a s found)
 state_for_reply c a s None e k = tt
 state_for_reply c a s (Some job) e k =
     let j = s.key.job in
     let p = progress_after c j job c.since in
-    misfit_reply c j p (progress_by c j job (ToHold a s) p) k (is_below c.jobs j job e) (step_fits c j job (ToHold a s) p tt (progress_fits c j job c.since k.since))
+    misfit_reply c j p (progress_by c j job (ToHold a s) p) k (is_below c.jobs j job e)
+    (step_fits c j job (ToHold a s) p tt (progress_fits c j job c.since k.since))
 
 pub state_reply : (a : ℕ) (s : SavedState) (c : Option Check) → SomeCheck c → Fit (reply_to_state a s c)
 state_reply a s None k = tt
@@ -147,7 +156,8 @@ ready_below : (c : Check) (j : ℕ) (found : Option Job) → slice_get c.jobs j 
 ready_below c j None e h = cc
 ready_below c j (Some job) e h = is_below c.jobs j job e
 
-pub report_reply : (a j : ℕ) (report : ReportParts) (c : Option Check) → (is_attempt_of a c && is_ready (progress_in c j)) ≡ true → is_report report ≡ true → SomeCheck c → Fit (reply_to_report j report c)
+pub report_reply : (a j : ℕ) (report : ReportParts) (c : Option Check) → (is_attempt_of a c && is_ready (progress_in c j)) ≡ true → is_report report ≡ true
+    → SomeCheck c → Fit (reply_to_report j report c)
 report_reply a j report None t h k = tt
 report_reply a j report (Some c) t h k =
     one_check c j (Done report) k (ready_below c j (slice_get c.jobs j) refl (and_parts (is_attempt_of a (Some c)) (is_ready (progress_in (Some c) j)) t).1) h

@@ -28,7 +28,8 @@ use Rattle.disk_model.specs.declared.left.Left.TheVariants.{NoSave, Saved, LostN
 use Rattle.disk_model.specs.Left.{is_lost}
 use Rattle.server_core.specs.History.{Opening, Entry, Met, Cut, Restart}
 use Rattle.messages.specs.Nodes.{is_client, is_server}
-use Rattle.server_core.specs.Request.{Request, ToStage, ToStart, ToTrigger, ToMark, ToStop, ToVerify, ToHold, ToPassFully, ToIssue, ToEnd, ToReport, ToNobody, request_in, request_of}
+use Rattle.server_core.specs.Request.{Request, ToStage, ToStart, ToTrigger, ToMark, ToStop, ToVerify, ToHold}
+use Rattle.server_core.specs.Request.{ToPassFully, ToIssue, ToEnd, ToReport, ToNobody, request_in, request_of}
 use Rattle.server_core.specs.Run.{Work, is_open, origin_of, with_issue, with_ticket, with_request, history}
 use Rattle.server_core.specs.Words.{Staged, for_run, is_on, boot, due_by, work_after, last_run, staged_run, work, due}
 use Rattle.server_core.specs.Answers.{names_open_of, refused_by, refusal}
@@ -42,7 +43,8 @@ abbrev OnWith : Bool → Option Work → Type 0
 OnWith on None = Unit {0}
 OnWith on (Some w) = on ≡ true
 
-on_after : (on : Bool) (left : Left) (d : Option Staged) (me b : ℕ) (x : Request) (w : Option Work) → (d ≡ None ⊎ (on ≡ true)) → OnWith on w → OnWith (on && not (is_lost left)) (work_after left d me b x w)
+on_after : (on : Bool) (left : Left) (d : Option Staged) (me b : ℕ) (x : Request) (w : Option Work) → (d ≡ None ⊎ (on ≡ true)) → OnWith on w
+    → OnWith (on && not (is_lost left)) (work_after left d me b x w)
 on_after on NoSave d me b x None f h = tt
 on_after on NoSave d me b x (Some w) f h = rw h refl
 on_after on Saved None me b x None f h = tt
@@ -72,7 +74,8 @@ due_on on last s w ToNobody = inl refl
 
 on_of : (o : Opening) (past : List Entry) → OnWith (is_on past) (work o past)
 on_of o [] = tt
-on_of o (Met e left ∷ past) = on_after (is_on past) left (due o past e) o.me (boot o past) (request_of o.me e) (work o past) (due_on (is_on past) (last_run o past) (staged_run o past) (work o past) (request_of o.me e)) (on_of o past)
+on_of o (Met e left ∷ past) = on_after (is_on past) left (due o past e) o.me (boot o past) (request_of o.me e) (work o past)
+    (due_on (is_on past) (last_run o past) (staged_run o past) (work o past) (request_of o.me e)) (on_of o past)
 on_of o (Cut ∷ past) = tt
 on_of o (Restart left ∷ past) = tt
 
@@ -101,7 +104,8 @@ issue_done_if : (t : Bool) (answer : Answer) (h : List window.Event) (k : ℕ) �
 issue_done_if true answer h k = issue_done answer h k
 issue_done_if false answer h k = refl
 
-failed_done : (answer : Result (Unit {0}) Fault) (seq : ℕ) (h : List window.Event) (k : ℕ) → window.is_done (with_ticket answer Failed seq h) k ≡ window.is_done h k
+failed_done : (answer : Result (Unit {0}) Fault) (seq : ℕ) (h : List window.Event) (k : ℕ)
+    → window.is_done (with_ticket answer Failed seq h) k ≡ window.is_done h k
 failed_done (Ok u) seq h k = refl
 failed_done (Err fault) seq h k = refl
 
@@ -110,7 +114,8 @@ record IsAccepted (origin : Origin) (writes : List ℕ) (ticket : Ticket) : Type
   pub boot_is : (ticket.boot == origin.boot) ≡ true
   pub names : names_one_of origin writes ticket ≡ true
 
-verdict : (same named : Bool) (u : Unit {0}) → (if not same then Err OldBoot else (if named then Ok tt else Err NotInFlight)) ≡ Ok u → (same ≡ true) × (named ≡ true)
+verdict : (same named : Bool) (u : Unit {0}) → (if not same then Err OldBoot else (if named then Ok tt else Err NotInFlight)) ≡ Ok u
+    → (same ≡ true) × (named ≡ true)
 verdict true true u h = (refl, refl)
 verdict true false u h = cc
 verdict false named u h = cc
@@ -122,7 +127,8 @@ accepted_of origin writes ticket u h =
 
 key_of : (origin : Origin) (writes : List ℕ) (ticket : Ticket) → names_one_of origin writes ticket ≡ true → ticket.key ≡ origin.key
 key_of origin writes ticket h =
-    same_key ticket.key origin.key (and_parts (is_same_key ticket.key origin.key) (has writes ticket.seq && (block_of origin.job ticket.seq == ticket.block)) h).0
+    same_key ticket.key origin.key (and_parts (is_same_key ticket.key origin.key)
+    (has writes ticket.seq && (block_of origin.job ticket.seq == ticket.block)) h).0
 
 -- What the run and job are, in which a completion comes.
 pub record IsAt (o : Opening) (past : List Entry) (v : Work) (j : ℕ) (job : Job) : Type 0 where
@@ -140,7 +146,8 @@ refused_not true true h = (refl, refl)
 refused_not true false h = cc
 refused_not false named h = cc
 
-named_at : (v : Work) (ticket : Ticket) (j : ℕ) (job : Job) → slice_get v.jobs j ≡ Some job → ticket.key.job ≡ j → names_open_of v ticket (slice_get v.jobs ticket.key.job) ≡ names_one_of (origin_of v j job) (open_in v j job) ticket
+named_at : (v : Work) (ticket : Ticket) (j : ℕ) (job : Job) → slice_get v.jobs j ≡ Some job → ticket.key.job ≡ j
+    → names_open_of v ticket (slice_get v.jobs ticket.key.job) ≡ names_one_of (origin_of v j job) (open_in v j job) ticket
 named_at v ticket j job h e =
     subst (λ n. names_open_of v ticket (slice_get v.jobs ticket.key.job) ≡ names_one_of (origin_of v n job) (open_in v n job) ticket) e
     (ap (names_open_of v ticket) (ap (slice_get v.jobs) e ∙ h))
@@ -181,10 +188,16 @@ ended_one o past v j job ticket k (Ok u) at e h =
           let acc = accepted_of (origin_of v j job) (open_in v j job) ticket u e in
           let key = key_of (origin_of v j job) (open_in v j job) ticket acc.names in
           let job_is : ticket.key.job ≡ j = ap (λ (x : Key). x.job) key in
-          inr (key, b, refusal_at o past v ticket Done at.works ∙ not_refused (ticket.boot == v.boot) (names_open_of v ticket (slice_get v.jobs ticket.key.job)) acc.boot_is (named_at v ticket j job at.has_job job_is ∙ acc.names))
+          inr (
+            key,
+            b,
+            refusal_at o past v ticket Done at.works ∙ not_refused (ticket.boot == v.boot) (names_open_of v ticket
+                (slice_get v.jobs ticket.key.job)) acc.boot_is (named_at v ticket j job at.has_job job_is ∙ acc.names),
+          )
     ]
 
-accepted_answer : (origin : Origin) (writes : List ℕ) (ticket : Ticket) → (ticket.boot == origin.boot) ≡ true → names_one_of origin writes ticket ≡ true → ticket_answer origin writes ticket ≡ Ok tt
+accepted_answer : (origin : Origin) (writes : List ℕ) (ticket : Ticket) → (ticket.boot == origin.boot) ≡ true → names_one_of origin writes ticket ≡ true
+    → ticket_answer origin writes ticket ≡ Ok tt
 accepted_answer origin writes ticket a b = rw (a, b) refl
 
 ended_back : (o : Opening) (past : List Entry) (v : Work) (j : ℕ) (job : Job) (ticket : Ticket) (k : ℕ) → IsAt o past v j job
@@ -192,13 +205,15 @@ ended_back : (o : Opening) (past : List Entry) (v : Work) (j : ℕ) (job : Job) 
     → window.is_done (with_ticket (ticket_answer (origin_of v j job) (open_in v j job) ticket) Done ticket.seq (history (origin_of v j job) v.since)) k ≡ true
 ended_back o past v j job ticket k at d =
     let job_is : ticket.key.job ≡ j = ap (λ (x : Key). x.job) d.0 in
-    let p = refused_not (ticket.boot == v.boot) (names_open_of v ticket (slice_get v.jobs ticket.key.job)) (sym (refusal_at o past v ticket Done at.works) ∙ d.2) in
+    let p = refused_not (ticket.boot == v.boot) (names_open_of v ticket (slice_get v.jobs ticket.key.job))
+    (sym (refusal_at o past v ticket Done at.works) ∙ d.2) in
     let names = sym (named_at v ticket j job at.has_job job_is) ∙ p.1 in
     subst (λ a. window.is_done (with_ticket a Done ticket.seq (history (origin_of v j job) v.since)) k ≡ true)
     (sym (accepted_answer (origin_of v j job) (open_in v j job) ticket p.0 names))
     (has_last (window.completions (history (origin_of v j job) v.since)) ticket.seq k d.1)
 
-kept_one : (answer : Result (Unit {0}) Fault) (seq : ℕ) (h : List window.Event) (k : ℕ) → window.is_done h k ≡ true → window.is_done (with_ticket answer Done seq h) k ≡ true
+kept_one : (answer : Result (Unit {0}) Fault) (seq : ℕ) (h : List window.Event) (k : ℕ) → window.is_done h k ≡ true
+    → window.is_done (with_ticket answer Done seq h) k ≡ true
 kept_one (Ok u) seq h k e = has_kept (window.completions h) seq k e
 kept_one (Err fault) seq h k e = e
 
@@ -207,10 +222,12 @@ pub one_on : (o : Opening) (past : List Entry) (v : Work) (j : ℕ) (job : Job) 
     → window.is_done (with_request (origin_of v j job) stopped (request_of o.me e) (history (origin_of v j job) v.since)) k ≡ true
     → (window.is_done (history (origin_of v j job) v.since) k ≡ true) ⊎ IsDoneBy o past e (origin_of v j job).key k
 one_on o past v j job (Deliver p) k stopped at h =
-    inl (subst (λ l. window.is_done l k ≡ true) (deliver_by (origin_of v j job) stopped (is_client p.from && is_server o.me p.to) (history (origin_of v j job) v.since) p.body) h)
+    inl (subst (λ l. window.is_done l k ≡ true) (deliver_by (origin_of v j job) stopped (is_client p.from && is_server o.me p.to)
+    (history (origin_of v j job) v.since) p.body) h)
 one_on o past v j job (Issue i) k stopped at h =
     inl (sym (issue_done_if (i == j) (answer_to (origin_of v j job) stopped (history (origin_of v j job) v.since)) (history (origin_of v j job) v.since) k) ∙ h)
-one_on o past v j job (WriteDone ticket Done) k stopped at h = ended_one o past v j job ticket k (ticket_answer (origin_of v j job) (open_in v j job) ticket) at refl h
+one_on o past v j job (WriteDone ticket Done) k stopped at h =
+    ended_one o past v j job ticket k (ticket_answer (origin_of v j job) (open_in v j job) ticket) at refl h
 one_on o past v j job (WriteDone ticket Failed) k stopped at h =
     inl (sym (failed_done (ticket_answer (origin_of v j job) (open_in v j job) ticket) ticket.seq (history (origin_of v j job) v.since) k) ∙ h)
 one_on o past v j job (CheckDone b a i report) k stopped at h = inl h
@@ -226,9 +243,13 @@ one_back o past v j job (CheckDone b a i report) k stopped at d = absurd d
 
 pub one_kept : (o : Opening) (v : Work) (j : ℕ) (job : Job) (e : Event) (k : ℕ) (stopped : Bool) → window.is_done (history (origin_of v j job) v.since) k ≡ true
     → window.is_done (with_request (origin_of v j job) stopped (request_of o.me e) (history (origin_of v j job) v.since)) k ≡ true
-one_kept o v j job (WriteDone ticket Done) k stopped h = kept_one (ticket_answer (origin_of v j job) (open_in v j job) ticket) ticket.seq (history (origin_of v j job) v.since) k h
-one_kept o v j job (WriteDone ticket Failed) k stopped h = failed_done (ticket_answer (origin_of v j job) (open_in v j job) ticket) ticket.seq (history (origin_of v j job) v.since) k ∙ h
+one_kept o v j job (WriteDone ticket Done) k stopped h =
+    kept_one (ticket_answer (origin_of v j job) (open_in v j job) ticket) ticket.seq (history (origin_of v j job) v.since) k h
+one_kept o v j job (WriteDone ticket Failed) k stopped h =
+    failed_done (ticket_answer (origin_of v j job) (open_in v j job) ticket) ticket.seq (history (origin_of v j job) v.since) k ∙ h
 one_kept o v j job (Deliver p) k stopped h =
-    subst (λ l. window.is_done l k ≡ true) (sym (deliver_by (origin_of v j job) stopped (is_client p.from && is_server o.me p.to) (history (origin_of v j job) v.since) p.body)) h
-one_kept o v j job (Issue i) k stopped h = issue_done_if (i == j) (answer_to (origin_of v j job) stopped (history (origin_of v j job) v.since)) (history (origin_of v j job) v.since) k ∙ h
+    subst (λ l. window.is_done l k ≡ true) (sym (deliver_by (origin_of v j job) stopped (is_client p.from && is_server o.me p.to)
+    (history (origin_of v j job) v.since) p.body)) h
+one_kept o v j job (Issue i) k stopped h =
+    issue_done_if (i == j) (answer_to (origin_of v j job) stopped (history (origin_of v j job) v.since)) (history (origin_of v j job) v.since) k ∙ h
 one_kept o v j job (CheckDone b a i report) k stopped h = h

@@ -6,7 +6,8 @@ use Rattle.disk_model.specs.declared.left.Left.{Left}
 use Rattle.disk_model.specs.Left.{has_new}
 use Rattle.server_core.specs.DueStart.{IsDueStart}
 use Rattle.server_core.specs.History.{Opening, Entry, Met, Cut, Restart}
-use Rattle.server_core.specs.Request.{Request, ToStage, ToStart, ToTrigger, ToMark, ToStop, ToVerify, ToHold, ToPassFully, ToIssue, ToEnd, ToReport, ToNobody, request_of}
+use Rattle.server_core.specs.Request.{Request, ToStage, ToStart, ToTrigger, ToMark, ToStop, ToVerify}
+use Rattle.server_core.specs.Request.{ToHold, ToPassFully, ToIssue, ToEnd, ToReport, ToNobody, request_of}
 use Rattle.server_core.specs.Run.{Work, is_open}
 use Rattle.server_core.specs.declared.event.Event.{Event}
 use Rattle.server_core.specs.Words.{Staged, for_run, is_on, due_by, last_run_after, last_run, work, staged_run, due}
@@ -17,7 +18,8 @@ pub record IsStart (last : ℕ) (x : Request) (s : Staged) : Type 0 where
   pub above : last < s.run
 
 -- All tests hold where the whole gives something.
-all_hold : {X : Type 0} (a b c : Bool) (y : Option X) (s : X) → (if a && (b && not c) then y else None) ≡ Some s → (a ≡ true) × (b ≡ true) × (c ≡ false) × (y ≡ Some s)
+all_hold : {X : Type 0} (a b c : Bool) (y : Option X) (s : X) → (if a && (b && not c) then y else None) ≡ Some s
+    → (a ≡ true) × (b ≡ true) × (c ≡ false) × (y ≡ Some s)
 all_hold true true false y s h = (refl, refl, refl, h)
 all_hold true true true y s h = cc
 all_hold true false c y s h = cc
@@ -33,7 +35,8 @@ of_run r (Some t) s h =
     let p = same_run (t.run == r) t s h in
     (ap Some p.1, subst (λ (u : Staged). u.run ≡ r) p.1 (eqb-true t.run r p.0))
 
-pub rests : (on : Bool) (last : ℕ) (staged : Option Staged) (now : Option Work) (x : Request) (s : Staged) → due_by on last staged now x ≡ Some s → IsDueStart on last staged now x s
+pub rests : (on : Bool) (last : ℕ) (staged : Option Staged) (now : Option Work) (x : Request) (s : Staged) → due_by on last staged now x ≡ Some s
+    → IsDueStart on last staged now x s
 rests on last staged now (ToStart r) s h =
     let p = all_hold on (nat_lt last r) (is_open now) (for_run r staged) s h in
     let q = of_run r staged s p.3 in
@@ -56,10 +59,12 @@ rests on last staged now (ToEnd ticket end) s h = cc
 rests on last staged now (ToReport b a j report) s h = cc
 rests on last staged now ToNobody s h = cc
 
-pub due_is_start : (o : Opening) (past : List Entry) (e : Event) (s : Staged) → due o past e ≡ Some s → IsDueStart (is_on past) (last_run o past) (staged_run o past) (work o past) (request_of o.me e) s
+pub due_is_start : (o : Opening) (past : List Entry) (e : Event) (s : Staged) → due o past e ≡ Some s
+    → IsDueStart (is_on past) (last_run o past) (staged_run o past) (work o past) (request_of o.me e) s
 due_is_start o past e s h = rests (is_on past) (last_run o past) (staged_run o past) (work o past) (request_of o.me e) s h
 
-pub due_start : (on : Bool) (last : ℕ) (staged : Option Staged) (now : Option Work) (x : Request) (s : Staged) → due_by on last staged now x ≡ Some s → IsStart last x s
+pub due_start : (on : Bool) (last : ℕ) (staged : Option Staged) (now : Option Work) (x : Request) (s : Staged) → due_by on last staged now x ≡ Some s
+    → IsStart last x s
 due_start on last staged now x s h = let r = rests on last staged now x s h in record { start = r.start; above = r.above }
 
 raises : (b : Bool) (n last : ℕ) → last ≤ n → last ≤ (if b then n else last)
@@ -73,6 +78,7 @@ recorded_grows left (Some s) last x f = let above = (f s refl).above in raises (
 -- The last run never falls.
 pub last_grows : (o : Opening) (e : Entry) (past : List Entry) → last_run o past ≤ last_run o (e ∷ past)
 last_grows o (Met e left) past =
-    recorded_grows left (due o past e) (last_run o past) (request_of o.me e) (due_start (is_on past) (last_run o past) (staged_run o past) (work o past) (request_of o.me e))
+    recorded_grows left (due o past e) (last_run o past) (request_of o.me e)
+    (due_start (is_on past) (last_run o past) (staged_run o past) (work o past) (request_of o.me e))
 last_grows o Cut past = omega arith
 last_grows o (Restart left) past = omega arith

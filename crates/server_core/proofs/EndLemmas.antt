@@ -40,16 +40,21 @@ refused true true false c writes end k h e = refl
 refused true false b c writes end k h e = refl
 refused true a b true writes end k h e = cc
 
-pub other_job : (w : Work) (ticket : Ticket) (end : WriteEnd) (j : ℕ) (job : Job) → j ≢ ticket.key.job → history (origin_of w j job) (ToEnd ticket end ∷ w.since) ≡ history (origin_of w j job) w.since
+pub other_job : (w : Work) (ticket : Ticket) (end : WriteEnd) (j : ℕ) (job : Job) → j ≢ ticket.key.job
+    → history (origin_of w j job) (ToEnd ticket end ∷ w.since) ≡ history (origin_of w j job) w.since
 other_job w ticket end j job ne =
     let origin = origin_of w j job in
     let h = history origin w.since in
-    refused (ticket.boot == w.boot) (ticket.key.run == w.run) (ticket.key.server == w.server) (ticket.key.job == j) _ end ticket.seq h (ne_eqb ticket.key.job j (λ e. ne (sym e)))
+    refused (ticket.boot == w.boot) (ticket.key.run == w.run) (ticket.key.server == w.server) (ticket.key.job == j) _ end ticket.seq h
+    (ne_eqb ticket.key.job j (λ e. ne (sym e)))
 
-same_boot : (origin : Origin) (writes : List ℕ) (ticket : Ticket) → origin.boot ≡ ticket.boot → ticket_answer origin writes ticket ≡ open_answer (names_one_of origin writes ticket)
-same_boot origin writes ticket e = ap (λ b. if not b then Err OldBoot else (if names_one_of origin writes ticket then Ok tt else Err NotInFlight)) (eq-eqb ticket.boot origin.boot (sym e))
+same_boot : (origin : Origin) (writes : List ℕ) (ticket : Ticket) → origin.boot ≡ ticket.boot
+    → ticket_answer origin writes ticket ≡ open_answer (names_one_of origin writes ticket)
+same_boot origin writes ticket e =
+    ap (λ b. if not b then Err OldBoot else (if names_one_of origin writes ticket then Ok tt else Err NotInFlight)) (eq-eqb ticket.boot origin.boot (sym e))
 
-pub end_step : HistoriesAreLegal → (kept : Kept) (w : Work) (ticket : Ticket) (end : WriteEnd) (old new : JobRun) (result : Result (Unit {0}) Fault) → RunIs kept w → slice_get kept.kept ticket.key.job ≡ Some old
+pub end_step : HistoriesAreLegal → (kept : Kept) (w : Work) (ticket : Ticket) (end : WriteEnd) (old new : JobRun) (result : Result (Unit {0}) Fault)
+    → RunIs kept w → slice_get kept.kept ticket.key.job ≡ Some old
     → result ≡ ticket_answer old.engine.origin old.engine.kept.open_writes ticket
     → EachHistory old.engine (λ h. StandsFor new.engine (with_ticket result end ticket.seq h))
     → new.engine.origin ≡ old.engine.origin → new.engine.stopped ≡ old.engine.stopped → new ≡ record old { engine = new.engine }
@@ -62,7 +67,8 @@ end_step legal kept w ticket end old new result h at told added same_origin same
     let origin = origin_of w i job in
     let past = history origin w.since in
     let engine : old.engine ≡ running_of origin (is_halted w) past = ap (λ (k : JobRun). k.engine) p.2 in
-    let answer : result ≡ ticket_answer origin (window.open_writes past) ticket = told ∙ ap (λ (r : Running). ticket_answer r.origin r.kept.open_writes ticket) engine in
+    let answer : result ≡ ticket_answer origin (window.open_writes past) ticket =
+    told ∙ ap (λ (r : Running). ticket_answer r.origin r.kept.open_writes ticket) engine in
     let good = stands origin (is_halted w) past old.engine engine (legal origin w.since (within w kept i job h p.1)) in
     let now : new.engine ≡ running_of origin (is_halted w) (with_ticket (ticket_answer origin (window.open_writes past) ticket) end ticket.seq past) =
     (added past good).running_is
@@ -70,10 +76,13 @@ end_step legal kept w ticket end old new result h at told added same_origin same
     ∙ ap (λ s. running_of origin s (with_ticket result end ticket.seq past)) (same_stop ∙ ap (λ (r : Running). r.stopped) engine)
     ∙ ap (λ r. running_of origin (is_halted w) (with_ticket r end ticket.seq past)) answer in
     let here : (other : Job) → job ≡ other → new ≡ job_kept (and_then w (ToEnd ticket end)) i other =
-    λ other same. rest ∙ engine_row w (ToEnd ticket end) i job old new.engine (with_ticket (ticket_answer origin (window.open_writes past) ticket) end ticket.seq past) p.2 now (or_none (halt_of w.run w.since)) refl (unmarked w ticket end i)
+    λ other same. rest ∙ engine_row w (ToEnd ticket end) i job old new.engine
+    (with_ticket (ticket_answer origin (window.open_writes past) ticket) end ticket.seq past) p.2 now (or_none (halt_of w.run w.since)) refl
+    (unmarked w ticket end i)
     ∙ ap (job_kept (and_then w (ToEnd ticket end)) i) same in (
       λ boot. answer ∙ same_boot origin (window.open_writes past) ticket boot ∙ sym (ap (λ x. open_answer (names_open_of w ticket x)) p.1),
-      one_row kept w (ToEnd ticket end) i new h (or_none (halt_of w.run w.since)) (λ j other ne. other_job w ticket end j other ne) (λ j ne. unmarked w ticket end j)
+      one_row kept w (ToEnd ticket end) i new h (or_none (halt_of w.run w.since)) (λ j other ne. other_job w ticket end j other ne)
+          (λ j ne. unmarked w ticket end j)
           (λ other has_it. here other (same_some job other (sym p.1 ∙ has_it))),
     )
   where
@@ -85,7 +94,8 @@ pub no_end : (kept : Kept) (w : Work) (ticket : Ticket) (end : WriteEnd) → Run
 no_end kept w ticket end h past =
     let none = no_job kept w ticket.key.job h past in (
       sym (ap (λ x. open_answer (names_open_of w ticket x)) none),
-      idle kept w (ToEnd ticket end) h (or_none (halt_of w.run w.since)) (λ j job is. other_job w ticket end j job (other j job none is)) (λ j job is. unmarked w ticket end j),
+      idle kept w (ToEnd ticket end) h (or_none (halt_of w.run w.since)) (λ j job is. other_job w ticket end j job (other j job none is))
+          (λ j job is. unmarked w ticket end j),
     )
   where
     other : (j : ℕ) (job : Job) → slice_get w.jobs ticket.key.job ≡ None → slice_get w.jobs j ≡ Some job → j ≢ ticket.key.job
@@ -96,21 +106,27 @@ no_end kept w ticket end h past =
 
 -- ---- a ticket of another boot
 
-other_boot : (kept : Kept) (w : Work) (ticket : Ticket) (end : WriteEnd) → RunIs kept w → (ticket.boot == w.boot) ≡ false → RunIs kept (and_then w (ToEnd ticket end))
+other_boot : (kept : Kept) (w : Work) (ticket : Ticket) (end : WriteEnd) → RunIs kept w → (ticket.boot == w.boot) ≡ false
+    → RunIs kept (and_then w (ToEnd ticket end))
 other_boot kept w ticket end h e =
     idle kept w (ToEnd ticket end) h (or_none (halt_of w.run w.since))
     (λ j job is.
-    ap (λ t. with_ticket (if not t then Err OldBoot else (if names_one_of (origin_of w j job) (window.open_writes (history (origin_of w j job) w.since)) ticket then Ok tt else Err NotInFlight)) end ticket.seq (history (origin_of w j job) w.since))
+    ap (λ t. with_ticket (if not t then Err OldBoot else
+    (if names_one_of (origin_of w j job) (window.open_writes (history (origin_of w j job) w.since)) ticket then Ok tt else Err NotInFlight)) end ticket.seq
+    (history (origin_of w j job) w.since))
     e)
     (λ j job is. unmarked w ticket end j)
 
-pub end_of_other_boot : (me now_boot : ℕ) (kept : Option Kept) (w : Option Work) (ticket : Ticket) (end : WriteEnd) → WorkIs me now_boot kept w → ticket.boot ≢ now_boot → WorkIs me now_boot kept (goes_on (ToEnd ticket end) w)
+pub end_of_other_boot : (me now_boot : ℕ) (kept : Option Kept) (w : Option Work) (ticket : Ticket) (end : WriteEnd) → WorkIs me now_boot kept w
+    → ticket.boot ≢ now_boot → WorkIs me now_boot kept (goes_on (ToEnd ticket end) w)
 end_of_other_boot me now_boot None None ticket end h ne = tt
-end_of_other_boot me now_boot (Some kept) (Some w) ticket end h ne = record { run = other_boot kept w ticket end h.run (ne_eqb ticket.boot w.boot (λ e. ne (e ∙ h.boot_is))); server = h.server; boot_is = h.boot_is }
+end_of_other_boot me now_boot (Some kept) (Some w) ticket end h ne =
+    record { run = other_boot kept w ticket end h.run (ne_eqb ticket.boot w.boot (λ e. ne (e ∙ h.boot_is))); server = h.server; boot_is = h.boot_is }
 end_of_other_boot me now_boot None (Some w) ticket end h ne = absurd h
 end_of_other_boot me now_boot (Some kept) None ticket end h ne = absurd h
 
-pub check_of_other_boot : (me now_boot : ℕ) (kept : Option CheckKept) (c : Option Check) (ticket : Ticket) (end : WriteEnd) → OpenIs me now_boot kept c → OpenIs me now_boot kept (check_goes_on (ToEnd ticket end) c)
+pub check_of_other_boot : (me now_boot : ℕ) (kept : Option CheckKept) (c : Option Check) (ticket : Ticket) (end : WriteEnd) → OpenIs me now_boot kept c
+    → OpenIs me now_boot kept (check_goes_on (ToEnd ticket end) c)
 check_of_other_boot me now_boot None None ticket end h = tt
 check_of_other_boot me now_boot (Some kept) (Some c) ticket end h = record { is = h.is; server = h.server; boot_is = h.boot_is }
 check_of_other_boot me now_boot None (Some c) ticket end h = absurd h

@@ -11,12 +11,15 @@ use Rattle.messages.specs.declared.refusal.Asked.{Asked}
 use Rattle.messages.specs.declared.refusal.Asked.TheVariants as asks
 use Rattle.disk_model.specs.Left.{is_lost}
 use Rattle.server_core.specs.History.{Opening, Entry, Met, Cut, Restart}
-use Rattle.server_core.specs.Request.{Request, ToStage, ToStart, ToTrigger, ToMark, ToStop, ToVerify, ToHold, ToPassFully, ToIssue, ToEnd, ToReport, ToNobody, request_of}
+use Rattle.server_core.specs.Request.{Request, ToStage, ToStart, ToTrigger, ToMark, ToStop, ToVerify}
+use Rattle.server_core.specs.Request.{ToHold, ToPassFully, ToIssue, ToEnd, ToReport, ToNobody, request_of}
 use Rattle.server_core.specs.Texts.{jobs_for}
 use Rattle.server_core.specs.Run.{Work, Halt, Triggered, Stopped, halt_of, is_open, is_unended}
 use Rattle.server_core.specs.Words.{Staged, for_run}
 use Rattle.server_core.specs.Check.{Check, Progress, Wanting, Full, With, Refused, Done, progress_after, progress_by}
-use Rattle.server_core.specs.Replies.{Now, number_staged, reply_to_text, reply_to_new_jobs, present, reply_to_new_start, reply_to_start, gone_or_unknown, state_frames, reply_to_halt, reply_to_trigger, reply_to_stop, progress_frame, check_frames_from, reply_to_check_text, reply_to_new_check, reply_to_attempt, misfit_frame, reply_to_state_for, reply_to_state, reply_to_report, replies}
+use Rattle.server_core.specs.Replies.{Now, number_staged, reply_to_text, reply_to_new_jobs, present, reply_to_new_start, reply_to_start, gone_or_unknown}
+use Rattle.server_core.specs.Replies.{state_frames, reply_to_halt, reply_to_trigger, reply_to_stop, progress_frame, check_frames_from, reply_to_check_text}
+use Rattle.server_core.specs.Replies.{reply_to_new_check, reply_to_attempt, misfit_frame, reply_to_state_for, reply_to_state, reply_to_report, replies}
 use Rattle.server_core.specs.Answers.{now, refusal, to_client, sent_by, packets}
 use Rattle.std.proofs.lemmas.List.{length-append}
 use Rattle.fc_base.specs.declared.limits.TheConstants.{MAX_JOBS}
@@ -124,7 +127,8 @@ check_text_few n r a (Ok js) f = checks_few (record { server = n.server; boot = 
 check_text_few n r a (Err value) f = one
 
 new_check_few : TextsGiveSets → (n : Now) (r a : ℕ) (text : List ℕ) → Few (reply_to_new_check n r a text)
-new_check_few texts n r a text = few_if (is_open n.run || is_unended n.run) _ _ one (check_text_few n r a (jobs_for Read text) (λ js e. (texts Read text js e).within.few))
+new_check_few texts n r a text =
+    few_if (is_open n.run || is_unended n.run) _ _ one (check_text_few n r a (jobs_for Read text) (λ js e. (texts Read text js e).within.few))
 
 attempt_few : TextsGiveSets → (n : Now) (r a : ℕ) (text : List ℕ) (c : Option Check) → CheckFew c → Few (reply_to_attempt n r a text c)
 attempt_few texts n r a text None h = new_check_few texts n r a text
@@ -143,7 +147,8 @@ misfit_few c j (Done report) q = none
 
 state_for_few : (c : Check) (a : ℕ) (s : SavedState) (job : Option Job) → Few (reply_to_state_for c a s job)
 state_for_few c a s None = none
-state_for_few c a s (Some job) = misfit_few c s.key.job (progress_after c s.key.job job c.since) (progress_by c s.key.job job (ToHold a s) (progress_after c s.key.job job c.since))
+state_for_few c a s (Some job) =
+    misfit_few c s.key.job (progress_after c s.key.job job c.since) (progress_by c s.key.job job (ToHold a s) (progress_after c s.key.job job c.since))
 
 hold_few : (a : ℕ) (s : SavedState) (c : Option Check) → Few (reply_to_state a s c)
 hold_few a s None = none
@@ -154,7 +159,8 @@ report_few j r None = none
 report_few j r (Some c) = one
 
 replies_few : TextsGiveSets → (n : Now) (x : Request) → WorkFew n.run → CheckFew n.check → Few (replies n x)
-replies_few texts n (ToStage r text) w c = few_if (nat_le r n.last || nat_lt r (number_staged n.staged)) _ _ one (new_jobs_few r (for_run r n.staged) (is_open n.run) (jobs_for Write text))
+replies_few texts n (ToStage r text) w c =
+    few_if (nat_le r n.last || nat_lt r (number_staged n.staged)) _ _ one (new_jobs_few r (for_run r n.staged) (is_open n.run) (jobs_for Write text))
 replies_few texts n (ToStart r) w c = start_few n r (present r n.run)
 replies_few texts n (ToTrigger r act) w c = trigger_few n r n.run w
 replies_few texts n (ToMark r j) w c = none
@@ -180,7 +186,8 @@ mapped me (b ∷ bs) = ap suc (mapped me bs)
 pub packets_few : TextsGiveSets → RunsHaveSets → ChecksHaveSets → (o : Opening) (past : List Entry) (e : Entry) → length (packets o past e) ≤ MAX_JOBS
 packets_few texts runs checks o past (Met e left) =
     let bs = sent_by (is_lost left) (refusal o past e) (replies (now o past) (request_of o.me e)) in
-    let h = sent_few (is_lost left) (refusal o past e) (replies (now o past) (request_of o.me e)) (replies_few texts (now o past) (request_of o.me e) (run_few runs o past (work o past) refl) (check_jobs_few checks o past (check o past) refl)) in
+    let h = sent_few (is_lost left) (refusal o past e) (replies (now o past) (request_of o.me e))
+    (replies_few texts (now o past) (request_of o.me e) (run_few runs o past (work o past) refl) (check_jobs_few checks o past (check o past) refl)) in
     subst (λ n. n ≤ MAX_JOBS) (sym (mapped o.me bs)) h
 packets_few texts runs checks o past Cut = omega arith
 packets_few texts runs checks o past (Restart left) = omega arith

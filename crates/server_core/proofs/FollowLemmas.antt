@@ -7,7 +7,8 @@ use Rattle.server_core.specs.declared.event.Event.{Event}
 use Rattle.server_core.specs.History.{Opening, Entry, Met}
 use Rattle.server_core.specs.Request.{Request, request_of}
 use Rattle.server_core.specs.Run.{Work}
-use Rattle.server_core.specs.Words.{Staged, is_on, boot, last_run, stagings, staged_run, work, due, stages, staged_after, greater, greatest, due_by, last_run_after, work_after}
+use Rattle.server_core.specs.Words.{Staged, is_on, boot, last_run, stagings, staged_run, work, due, stages}
+use Rattle.server_core.specs.Words.{staged_after, greater, greatest, due_by, last_run_after, work_after}
 use Rattle.server_core.specs.Check.{Check, check, opens, check_after, check_goes_on, or_opened}
 use Rattle.server_core.specs.Replies.{Now}
 use Rattle.server_core.specs.Answers.{now}
@@ -17,15 +18,18 @@ use Rattle.server_core.proofs.Due.{rests, due_is_start}
 abbrev now_by : ℕ → ℕ → ℕ → Option Staged → Option Work → Option Check → Now
 now_by me b l s w c = record { server = me; boot = b; last = l; staged = s; run = w; check = c }
 
-same_now : (me b l m : ℕ) (s t : Option Staged) (w v : Option Work) (c d : Option Check) → l ≡ m → s ≡ t → w ≡ v → c ≡ d → now_by me b l s w c ≡ now_by me b m t v d
+same_now : (me b l m : ℕ) (s t : Option Staged) (w v : Option Work) (c d : Option Check) → l ≡ m → s ≡ t → w ≡ v → c ≡ d
+    → now_by me b l s w c ≡ now_by me b m t v d
 same_now me b l m s t w v c d e f g h = cc
 
-more_staged : (last : ℕ) (new : Option Staged) (older : List Staged) → greatest last (staged_after NoSave new older) ≡ with_staged last new (greatest last older)
+more_staged : (last : ℕ) (new : Option Staged) (older : List Staged)
+    → greatest last (staged_after NoSave new older) ≡ with_staged last new (greatest last older)
 more_staged last None older = refl
 more_staged last (Some s) older = refl
 
 -- Behind an event that records no run.
-pub follows : (o : Opening) (past : List Entry) (e : Event) → is_on past ≡ true → due o past e ≡ None → now o (Met e NoSave ∷ past) ≡ words_after (now o past) (request_of o.me e)
+pub follows : (o : Opening) (past : List Entry) (e : Event) → is_on past ≡ true → due o past e ≡ None
+    → now o (Met e NoSave ∷ past) ≡ words_after (now o past) (request_of o.me e)
 follows o past e on none =
     let x = request_of o.me e in
     let last : last_run o (Met e NoSave ∷ past) ≡ last_run o past = ap (λ d. last_run_after NoSave d (last_run o past)) none in
@@ -50,7 +54,8 @@ none_higher m last (s ∷ older) le e = by_older (none_higher m last older le) (
         impossible true e = cc
         impossible false e = cc
 
-    by_older : (greatest last older ≡ None → greatest m older ≡ None) → (g : Option Staged) → greatest last older ≡ g → greater last s g ≡ None → greatest m (s ∷ older) ≡ None
+    by_older : (greatest last older ≡ None → greatest m older ≡ None) → (g : Option Staged) → greatest last older ≡ g → greater last s g ≡ None
+        → greatest m (s ∷ older) ≡ None
     by_older higher (Some t) is e = no_one t e
     by_older higher None is e = ap (greater m s) (higher is) ∙ not_above (nat_lt last s.run) refl e
       where
@@ -63,7 +68,8 @@ none_above : (last : ℕ) (ss : List Staged) (s : Staged) → greatest last ss �
 none_above last [] s e = cc
 none_above last (new ∷ older) s e = by_older (none_above last older) (greatest last older) refl e
   where
-    by_older : ((t : Staged) → greatest last older ≡ Some t → (greatest t.run older ≡ None) × (last < t.run)) → (g : Option Staged) → greatest last older ≡ g → greater last new g ≡ Some s → (greatest s.run (new ∷ older) ≡ None) × (last < s.run)
+    by_older : ((t : Staged) → greatest last older ≡ Some t → (greatest t.run older ≡ None) × (last < t.run)) → (g : Option Staged) → greatest last older ≡ g
+        → greater last new g ≡ Some s → (greatest s.run (new ∷ older) ≡ None) × (last < s.run)
     by_older above None is e = first (nat_lt last new.run) refl e
       where
         first : (b : Bool) → nat_lt last new.run ≡ b → (if b then Some new else None) ≡ Some s → (greatest s.run (new ∷ older) ≡ None) × (last < s.run)
@@ -82,8 +88,10 @@ none_above last (new ∷ older) s e = by_older (none_above last older) (greatest
             let below = above t is in
             let lt : t.run < new.run = grind (arith, nat_tests) in
             let at : nat_lt new.run new.run ≡ false = grind (arith, nat_tests) in
-            subst (λ x. (greatest x.run (new ∷ older) ≡ None) × (last < x.run)) same
-            (ap (greater new.run new) (none_higher new.run t.run older (omega (arith, lt)) below.0) ∙ ap (λ b. if b then Some new else None) at, omega (arith, lt, below.1))
+            subst (λ x. (greatest x.run (new ∷ older) ≡ None) × (last < x.run)) same (
+              ap (greater new.run new) (none_higher new.run t.run older (omega (arith, lt)) below.0) ∙ ap (λ b. if b then Some new else None) at,
+              omega (arith, lt, below.1),
+            )
         second false u e =
             let same : t ≡ s = cc in
             let below = above t is in
@@ -91,7 +99,8 @@ none_above last (new ∷ older) s e = by_older (none_above last older) (greatest
             (ap (greater t.run new) below.0 ∙ ap (λ b. if b then Some new else None) u, below.1)
 
 -- A request that is due to record a run stages none.
-due_stages_none : (on : Bool) (last : ℕ) (found : Option Staged) (w : Option Work) (x : Request) (s : Staged) (b : Bool) (l : ℕ) (v : Option Work) → due_by on last found w x ≡ Some s → stages b l v x ≡ None
+due_stages_none : (on : Bool) (last : ℕ) (found : Option Staged) (w : Option Work) (x : Request) (s : Staged) (b : Bool) (l : ℕ) (v : Option Work)
+    → due_by on last found w x ≡ Some s → stages b l v x ≡ None
 due_stages_none on last found w x s b l v e = ap (stages b l v) (rests on last found w x s e).start
 
 pub starts_follow : (o : Opening) (past : List Entry) (e : Event) (s : Staged) → due o past e ≡ Some s → now o (Met e Saved ∷ past) ≡ begun_by (now o past) s
@@ -101,7 +110,8 @@ starts_follow o past e s is =
     let last : last_run o (Met e Saved ∷ past) ≡ s.run = ap (λ d. last_run_after Saved d (last_run o past)) is in
     same_now o.me (boot o past) _ _ _ _ _ _ _ _ last
     (ap (λ l. greatest l (staged_after Saved (stages (is_on past) (last_run o past) (work o past) x) (stagings o past))) last
-    ∙ ap (λ new. greatest s.run (staged_after Saved new (stagings o past))) (due_stages_none (is_on past) (last_run o past) (staged_run o past) (work o past) x s (is_on past) (last_run o past) (work o past) is)
+    ∙ ap (λ new. greatest s.run (staged_after Saved new (stagings o past)))
+    (due_stages_none (is_on past) (last_run o past) (staged_run o past) (work o past) x s (is_on past) (last_run o past) (work o past) is)
     ∙ (none_above (last_run o past) (stagings o past) s found).0)
     (ap (λ d. work_after Saved d o.me (boot o past) x (work o past)) is)
     (ap (λ d. check_after Saved d (opens (is_on past) o.me (boot o past) (last_run o past) (work o past) (check o past) x) x (check o past)) is)

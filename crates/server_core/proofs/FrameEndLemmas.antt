@@ -1,5 +1,6 @@
 -- A server takes what comes over a network of frames as its list does.
-use Rattle.std.proofs.Common.{◌≡◌, refl, sym, ◌∙◌, ap, subst, ℕ, ◌≤◌, arith, length, Bool, true, false, ◌&&◌, List, [], ◌∷◌, Option, Some, None, Result, Ok, Err}
+use Rattle.std.proofs.Common.{◌≡◌, refl, sym, ◌∙◌, ap, subst, ℕ, ◌≤◌, arith, length, Bool, true}
+use Rattle.std.proofs.Common.{false, ◌&&◌, List, [], ◌∷◌, Option, Some, None, Result, Ok, Err}
 use Rattle.std.specs.Prelude.{if◌then◌else◌, map, not, is_some}
 use Rattle.std.specs.Result.{is_ok}
 use Rattle.std.proofs.lemmas.List.Elements.{All-nil}
@@ -37,47 +38,60 @@ use Rattle.server_core.specs.Handles.{sent_alone}
 use Rattle.server_core.specs.Serves as whole
 use Rattle.server_core.specs.Note.{spelling}
 use Rattle.server_core.specs.Hearing.{FrameEntry, Met, is_piece_for, rules, heard_at, packets_heard, assembly}
-use Rattle.server_core.specs.FrameAnswers.{Sense, Hears, Keeps, Drops, sense_of, sense, refusal, refusal_of_sense, due, due_of_sense, issue_of_sense, act_of_sense, answered_entry, entry_heard, frames_by}
+use Rattle.server_core.specs.FrameAnswers.{Sense, Hears, Keeps, Drops, sense_of, sense, refusal, refusal_of_sense, due}
+use Rattle.server_core.specs.FrameAnswers.{due_of_sense, issue_of_sense, act_of_sense, answered_entry, entry_heard, frames_by}
 use Rattle.server_core.specs.FrameEnds.{StandsFor, steps, is_drop}
 use Rattle.server_core.proofs.HearingLemmas.{rows_after, entry_by, entry_is, heard_is, kept_rows, dropped_rows, same_rows, refused_rows, piece_sense}
 
 -- ---- whether the server is on
 
-on_is : (o : Opening) (past : List FrameEntry) (e : Input) (x : Event) (left : Left) → sense o past e ≡ Hears x → words.is_on (packets_heard o (Met e left ∷ past)) ≡ (words.is_on (packets_heard o past) && not (is_lost left))
+on_is : (o : Opening) (past : List FrameEntry) (e : Input) (x : Event) (left : Left) → sense o past e ≡ Hears x
+    → words.is_on (packets_heard o (Met e left ∷ past)) ≡ (words.is_on (packets_heard o past) && not (is_lost left))
 on_is o past e x left is = ap words.is_on (heard_is o past e left (Hears x) is)
 
 -- ---- an event that is heard
 
-heard_stands : {T : Type 0} (note : T → Note) (o : Opening) (past : List FrameEntry) (e : Input) (x : Event) (left : Left) (new : Server T) → sense o past e ≡ Hears x
-    → whole.StandsFor note new.core o (history.Met x left ∷ packets_heard o past) → (words.is_on (packets_heard o (Met e left ∷ past)) ≡ true → new.pieces ≡ rows_after o past e left) → StandsFor note new o (Met e left ∷ past)
+heard_stands : {T : Type 0} (note : T → Note) (o : Opening) (past : List FrameEntry) (e : Input) (x : Event) (left : Left) (new : Server T)
+    → sense o past e ≡ Hears x
+    → whole.StandsFor note new.core o (history.Met x left ∷ packets_heard o past)
+    → (words.is_on (packets_heard o (Met e left ∷ past)) ≡ true → new.pieces ≡ rows_after o past e left) → StandsFor note new o (Met e left ∷ past)
 heard_stands note o past e x left new is h k = record {
   core = subst (λ (list : List history.Entry). whole.StandsFor note new.core o list) (sym (heard_is o past e left (Hears x) is)) h;
   pieces = k;
 }
 
-heard_answers : {T : Type 0} (note : T → Note) (o : Opening) (past : List FrameEntry) (e : Input) (x : Event) (old new : Server T) (outs : Outs) → sense o past e ≡ Hears x
-    → Answers (whole.steps note o) (packets_heard o past) x old.core new.core outs → (words.is_on (packets_heard o past) ≡ true → new.pieces ≡ rows_after o past e NoSave) → Answers (steps note o) past e old new outs
+heard_answers : {T : Type 0} (note : T → Note) (o : Opening) (past : List FrameEntry) (e : Input) (x : Event) (old new : Server T) (outs : Outs)
+    → sense o past e ≡ Hears x
+    → Answers (whole.steps note o) (packets_heard o past) x old.core new.core outs
+    → (words.is_on (packets_heard o past) ≡ true → new.pieces ≡ rows_after o past e NoSave) → Answers (steps note o) past e old new outs
 heard_answers note o past e x old new outs is a k =
     let list = packets_heard o past in
     let left = saved_for (words.due o list x) in
     let same_entry : answered_entry o past e ≡ Met e left = ap (λ y. Met e (saved_for (due_of_sense o list y))) is in
-    let says : entry_heard o past (answered_entry o past e) ≡ Some (history.Met x left) = ap (entry_heard o past) same_entry ∙ entry_is o past e left ∙ ap (λ y. entry_by y left) is in
+    let says : entry_heard o past (answered_entry o past e) ≡ Some (history.Met x left) =
+    ap (entry_heard o past) same_entry ∙ entry_is o past e left ∙ ap (λ y. entry_by y left) is in
     record {
       free = ap (refusal_of_sense o list) is ∙ a.free;
       sends = record {
-        frames_are = a.sends.frames_are ∙ frames_spelled (answers.packets o list (history.Met x left)) ∙ ap (λ y. map frame_spelling (frames_by o list y)) (sym says);
+        frames_are = a.sends.frames_are ∙ frames_spelled (answers.packets o list (history.Met x left))
+            ∙ ap (λ y. map frame_spelling (frames_by o list y)) (sym says);
         issue_is = a.sends.issue_is ∙ sym (ap (issue_of_sense o list) is);
         act_is = a.sends.act_is ∙ sym (ap (act_of_sense o list) is);
         short = a.sends.short;
       };
-      leaves = subst (λ d. LeavesNote d (spelling (words.words_noted o (packets_heard o (answered_entry o past e ∷ past)))) (note old.core.notes) (note new.core.notes)) (sym (ap (due_of_sense o list) is))
-          (subst (λ (l : List history.Entry). LeavesNote (words.due o list x) (spelling (words.words_noted o l)) (note old.core.notes) (note new.core.notes)) (sym (ap (λ y. packets_heard o (y ∷ past)) same_entry ∙ heard_is o past e left (Hears x) is)) a.leaves);
+      leaves = subst (λ d. LeavesNote d (spelling (words.words_noted o (packets_heard o (answered_entry o past e ∷ past)))) (note old.core.notes)
+          (note new.core.notes)) (sym (ap (due_of_sense o list) is))
+          (subst (λ (l : List history.Entry). LeavesNote (words.due o list x) (spelling (words.words_noted o l)) (note old.core.notes) (note new.core.notes))
+          (sym (ap (λ y. packets_heard o (y ∷ past)) same_entry ∙ heard_is o past e left (Hears x) is)) a.leaves);
       stands = subst (λ y. StandsFor note new o (y ∷ past)) (sym same_entry)
-          (heard_stands note o past e x left new is a.stands (λ on. k (on_before (words.is_on list) (is_lost left) (sym (on_is o past e x left is) ∙ on)) ∙ same_rows o past e NoSave left));
+          (heard_stands note o past e x left new is a.stands
+          (λ on. k (on_before (words.is_on list) (is_lost left) (sym (on_is o past e x left is) ∙ on)) ∙ same_rows o past e NoSave left));
     }
 
-heard_faults : {T : Type 0} (note : T → Note) (o : Opening) (past : List FrameEntry) (e : Input) (x : Event) (old new : Server T) (fault : Fault) → sense o past e ≡ Hears x → StandsFor note old o past
-    → (sort : FaultSort) → Faults (whole.steps note o) (packets_heard o past) x sort fault old.core new.core → new.pieces ≡ old.pieces → Faults (steps note o) past e sort fault old new
+heard_faults : {T : Type 0} (note : T → Note) (o : Opening) (past : List FrameEntry) (e : Input) (x : Event) (old new : Server T) (fault : Fault)
+    → sense o past e ≡ Hears x → StandsFor note old o past
+    → (sort : FaultSort) → Faults (whole.steps note o) (packets_heard o past) x sort fault old.core new.core → new.pieces ≡ old.pieces
+    → Faults (steps note o) past e sort fault old new
 heard_faults note o past e x old new fault is w sorts.Memory h k =
     record { why = h.why; same_note = h.same_note; unchanged = record { core = h.unchanged; pieces = λ on. k ∙ w.pieces on } }
 heard_faults note o past e x old new fault is w sorts.Save h k = record {
@@ -87,8 +101,10 @@ heard_faults note o past e x old new fault is w sorts.Save h k = record {
   makes_one = ap (due_of_sense o (packets_heard o past)) is ∙ h.makes_one;
   left = h.left;
   lost = h.lost;
-  bytes_are = subst (λ (l : List history.Entry). (note new.core.notes).bytes ≡ bytes_left h.left (spelling (words.words_noted o l)) (note old.core.notes).bytes) (sym (heard_is o past e h.left (Hears x) is)) h.bytes_are;
-  stands = heard_stands note o past e x h.left new is h.stands (λ on. absurd (off_lost (words.is_on (packets_heard o past)) (is_lost h.left) h.lost (sym (on_is o past e x h.left is) ∙ on)));
+  bytes_are = subst (λ (l : List history.Entry). (note new.core.notes).bytes ≡ bytes_left h.left (spelling (words.words_noted o l)) (note old.core.notes).bytes)
+      (sym (heard_is o past e h.left (Hears x) is)) h.bytes_are;
+  stands = heard_stands note o past e x h.left new is h.stands
+      (λ on. absurd (off_lost (words.is_on (packets_heard o past)) (is_lost h.left) h.lost (sym (on_is o past e x h.left is) ∙ on)));
 }
 heard_faults note o past e x old new fault is w sorts.Refusal h k =
     let why : refusal o past e ≡ Some fault = ap (refusal_of_sense o (packets_heard o past)) is ∙ h.why in
@@ -96,7 +112,8 @@ heard_faults note o past e x old new fault is w sorts.Refusal h k =
     record {
       why = why;
       same_note = h.same_note;
-      stands = heard_stands note o past e x NoSave new is h.stands (λ on. k ∙ w.pieces (on_before (words.is_on (packets_heard o past)) false (sym (on_is o past e x NoSave is) ∙ on)) ∙ sym rows);
+      stands = heard_stands note o past e x NoSave new is h.stands
+          (λ on. k ∙ w.pieces (on_before (words.is_on (packets_heard o past)) false (sym (on_is o past e x NoSave is) ∙ on)) ∙ sym rows);
       unchanged = λ d. record { core = h.unchanged; pieces = λ on. k ∙ w.pieces on };
     }
 
@@ -105,26 +122,32 @@ abbrev pub HeardRows : Opening → List FrameEntry → Input → List Row → Li
 HeardRows o past e old new (Ok outs) = words.is_on (packets_heard o past) ≡ true → new ≡ rows_after o past e NoSave
 HeardRows o past e old new (Err fault) = new ≡ old
 
-pub heard_ends : {T : Type 0} (note : T → Note) (o : Opening) (past : List FrameEntry) (e : Input) (x : Event) (old new : Server T) (result : Result Outs Fault) → sense o past e ≡ Hears x → StandsFor note old o past
-    → Ends (whole.steps note o) (packets_heard o past) x old.core new.core result → HeardRows o past e old.pieces new.pieces result → Ends (steps note o) past e old new result
+pub heard_ends : {T : Type 0} (note : T → Note) (o : Opening) (past : List FrameEntry) (e : Input) (x : Event) (old new : Server T) (result : Result Outs Fault)
+    → sense o past e ≡ Hears x → StandsFor note old o past
+    → Ends (whole.steps note o) (packets_heard o past) x old.core new.core result → HeardRows o past e old.pieces new.pieces result
+    → Ends (steps note o) past e old new result
 heard_ends note o past e x old new (Ok outs) is w h k = heard_answers note o past e x old new outs is h k
 heard_ends note o past e x old new (Err fault) is w h k = heard_faults note o past e x old new fault is w (sort_of fault) h k
 
 -- What leaves pieces as they are is heard so.
-whole_rows : {T : Type 0} (note : T → Note) (o : Opening) (past : List FrameEntry) (e : Input) (old : Server T) (result : Result Outs Fault) → rows_after o past e NoSave ≡ assembly o past → StandsFor note old o past → HeardRows o past e old.pieces old.pieces result
+whole_rows : {T : Type 0} (note : T → Note) (o : Opening) (past : List FrameEntry) (e : Input) (old : Server T) (result : Result Outs Fault)
+    → rows_after o past e NoSave ≡ assembly o past → StandsFor note old o past → HeardRows o past e old.pieces old.pieces result
 whole_rows note o past e old (Ok outs) same w = λ on. w.pieces on ∙ sym same
 whole_rows note o past e old (Err fault) same w = refl
 
-pub whole_ends : {T : Type 0} (note : T → Note) (o : Opening) (past : List FrameEntry) (e : Input) (x : Event) (old : Server T) (core : PacketServer T) (result : Result Outs Fault) → sense o past e ≡ Hears x → rows_after o past e NoSave ≡ assembly o past → StandsFor note old o past
+pub whole_ends : {T : Type 0} (note : T → Note) (o : Opening) (past : List FrameEntry) (e : Input) (x : Event) (old : Server T) (core : PacketServer T)
+    (result : Result Outs Fault) → sense o past e ≡ Hears x → rows_after o past e NoSave ≡ assembly o past → StandsFor note old o past
     → Ends (whole.steps note o) (packets_heard o past) x old.core core result → Ends (steps note o) past e old (record old { core = core }) result
-whole_ends note o past e x old core result is same w h = heard_ends note o past e x old (record old { core = core }) result is w h (whole_rows note o past e old result same w)
+whole_ends note o past e x old core result is same w h =
+    heard_ends note o past e x old (record old { core = core }) result is w h (whole_rows note o past e old result same w)
 
 -- ---- a piece that says nothing
 
 abbrev with_pieces : {T : Type 0} → Server T → List Row → Server T
 with_pieces server rows = record server { pieces = rows }
 
-silent_stands : {T : Type 0} (note : T → Note) (o : Opening) (past : List FrameEntry) (e : Input) (s : Sense) (left : Left) (old : Server T) (rows : List Row) → sense o past e ≡ s → entry_by s left ≡ None
+silent_stands : {T : Type 0} (note : T → Note) (o : Opening) (past : List FrameEntry) (e : Input) (s : Sense) (left : Left) (old : Server T) (rows : List Row)
+    → sense o past e ≡ s → entry_by s left ≡ None
     → StandsFor note old o past → (old.pieces ≡ assembly o past → rows ≡ rows_after o past e left) → StandsFor note (with_pieces old rows) o (Met e left ∷ past)
 silent_stands note o past e s left old rows is none w k =
     let same = heard_is o past e left s is ∙ ap (λ (y : Option history.Entry). with_entry y (packets_heard o past)) none in
@@ -133,7 +156,8 @@ silent_stands note o past e s left old rows is none w k =
       pieces = λ on. k (w.pieces (sym (ap words.is_on same) ∙ on));
     }
 
-pub kept_ends : {T : Type 0} (note : T → Note) (o : Opening) (past : List FrameEntry) (e : Input) (q : PieceParts) (old : Server T) → sense o past e ≡ Keeps q → StandsFor note old o past
+pub kept_ends : {T : Type 0} (note : T → Note) (o : Opening) (past : List FrameEntry) (e : Input) (q : PieceParts) (old : Server T) → sense o past e ≡ Keeps q
+    → StandsFor note old o past
     → Ends (steps note o) past e old (with_pieces old (rows_after_piece old.pieces q)) (Ok (sent_alone []))
 kept_ends note o past e q old is w =
     let list = packets_heard o past in
@@ -146,16 +170,20 @@ kept_ends note o past e q old is w =
         act_is = sym (ap (act_of_sense o list) is);
         short = λ i h. record { few = omega arith; short = All-nil (λ (frame : List ℕ). length frame ≤ MAX_FRAME) };
       };
-      leaves = subst (λ d. LeavesNote d (spelling (words.words_noted o (packets_heard o (answered_entry o past e ∷ past)))) (note old.core.notes) (note old.core.notes)) (sym (ap (due_of_sense o list) is)) refl;
-      stands = silent_stands note o past e (Keeps q) left old (rows_after_piece old.pieces q) is refl w (λ r. ap (λ x. rows_after_piece x q) r ∙ sym (kept_rows o past e q left is));
+      leaves = subst (λ d. LeavesNote d (spelling (words.words_noted o (packets_heard o (answered_entry o past e ∷ past)))) (note old.core.notes)
+          (note old.core.notes)) (sym (ap (due_of_sense o list) is)) refl;
+      stands = silent_stands note o past e (Keeps q) left old (rows_after_piece old.pieces q) is refl w
+          (λ r. ap (λ x. rows_after_piece x q) r ∙ sym (kept_rows o past e q left is));
     }
 
-pub dropped_ends : {T : Type 0} (note : T → Note) (o : Opening) (past : List FrameEntry) (e : Input) (q : PieceParts) (old : Server T) → sense o past e ≡ Drops q → StandsFor note old o past
+pub dropped_ends : {T : Type 0} (note : T → Note) (o : Opening) (past : List FrameEntry) (e : Input) (q : PieceParts) (old : Server T)
+    → sense o past e ≡ Drops q → StandsFor note old o past
     → Ends (steps note o) past e old (with_pieces old (rows_after_piece old.pieces q)) (Err FrameBadField)
 dropped_ends note o past e q old is w = record {
   why = ap (refusal_of_sense o (packets_heard o past)) is;
   same_note = refl;
-  stands = silent_stands note o past e (Drops q) NoSave old (rows_after_piece old.pieces q) is refl w (λ r. ap (λ x. rows_after_piece x q) r ∙ sym (dropped_rows o past e q NoSave is));
+  stands = silent_stands note o past e (Drops q) NoSave old (rows_after_piece old.pieces q) is refl w
+      (λ r. ap (λ x. rows_after_piece x q) r ∙ sym (dropped_rows o past e q NoSave is));
   unchanged = λ d. absurd (no_drop (sym (ap is_drop is) ∙ d));
 }
   where
@@ -165,14 +193,16 @@ dropped_ends note o past e q old is w = record {
 -- ---- a piece that came
 
 -- What a piece is to a server that is on, where it is for that server.
-pub arrives : {T : Type 0} (note : T → Note) (old : Server T) (o : Opening) (past : List FrameEntry) (q : PieceParts) (me : ℕ) → StandsFor note old o past → {up mine : Bool} → up ≡ words.is_on (packets_heard o past) → up ≡ true → me ≡ o.me
+pub arrives : {T : Type 0} (note : T → Note) (old : Server T) (o : Opening) (past : List FrameEntry) (q : PieceParts) (me : ℕ) → StandsFor note old o past
+    → {up mine : Bool} → up ≡ words.is_on (packets_heard o past) → up ≡ true → me ≡ o.me
     → mine ≡ is_piece_for me q → mine ≡ true → (l : Look) → look_at_piece old.pieces q ≡ l → sense o past (Deliver (Piece q)) ≡ sense_of q (said_by l)
 arrives note old o past q me w is_up up same is_mine mine l is =
     let on : words.is_on (packets_heard o past) ≡ true = sym is_up ∙ up in
     piece_sense o past q old.pieces l on (ap (λ n. is_piece_for n q) (sym same) ∙ (sym is_mine ∙ mine)) (w.pieces on) is
 
 -- A piece whose packet was answered is taken.
-pub given_rows : (o : Opening) (past : List FrameEntry) (q : PieceParts) (p : PacketParts) (rows : List Row) → sense o past (Deliver (Piece q)) ≡ Hears (events.Deliver p) → answers.refusal o (packets_heard o past) (events.Deliver p) ≡ None
+pub given_rows : (o : Opening) (past : List FrameEntry) (q : PieceParts) (p : PacketParts) (rows : List Row)
+    → sense o past (Deliver (Piece q)) ≡ Hears (events.Deliver p) → answers.refusal o (packets_heard o past) (events.Deliver p) ≡ None
     → rows ≡ assembly o past → look_at_piece rows q ≡ Gives p → without_tag q.tag rows ≡ rows_after o past (Deliver (Piece q)) NoSave
 given_rows o past q p rows is free same gives =
     sym (given_gone rows q p gives) ∙ ap (λ r. rows_after_piece r q) same
@@ -189,15 +219,21 @@ given_rows o past q p rows is free same gives =
     says_it Strays e = cc
 
 -- The packet that a piece completes is answered, and its tag is dropped; or it is refused, and the tag stays.
-pub given_ends : {T : Type 0} (note : T → Note) (old : Server T) (core : PacketServer T) (o : Opening) (past : List FrameEntry) (q : PieceParts) (p : PacketParts) (result : Result Outs Fault) → StandsFor note old o past
-    → sense o past (Deliver (Piece q)) ≡ Hears (events.Deliver p) → look_at_piece old.pieces q ≡ Gives p → Ends (whole.steps note o) (packets_heard o past) (events.Deliver p) old.core core result → is_ok result ≡ true
+pub given_ends : {T : Type 0} (note : T → Note) (old : Server T) (core : PacketServer T) (o : Opening) (past : List FrameEntry) (q : PieceParts)
+    (p : PacketParts) (result : Result Outs Fault) → StandsFor note old o past
+    → sense o past (Deliver (Piece q)) ≡ Hears (events.Deliver p) → look_at_piece old.pieces q ≡ Gives p
+    → Ends (whole.steps note o) (packets_heard o past) (events.Deliver p) old.core core result → is_ok result ≡ true
     → Ends (steps note o) past (Deliver (Piece q)) old (record { alloc = old.alloc; core = core; pieces = without_tag q.tag old.pieces }) result
 given_ends note old core o past q p (Ok outs) w is gives h ok =
-    heard_ends note o past (Deliver (Piece q)) (events.Deliver p) old (record { alloc = old.alloc; core = core; pieces = without_tag q.tag old.pieces }) (Ok outs) is w h (λ up. given_rows o past q p old.pieces is h.free (w.pieces up) gives)
+    heard_ends note o past (Deliver (Piece q)) (events.Deliver p) old (record { alloc = old.alloc; core = core; pieces = without_tag q.tag old.pieces })
+    (Ok outs) is w h (λ up. given_rows o past q p old.pieces is h.free (w.pieces up) gives)
 given_ends note old core o past q p (Err fault) w is gives h ok = absurd cc
 
-pub refused_ends : {T : Type 0} (note : T → Note) (old : Server T) (core : PacketServer T) (o : Opening) (past : List FrameEntry) (q : PieceParts) (p : PacketParts) (result : Result Outs Fault) → StandsFor note old o past
-    → sense o past (Deliver (Piece q)) ≡ Hears (events.Deliver p) → Ends (whole.steps note o) (packets_heard o past) (events.Deliver p) old.core core result → is_ok result ≡ false
+pub refused_ends : {T : Type 0} (note : T → Note) (old : Server T) (core : PacketServer T) (o : Opening) (past : List FrameEntry) (q : PieceParts)
+    (p : PacketParts) (result : Result Outs Fault) → StandsFor note old o past
+    → sense o past (Deliver (Piece q)) ≡ Hears (events.Deliver p) → Ends (whole.steps note o) (packets_heard o past) (events.Deliver p) old.core core result
+    → is_ok result ≡ false
     → Ends (steps note o) past (Deliver (Piece q)) old (record old { core = core }) result
 refused_ends note old core o past q p (Ok outs) w is h ok = absurd cc
-refused_ends note old core o past q p (Err fault) w is h ok = heard_ends note o past (Deliver (Piece q)) (events.Deliver p) old (record old { core = core }) (Err fault) is w h refl
+refused_ends note old core o past q p (Err fault) w is h ok =
+    heard_ends note o past (Deliver (Piece q)) (events.Deliver p) old (record old { core = core }) (Err fault) is w h refl

@@ -1,5 +1,6 @@
 -- What the packets of a server say of the states that were taken.
-use Rattle.std.proofs.Common.{◌≡◌, refl, sym, ◌∙◌, ap, subst, inl, inr, ℕ, suc, ◌+◌, arith, Bool, true, false, ◌==◌, List, [], ◌∷◌, ◌++◌, length, Option, None, Some}
+use Rattle.std.proofs.Common.{◌≡◌, refl, sym, ◌∙◌, ap, subst, inl, inr, ℕ, suc, ◌+◌, arith, Bool}
+use Rattle.std.proofs.Common.{true, false, ◌==◌, List, [], ◌∷◌, ◌++◌, length, Option, None, Some}
 use Rattle.std.specs.Prelude.{is_some, if◌then◌else◌, nat_lt, nat_le, slice_get, Result, Ok, Err, Contains, ◌||◌}
 use Rattle.std.specs.Option.{option_or}
 use Rattle.std.proofs.lemmas.Bool.{eqb-true}
@@ -22,13 +23,16 @@ use Rattle.disk_model.specs.declared.left.Left.TheVariants.{NoSave, Saved, LostN
 use Rattle.disk_model.specs.Left.{is_lost}
 use Rattle.server_core.specs.declared.event.Event.{Event}
 use Rattle.server_core.specs.History.{Opening, Entry, Met, Cut, Restart}
-use Rattle.server_core.specs.Request.{Request, ToStage, ToStart, ToTrigger, ToMark, ToStop, ToVerify, ToHold, ToPassFully, ToIssue, ToEnd, ToReport, ToNobody, request_of}
+use Rattle.server_core.specs.Request.{Request, ToStage, ToStart, ToTrigger, ToMark, ToStop, ToVerify}
+use Rattle.server_core.specs.Request.{ToHold, ToPassFully, ToIssue, ToEnd, ToReport, ToNobody, request_of}
 use Rattle.server_core.specs.Texts.{jobs_for}
 use Rattle.server_core.specs.Run.{Work, Halt, Triggered, Stopped, halt_by, halt_of, origin_of, goes_on, is_open, is_unended}
 use Rattle.server_core.specs.Words.{Staged, for_run, is_on, boot, last_run, work, staged_run, due, work_after}
 use Rattle.server_core.specs.Taken.{job_state, state_of_job, taken_by_halt, and_those, takings}
 use Rattle.server_core.specs.Check.{Check, Progress, Wanting, Full, With, Refused, Done, progress_after, progress_by}
-use Rattle.server_core.specs.Replies.{Now, number_staged, reply_to_text, reply_to_new_jobs, present, reply_to_new_start, reply_to_start, gone_or_unknown, state_frames, reply_to_halt, reply_to_trigger, reply_to_stop, progress_frame, check_frames_from, reply_to_check_text, reply_to_new_check, reply_to_attempt, misfit_frame, reply_to_state_for, reply_to_state, reply_to_report, replies}
+use Rattle.server_core.specs.Replies.{Now, number_staged, reply_to_text, reply_to_new_jobs, present, reply_to_new_start, reply_to_start, gone_or_unknown}
+use Rattle.server_core.specs.Replies.{state_frames, reply_to_halt, reply_to_trigger, reply_to_stop, progress_frame, check_frames_from, reply_to_check_text}
+use Rattle.server_core.specs.Replies.{reply_to_new_check, reply_to_attempt, misfit_frame, reply_to_state_for, reply_to_state, reply_to_report, replies}
 use Rattle.server_core.specs.Answers.{now, refusal, to_client, sent_by, packets}
 use Rattle.server_core.specs.Laws.{IsTheTaken, HasJobs, IsUntaken}
 use Rattle.server_core.proofs.Takings.{Known, known}
@@ -137,13 +141,15 @@ one_frame : (w : Work) (before : List Request) (j : ℕ) (job : Job) (b : Bool) 
 one_frame w before j job true e h = (refl, (j, rw (h, e) refl))
 one_frame w before j job false e h = (refl, refl, rw (h, e) refl)
 
-frames_of : (w : Work) (before : List Request) (j : ℕ) (jobs : List Job) → ((i : ℕ) (job : Job) → slice_get jobs i ≡ Some job → slice_get w.jobs (j + i) ≡ Some job)
+frames_of : (w : Work) (before : List Request) (j : ℕ) (jobs : List Job)
+    → ((i : ℕ) (job : Job) → slice_get jobs i ≡ Some job → slice_get w.jobs (j + i) ≡ Some job)
     → Each (IsFrameOf w before) (state_frames w before j jobs)
 frames_of w before j [] f = tt
 frames_of w before j (job ∷ jobs) f =
     let zero_more : j + 0 ≡ j = omega arith in (
       one_frame w before j job job.save refl (subst (λ n. slice_get w.jobs n ≡ Some job) zero_more (f 0 job refl)),
-      frames_of w before (j + 1) jobs (λ i k h. let moved : j + suc i ≡ j + 1 + i = omega arith in subst (λ n. slice_get w.jobs n ≡ Some k) moved (f (suc i) k h)),
+      frames_of w before (j + 1) jobs (λ i k h. let moved : j + suc i ≡ j + 1 + i = omega arith in
+          subst (λ n. slice_get w.jobs n ≡ Some k) moved (f (suc i) k h)),
     )
 
 all_frames : (w : Work) (before : List Request) → Each (IsFrameOf w before) (state_frames w before 0 w.jobs)
@@ -167,7 +173,8 @@ by_halt w act before _ h = tt
 halt_frames : (w : Work) (last : ℕ) (halt : Option Halt) (new : Option Halt)
     → ((b : Body) → Of (IsFrameOf w w.since) b → Of (IsFrameBy w new) b) → Each (IsFrameBy w (option_or halt new)) (reply_to_halt w last halt)
 halt_frames w last None new f = each_weaker (IsFrameOf w w.since) (IsFrameBy w new) (state_frames w w.since 0 w.jobs) f (all_frames w w.since)
-halt_frames w last (Some (Triggered act before)) new f = each_weaker (IsFrameOf w before) (IsFrameBy w (Some (Triggered act before))) (state_frames w before 0 w.jobs) (by_halt w act before) (all_frames w before)
+halt_frames w last (Some (Triggered act before)) new f =
+    each_weaker (IsFrameOf w before) (IsFrameBy w (Some (Triggered act before))) (state_frames w before 0 w.jobs) (by_halt w act before) (all_frames w before)
 halt_frames w last (Some Stopped) new f = (tt, tt)
 
 new_halt : (w : Work) (r : ℕ) (act : Act) (b : Body) → w.run ≡ r → Of (IsFrameOf w w.since) b → Of (IsFrameBy w (halt_by w.run (ToTrigger r act) w.since)) b
@@ -192,13 +199,15 @@ trigger_of n r act None = gone_frames (IsSent (ToTrigger r act) None) asks.Trigg
 trigger_of n r act (Some w) = trigger_frames n r act w (w.run == r) (eqb-true w.run r)
 
 reply_frames : (n : Now) (x : Request) → Each (IsSent x n.run) (replies n x)
-reply_frames n (ToStage r text) = each_if (IsSent (ToStage r text) n.run) (nat_le r n.last || nat_lt r (number_staged n.staged)) _ _ (tt, tt) (new_jobs (IsSent (ToStage r text) n.run) r (for_run r n.staged) (is_open n.run) (jobs_for Write text))
+reply_frames n (ToStage r text) = each_if (IsSent (ToStage r text) n.run) (nat_le r n.last || nat_lt r (number_staged n.staged)) _ _ (tt, tt)
+    (new_jobs (IsSent (ToStage r text) n.run) r (for_run r n.staged) (is_open n.run) (jobs_for Write text))
 reply_frames n (ToStart r) = start_frames (IsSent (ToStart r) n.run) n r (present r n.run)
 reply_frames n (ToTrigger r act) = trigger_of n r act n.run
 reply_frames n (ToMark r j) = tt
 reply_frames n (ToStop r) = stop_frames (IsSent (ToStop r) n.run) n r (present r n.run)
 reply_frames n (ToVerify r a text) =
-    each_if (IsSent (ToVerify r a text) n.run) (nat_lt n.last r) _ _ (tt, tt) (each_if (IsSent (ToVerify r a text) n.run) (nat_lt r n.last) _ _ (tt, tt) (attempt_frames (IsSent (ToVerify r a text) n.run) n r a text n.check))
+    each_if (IsSent (ToVerify r a text) n.run) (nat_lt n.last r) _ _ (tt, tt)
+    (each_if (IsSent (ToVerify r a text) n.run) (nat_lt r n.last) _ _ (tt, tt) (attempt_frames (IsSent (ToVerify r a text) n.run) n r a text n.check))
 reply_frames n (ToHold a state) = hold_frames (IsSent (ToHold a state) n.run) a state n.check
 reply_frames n (ToPassFully a j) = tt
 reply_frames n (ToIssue j) = tt
@@ -219,7 +228,8 @@ sent_frames P true None bs h = tt
 sent_frames P false None bs h = h refl
 sent_frames P lost (Some f) bs h = tt
 
-unsent : (left : Left) (d : Option Staged) (me now_boot : ℕ) (x : Request) (w : Option Work) → is_lost left ≡ false → (left ≡ Saved → d ≡ None) → goes_on x w ≡ work_after left d me now_boot x w
+unsent : (left : Left) (d : Option Staged) (me now_boot : ℕ) (x : Request) (w : Option Work) → is_lost left ≡ false → (left ≡ Saved → d ≡ None)
+    → goes_on x w ≡ work_after left d me now_boot x w
 unsent NoSave d me now_boot x w h f = refl
 unsent Saved None me now_boot x w h f = refl
 unsent Saved (Some t) me now_boot x w h f = let none = f refl in cc
@@ -229,7 +239,8 @@ unsent LostOld d me now_boot x w h f = cc
 entry_frames : (o : Opening) (past : List Entry) (e : Event) (left : Left) (d : Option Staged) → due o past e ≡ d → is_lost left ≡ false
     → Each (IsSaid (work o (Met e left ∷ past))) (replies (now o past) (request_of o.me e))
 entry_frames o past e left None is h =
-    subst (λ v. Each (IsSaid v) (replies (now o past) (request_of o.me e))) (unsent left (due o past e) o.me (boot o past) (request_of o.me e) (work o past) h (λ v. is))
+    subst (λ v. Each (IsSaid v) (replies (now o past) (request_of o.me e)))
+    (unsent left (due o past e) o.me (boot o past) (request_of o.me e) (work o past) h (λ v. is))
     (reply_frames (now o past) (request_of o.me e))
 entry_frames o past e left (Some t) is h =
     let i = due_start (is_on past) (last_run o past) (staged_run o past) (work o past) (request_of o.me e) t is in
@@ -239,7 +250,8 @@ entry_frames o past e left (Some t) is h =
 said : (o : Opening) (past : List Entry) (e : Entry) (p : PacketParts) → Contains (packets o past e) p → Of (IsSaid (work o (e ∷ past))) p.body
 said o past (Met e left) p h =
     found (IsSaid (work o (Met e left ∷ past))) o.me (sent_by (is_lost left) (refusal o past e) (replies (now o past) (request_of o.me e))) p
-    (sent_frames (IsSaid (work o (Met e left ∷ past))) (is_lost left) (refusal o past e) (replies (now o past) (request_of o.me e)) (entry_frames o past e left (due o past e) refl)) h
+    (sent_frames (IsSaid (work o (Met e left ∷ past))) (is_lost left) (refusal o past e) (replies (now o past) (request_of o.me e))
+    (entry_frames o past e left (due o past e) refl)) h
 said o past Cut p h = absurd (none_in p h)
 said o past (Restart left) p h = absurd (none_in p h)
 
@@ -251,18 +263,22 @@ state_at o list (Some w) jobs s is h = (
   (h.1.0, holds_the_taken o list h.1.0 s (rw is h.1.1)),
 )
 
-state_said : (o : Opening) (past : List Entry) (e : Entry) (p : PacketParts) (jobs : ℕ) (s : SavedState) → Contains (packets o past e) p → p.body ≡ bodies.State jobs s
+state_said : (o : Opening) (past : List Entry) (e : Entry) (p : PacketParts) (jobs : ℕ) (s : SavedState) → Contains (packets o past e) p
+    → p.body ≡ bodies.State jobs s
     → HasJobs o (e ∷ past) jobs × ((j : ℕ) × IsTheTaken o (e ∷ past) j s)
 state_said o past e p jobs s h b =
     state_at o (e ∷ past) (work o (e ∷ past)) jobs s refl (subst (λ v. Of (IsSaid (work o (e ∷ past))) v) b (said o past e p h))
 
-pub state_tells_jobs : (o : Opening) (past : List Entry) (e : Entry) (p : PacketParts) (jobs : ℕ) (s : SavedState) → Contains (packets o past e) p → p.body ≡ bodies.State jobs s → HasJobs o (e ∷ past) jobs
+pub state_tells_jobs : (o : Opening) (past : List Entry) (e : Entry) (p : PacketParts) (jobs : ℕ) (s : SavedState) → Contains (packets o past e) p
+    → p.body ≡ bodies.State jobs s → HasJobs o (e ∷ past) jobs
 state_tells_jobs o past e p jobs s h b = (state_said o past e p jobs s h b).0
 
-pub sends_the_taken : (o : Opening) (past : List Entry) (e : Entry) (p : PacketParts) (jobs : ℕ) (s : SavedState) → Contains (packets o past e) p → p.body ≡ bodies.State jobs s → (j : ℕ) × IsTheTaken o (e ∷ past) j s
+pub sends_the_taken : (o : Opening) (past : List Entry) (e : Entry) (p : PacketParts) (jobs : ℕ) (s : SavedState) → Contains (packets o past e) p
+    → p.body ≡ bodies.State jobs s → (j : ℕ) × IsTheTaken o (e ∷ past) j s
 sends_the_taken o past e p jobs s h b = (state_said o past e p jobs s h b).1
 
-empty : (run j last : ℕ) (states : List SavedState) (w : Work) → Known run j last states (Some w) → run ≡ w.run → taken_by_halt w j (halt_of w.run w.since) ≡ None → states ≡ []
+empty : (run j last : ℕ) (states : List SavedState) (w : Work) → Known run j last states (Some w) → run ≡ w.run
+    → taken_by_halt w j (halt_of w.run w.since) ≡ None → states ≡ []
 empty run j last states w k e h = stands_by run j last states w k (sym e) ∙ ap (λ now. and_those now []) h
 
 none_at : (o : Opening) (list : List Entry) (x : Option Work) (r j jobs : ℕ) → work o list ≡ x → IsSaid x (bodies.NoState r j jobs) → IsUntaken o list r j jobs
@@ -276,6 +292,7 @@ none_at o list (Some w) r j jobs is h = record {
   none = empty r j (last_run o list) (takings o r j list) w (subst (λ v. Known r j (last_run o list) (takings o r j list) v) is (known o r j list)) h.0 h.2;
 }
 
-pub no_state_is_untaken : (o : Opening) (past : List Entry) (e : Entry) (p : PacketParts) (r j jobs : ℕ) → Contains (packets o past e) p → p.body ≡ bodies.NoState r j jobs → IsUntaken o (e ∷ past) r j jobs
+pub no_state_is_untaken : (o : Opening) (past : List Entry) (e : Entry) (p : PacketParts) (r j jobs : ℕ) → Contains (packets o past e) p
+    → p.body ≡ bodies.NoState r j jobs → IsUntaken o (e ∷ past) r j jobs
 no_state_is_untaken o past e p r j jobs h b =
     none_at o (e ∷ past) (work o (e ∷ past)) r j jobs refl (subst (λ v. Of (IsSaid (work o (e ∷ past))) v) b (said o past e p h))

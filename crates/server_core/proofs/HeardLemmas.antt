@@ -20,7 +20,8 @@ use Rattle.server_core.specs.declared.event.Event.{Event}
 use Rattle.server_core.specs.declared.event.Event.TheVariants.{Deliver, Issue, WriteDone, CheckDone}
 use Rattle.server_core.specs.History.{Opening, Entry, Met, Cut, Restart}
 use Rattle.messages.specs.Nodes.{is_client, is_server}
-use Rattle.server_core.specs.Request.{Request, ToStage, ToStart, ToTrigger, ToMark, ToStop, ToVerify, ToHold, ToPassFully, ToIssue, ToEnd, ToReport, ToNobody, request_in, request_of}
+use Rattle.server_core.specs.Request.{Request, ToStage, ToStart, ToTrigger, ToMark, ToStop, ToVerify, ToHold}
+use Rattle.server_core.specs.Request.{ToPassFully, ToIssue, ToEnd, ToReport, ToNobody, request_in, request_of}
 use Rattle.server_core.specs.Texts.{jobs_for}
 use Rattle.server_core.specs.Run.{Work, goes_on, is_open, is_unended}
 use Rattle.server_core.specs.Words.{Staged, is_on, boot, last_run, work, work_after, due}
@@ -46,18 +47,22 @@ to_server me (nodes.Server s) h = ap nodes.Server (eqb-true s me h)
 to_server me nodes.Client h = cc
 to_server me nodes.Mirror h = cc
 
-same_packet : (f g t u : Node) (b c : Body) → f ≡ g → t ≡ u → b ≡ c → ◌≡◌ {A = PacketParts} (record { from = f; to = t; body = b }) (record { from = g; to = u; body = c })
+same_packet : (f g t u : Node) (b c : Body) → f ≡ g → t ≡ u → b ≡ c
+    → ◌≡◌ {A = PacketParts} (record { from = f; to = t; body = b }) (record { from = g; to = u; body = c })
 same_packet f g t u b c x y z = cc
 
-here : (me : ℕ) (p : PacketParts) (older : List PacketParts) (b : Body) → p.from ≡ nodes.Client → p.to ≡ nodes.Server me → p.body ≡ b → Contains (p ∷ older) (record { from = nodes.Client; to = nodes.Server me; body = b })
+here : (me : ℕ) (p : PacketParts) (older : List PacketParts) (b : Body) → p.from ≡ nodes.Client → p.to ≡ nodes.Server me → p.body ≡ b
+    → Contains (p ∷ older) (record { from = nodes.Client; to = nodes.Server me; body = b })
 here me p older b f t e = subst (λ q. Contains (p ∷ older) q) (same_packet p.from nodes.Client p.to (nodes.Server me) p.body b f t e) (first_of p older)
 
-body_said : (me : ℕ) (p : PacketParts) (older : List PacketParts) (b : Body) → p.from ≡ nodes.Client → p.to ≡ nodes.Server me → p.body ≡ b → IsSaid me (p ∷ older) (request_in b)
+body_said : (me : ℕ) (p : PacketParts) (older : List PacketParts) (b : Body) → p.from ≡ nodes.Client → p.to ≡ nodes.Server me → p.body ≡ b
+    → IsSaid me (p ∷ older) (request_in b)
 body_said me p older (bodies.Saved a s) from_is to_is e = here me p older (bodies.Saved a s) from_is to_is e
 body_said me p older (bodies.StateAck r j) from_is to_is e = here me p older (bodies.StateAck r j) from_is to_is e
 body_said me p older _ from_is to_is e = tt
 
-packet_said : (me : ℕ) (p : PacketParts) (older : List PacketParts) (t : Bool) → (is_client p.from && is_server me p.to) ≡ t → IsSaid me (p ∷ older) (if t then request_in p.body else ToNobody)
+packet_said : (me : ℕ) (p : PacketParts) (older : List PacketParts) (t : Bool) → (is_client p.from && is_server me p.to) ≡ t
+    → IsSaid me (p ∷ older) (if t then request_in p.body else ToNobody)
 packet_said me p older true e =
     let ends = and_parts (is_client p.from) (is_server me p.to) e in
     body_said me p older p.body (from_client p.from ends.0) (to_server me p.to ends.1) refl
@@ -93,7 +98,8 @@ said_before me e older ToNobody h = tt
 abbrev pub Heard : ℕ → List PacketParts → List Request → Type 0
 Heard me older since = (x : Request) → Contains since x → IsSaid me older x
 
-pub one_heard : (me : ℕ) (e : Event) (older : List PacketParts) (since : List Request) → Heard me older since → Heard me (heard_with e older) (request_of me e ∷ since)
+pub one_heard : (me : ℕ) (e : Event) (older : List PacketParts) (since : List Request) → Heard me older since
+    → Heard me (heard_with e older) (request_of me e ∷ since)
 one_heard me e older since f = λ x h.
     elim (Contains-append_cases (request_of me e ∷ []) since x h) [
       | inl i ↦ subst (λ y. IsSaid me (heard_with e older) y) (only_in (request_of me e) x i) (event_said me e older)
@@ -109,11 +115,13 @@ abbrev pub WorkHeard : ℕ → List PacketParts → Option Work → Type 0
 WorkHeard me older None = Unit {0}
 WorkHeard me older (Some w) = Heard me older w.since
 
-work_on : (me : ℕ) (e : Event) (older : List PacketParts) (w : Option Work) → WorkHeard me older w → WorkHeard me (heard_with e older) (goes_on (request_of me e) w)
+work_on : (me : ℕ) (e : Event) (older : List PacketParts) (w : Option Work) → WorkHeard me older w
+    → WorkHeard me (heard_with e older) (goes_on (request_of me e) w)
 work_on me e older None h = tt
 work_on me e older (Some w) h = one_heard me e older w.since h
 
-work_after_heard : (me b : ℕ) (e : Event) (older : List PacketParts) (left : Left) (d : Option Staged) (w : Option Work) → WorkHeard me older w → WorkHeard me (heard_with e older) (work_after left d me b (request_of me e) w)
+work_after_heard : (me b : ℕ) (e : Event) (older : List PacketParts) (left : Left) (d : Option Staged) (w : Option Work) → WorkHeard me older w
+    → WorkHeard me (heard_with e older) (work_after left d me b (request_of me e) w)
 work_after_heard me b e older NoSave d w h = work_on me e older w h
 work_after_heard me b e older Saved None w h = work_on me e older w h
 work_after_heard me b e older Saved (Some s) w h = none_heard me (heard_with e older) [] refl
@@ -143,7 +151,8 @@ fresh_if false c h = tt
 
 opens_fresh : (on : Bool) (me b last : ℕ) (w : Option Work) (old : Option Check) (x : Request) → Fresh (opens on me b last w old x)
 opens_fresh on me b last w old (ToVerify r a text) =
-    fresh_if (on && ((r == last) && (is_above a old && (not (is_open w) && not (is_unended w))))) (new_check me b r a (jobs_for Read text)) (opened_fresh me b r a (jobs_for Read text))
+    fresh_if (on && ((r == last) && (is_above a old && (not (is_open w) && not (is_unended w))))) (new_check me b r a (jobs_for Read text))
+    (opened_fresh me b r a (jobs_for Read text))
 opens_fresh on me b last w old (ToStage r text) = tt
 opens_fresh on me b last w old (ToStart r) = tt
 opens_fresh on me b last w old (ToTrigger r act) = tt
@@ -160,12 +169,14 @@ abbrev CheckHeard : ℕ → List PacketParts → Option Check → Type 0
 CheckHeard me older None = Unit {0}
 CheckHeard me older (Some c) = Heard me older c.since
 
-check_on : (me : ℕ) (e : Event) (older : List PacketParts) (new old : Option Check) → Fresh new → CheckHeard me older old → CheckHeard me (heard_with e older) (or_opened new (check_goes_on (request_of me e) old))
+check_on : (me : ℕ) (e : Event) (older : List PacketParts) (new old : Option Check) → Fresh new → CheckHeard me older old
+    → CheckHeard me (heard_with e older) (or_opened new (check_goes_on (request_of me e) old))
 check_on me e older (Some c) old f h = none_heard me (heard_with e older) c.since f
 check_on me e older None None f h = tt
 check_on me e older None (Some c) f h = one_heard me e older c.since h
 
-check_after_heard : (me : ℕ) (e : Event) (older : List PacketParts) (left : Left) (d : Option Staged) (new old : Option Check) → Fresh new → CheckHeard me older old → CheckHeard me (heard_with e older) (check_after left d new (request_of me e) old)
+check_after_heard : (me : ℕ) (e : Event) (older : List PacketParts) (left : Left) (d : Option Staged) (new old : Option Check) → Fresh new
+    → CheckHeard me older old → CheckHeard me (heard_with e older) (check_after left d new (request_of me e) old)
 check_after_heard me e older NoSave d new old f h = check_on me e older new old f h
 check_after_heard me e older Saved None new old f h = check_on me e older new old f h
 check_after_heard me e older Saved (Some s) new old f h = tt
@@ -175,12 +186,14 @@ check_after_heard me e older LostOld d new old f h = tt
 check_heard : (o : Opening) (past : List Entry) → CheckHeard o.me (heard_packets past) (check o past)
 check_heard o [] = tt
 check_heard o (Met e left ∷ past) =
-    check_after_heard o.me e (heard_packets past) left (due o past e) (opens (is_on past) o.me (boot o past) (last_run o past) (work o past) (check o past) (request_of o.me e)) (check o past)
+    check_after_heard o.me e (heard_packets past) left (due o past e)
+    (opens (is_on past) o.me (boot o past) (last_run o past) (work o past) (check o past) (request_of o.me e)) (check o past)
     (opens_fresh (is_on past) o.me (boot o past) (last_run o past) (work o past) (check o past) (request_of o.me e)) (check_heard o past)
 check_heard o (Cut ∷ past) = tt
 check_heard o (Restart left ∷ past) = tt
 
-job_found : (o : Opening) (past : List Entry) (j : ℕ) (c : Check) (job : Job) → check o past ≡ Some c → slice_get c.jobs j ≡ Some job → check_job o past j ≡ Some job
+job_found : (o : Opening) (past : List Entry) (j : ℕ) (c : Check) (job : Job) → check o past ≡ Some c → slice_get c.jobs j ≡ Some job
+    → check_job o past j ≡ Some job
 job_found o past j c job is h = ap (λ x. job_of_check x j) is ∙ h
 
 fits_own : (s : State) (key : Key) (job : JobParts) → misfit s key job ≡ None → misfit s s.key job ≡ None

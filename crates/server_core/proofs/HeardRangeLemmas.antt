@@ -15,6 +15,7 @@ by_sort sorts.Memory s h = tt
 by_sort sorts.Save s h = h
 by_sort sorts.Refusal s h = h
 
-pub hears_in_range : {X : Type 0} (o : Opening) (past : List FrameEntry) (e : Input) (s : Sense) (result : Result X Fault) → sense o past e ≡ s → SenseInRange s → HearsInRange o past e result
+pub hears_in_range : {X : Type 0} (o : Opening) (past : List FrameEntry) (e : Input) (s : Sense) (result : Result X Fault) → sense o past e ≡ s → SenseInRange s
+    → HearsInRange o past e result
 hears_in_range o past e s (Ok x) is h = subst SenseInRange (sym is) h
 hears_in_range o past e s (Err fault) is h = by_sort (sort_of fault) (sense o past e) (subst SenseInRange (sym is) h)

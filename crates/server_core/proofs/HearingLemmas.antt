@@ -47,7 +47,8 @@ entry_is o past (WriteDone ticket end) left = refl
 entry_is o past (CheckDone boot a j report) left = refl
 
 -- The packets that are heard behind an input.
-pub heard_is : (o : Opening) (past : List FrameEntry) (e : Input) (left : Left) (s : Sense) → sense o past e ≡ s → packets_heard o (Met e left ∷ past) ≡ with_entry (entry_by s left) (packets_heard o past)
+pub heard_is : (o : Opening) (past : List FrameEntry) (e : Input) (left : Left) (s : Sense) → sense o past e ≡ s
+    → packets_heard o (Met e left ∷ past) ≡ with_entry (entry_by s left) (packets_heard o past)
 heard_is o past e left s is = ap (λ (y : Option history.Entry). with_entry y (packets_heard o past)) (entry_is o past e left ∙ ap (λ y. entry_by y left) is)
 
 -- What a piece that says nothing leaves together.
@@ -57,7 +58,8 @@ IsTaken old new (Keeps q) = new ≡ rows_after_piece old q
 IsTaken old new (Drops q) = new ≡ rows_after_piece old q
 IsTaken old new Misses = new ≡ old
 
-piece_taken : (o : Opening) (past : List FrameEntry) (q : PieceParts) (m : Meaning) → IsTaken (assembly o past) (rows_by (rules o) (heard_at o past) q m) (sense_of q m)
+piece_taken : (o : Opening) (past : List FrameEntry) (q : PieceParts) (m : Meaning)
+    → IsTaken (assembly o past) (rows_by (rules o) (heard_at o past) q m) (sense_of q m)
 piece_taken o past q (Says p) = tt
 piece_taken o past q Waits = refl
 piece_taken o past q Spoils = refl
@@ -70,10 +72,12 @@ taken_is o past (Issue j) left = tt
 taken_is o past (WriteDone ticket end) left = tt
 taken_is o past (CheckDone boot a j report) left = tt
 
-pub kept_rows : (o : Opening) (past : List FrameEntry) (e : Input) (q : PieceParts) (left : Left) → sense o past e ≡ Keeps q → rows_after o past e left ≡ rows_after_piece (assembly o past) q
+pub kept_rows : (o : Opening) (past : List FrameEntry) (e : Input) (q : PieceParts) (left : Left) → sense o past e ≡ Keeps q
+    → rows_after o past e left ≡ rows_after_piece (assembly o past) q
 kept_rows o past e q left is = subst (IsTaken (assembly o past) (rows_after o past e left)) is (taken_is o past e left)
 
-pub dropped_rows : (o : Opening) (past : List FrameEntry) (e : Input) (q : PieceParts) (left : Left) → sense o past e ≡ Drops q → rows_after o past e left ≡ rows_after_piece (assembly o past) q
+pub dropped_rows : (o : Opening) (past : List FrameEntry) (e : Input) (q : PieceParts) (left : Left) → sense o past e ≡ Drops q
+    → rows_after o past e left ≡ rows_after_piece (assembly o past) q
 dropped_rows o past e q left is = subst (IsTaken (assembly o past) (rows_after o past e left)) is (taken_is o past e left)
 
 -- The save doesn't matter for what has come together.
@@ -85,14 +89,16 @@ same_rows o past (WriteDone ticket end) one other = refl
 same_rows o past (CheckDone boot a j report) one other = refl
 
 -- A refused input that drops no tag leaves what has come together.
-piece_rows : (o : Opening) (past : List FrameEntry) (q : PieceParts) (m : Meaning) (fault : Fault) → refusal_of_sense o (packets_heard o past) (sense_of q m) ≡ Some fault → is_drop (sense_of q m) ≡ false
+piece_rows : (o : Opening) (past : List FrameEntry) (q : PieceParts) (m : Meaning) (fault : Fault)
+    → refusal_of_sense o (packets_heard o past) (sense_of q m) ≡ Some fault → is_drop (sense_of q m) ≡ false
     → rows_by (rules o) (heard_at o past) q m ≡ assembly o past
 piece_rows o past q (Says p) fault h d = refused_piece (assembly o past) q (answers.refusal o (packets_heard o past) (events.Deliver p)) fault h
 piece_rows o past q Waits fault h d = absurd cc
 piece_rows o past q Spoils fault h d = absurd cc
 piece_rows o past q Strays fault h d = refl
 
-pub refused_rows : (o : Opening) (past : List FrameEntry) (e : Input) (left : Left) (fault : Fault) → refusal_of_sense o (packets_heard o past) (sense o past e) ≡ Some fault → is_drop (sense o past e) ≡ false → rows_after o past e left ≡ assembly o past
+pub refused_rows : (o : Opening) (past : List FrameEntry) (e : Input) (left : Left) (fault : Fault)
+    → refusal_of_sense o (packets_heard o past) (sense o past e) ≡ Some fault → is_drop (sense o past e) ≡ false → rows_after o past e left ≡ assembly o past
 refused_rows o past (Deliver (Whole p)) left fault h d = refl
 refused_rows o past (Deliver (Piece q)) left fault h d = piece_rows o past q (meaning (rules o) (heard_at o past) (Piece q)) fault h d
 refused_rows o past (Issue j) left fault h d = refl
@@ -101,7 +107,8 @@ refused_rows o past (CheckDone boot a j report) left fault h d = refl
 
 -- ---- a piece that is for a server that is on
 
-pub piece_sense : (o : Opening) (past : List FrameEntry) (q : PieceParts) (rows : List Row) (l : Look) → is_on (packets_heard o past) ≡ true → is_piece_for o.me q ≡ true → rows ≡ assembly o past → look_at_piece rows q ≡ l
+pub piece_sense : (o : Opening) (past : List FrameEntry) (q : PieceParts) (rows : List Row) (l : Look) → is_on (packets_heard o past) ≡ true
+    → is_piece_for o.me q ≡ true → rows ≡ assembly o past → look_at_piece rows q ≡ l
     → sense o past (Deliver (Piece q)) ≡ sense_of q (said_by l)
 piece_sense o past q rows l on mine same is =
     ap (λ (b : Bool). sense_of q (if b && is_piece_for o.me q then said_by (look_at_piece (assembly o past) q) else Strays)) on

@@ -56,13 +56,20 @@ marks_stay : (w : Work) (x : Request) (j : ℕ) → marks_by (halt_of w.run w.si
 marks_stay w x j e = ap (λ ms. has (ms ++ marks w.run w.since) j) e
 
 pub elsewhere : (kept : Kept) (w : Work) (x : Request) → RunIs kept w → IsElsewhere x → RunIs kept (and_then w x)
-elsewhere kept w (ToStage r text) h e = idle kept w (ToStage r text) h (or_none (halt_of w.run w.since)) (λ j job is. refl) (λ j job is. marks_stay w (ToStage r text) j (not_marked (halt_of w.run w.since) w.run (ToStage r text) tt))
-elsewhere kept w (ToStart r) h e = idle kept w (ToStart r) h (or_none (halt_of w.run w.since)) (λ j job is. refl) (λ j job is. marks_stay w (ToStart r) j (not_marked (halt_of w.run w.since) w.run (ToStart r) tt))
-elsewhere kept w (ToVerify r a text) h e = idle kept w (ToVerify r a text) h (or_none (halt_of w.run w.since)) (λ j job is. refl) (λ j job is. marks_stay w (ToVerify r a text) j (not_marked (halt_of w.run w.since) w.run (ToVerify r a text) tt))
-elsewhere kept w (ToHold a state) h e = idle kept w (ToHold a state) h (or_none (halt_of w.run w.since)) (λ j job is. refl) (λ j job is. marks_stay w (ToHold a state) j (not_marked (halt_of w.run w.since) w.run (ToHold a state) tt))
-elsewhere kept w (ToPassFully a i) h e = idle kept w (ToPassFully a i) h (or_none (halt_of w.run w.since)) (λ j job is. refl) (λ j job is. marks_stay w (ToPassFully a i) j (not_marked (halt_of w.run w.since) w.run (ToPassFully a i) tt))
-elsewhere kept w (ToReport b a i report) h e = idle kept w (ToReport b a i report) h (or_none (halt_of w.run w.since)) (λ j job is. refl) (λ j job is. marks_stay w (ToReport b a i report) j (not_marked (halt_of w.run w.since) w.run (ToReport b a i report) tt))
-elsewhere kept w ToNobody h e = idle kept w ToNobody h (or_none (halt_of w.run w.since)) (λ j job is. refl) (λ j job is. marks_stay w ToNobody j (not_marked (halt_of w.run w.since) w.run ToNobody tt))
+elsewhere kept w (ToStage r text) h e = idle kept w (ToStage r text) h (or_none (halt_of w.run w.since)) (λ j job is. refl)
+    (λ j job is. marks_stay w (ToStage r text) j (not_marked (halt_of w.run w.since) w.run (ToStage r text) tt))
+elsewhere kept w (ToStart r) h e = idle kept w (ToStart r) h (or_none (halt_of w.run w.since)) (λ j job is. refl)
+    (λ j job is. marks_stay w (ToStart r) j (not_marked (halt_of w.run w.since) w.run (ToStart r) tt))
+elsewhere kept w (ToVerify r a text) h e = idle kept w (ToVerify r a text) h (or_none (halt_of w.run w.since)) (λ j job is. refl)
+    (λ j job is. marks_stay w (ToVerify r a text) j (not_marked (halt_of w.run w.since) w.run (ToVerify r a text) tt))
+elsewhere kept w (ToHold a state) h e = idle kept w (ToHold a state) h (or_none (halt_of w.run w.since)) (λ j job is. refl)
+    (λ j job is. marks_stay w (ToHold a state) j (not_marked (halt_of w.run w.since) w.run (ToHold a state) tt))
+elsewhere kept w (ToPassFully a i) h e = idle kept w (ToPassFully a i) h (or_none (halt_of w.run w.since)) (λ j job is. refl)
+    (λ j job is. marks_stay w (ToPassFully a i) j (not_marked (halt_of w.run w.since) w.run (ToPassFully a i) tt))
+elsewhere kept w (ToReport b a i report) h e = idle kept w (ToReport b a i report) h (or_none (halt_of w.run w.since)) (λ j job is. refl)
+    (λ j job is. marks_stay w (ToReport b a i report) j (not_marked (halt_of w.run w.since) w.run (ToReport b a i report) tt))
+elsewhere kept w ToNobody h e = idle kept w ToNobody h (or_none (halt_of w.run w.since)) (λ j job is. refl)
+    (λ j job is. marks_stay w ToNobody j (not_marked (halt_of w.run w.since) w.run ToNobody tt))
 elsewhere kept w (ToTrigger r act) h e = absurd e
 elsewhere kept w (ToMark r j) h e = absurd e
 elsewhere kept w (ToStop r) h e = absurd e
@@ -82,10 +89,13 @@ no_mark_ends None run r act = (refl, refl)
 no_mark_ends (Some (Triggered a before)) run r act = (refl, refl)
 no_mark_ends (Some Stopped) run r act = (refl, refl)
 
-is_not : (kept : Kept) (w : Work) (r : ℕ) → RunIs kept w → ((kept.number == r) && is_none kept.end) ≡ false → ((r == w.run) && is_none (end_kept (halt_of w.run w.since))) ≡ false
-is_not kept w r h e = ap (λ t. t && is_none (end_kept (halt_of w.run w.since))) (swapped r w.run) ∙ ap (λ (k : Kept). (k.number == r) && is_none k.end) (sym h.is) ∙ e
+is_not : (kept : Kept) (w : Work) (r : ℕ) → RunIs kept w → ((kept.number == r) && is_none kept.end) ≡ false
+    → ((r == w.run) && is_none (end_kept (halt_of w.run w.since))) ≡ false
+is_not kept w r h e =
+    ap (λ t. t && is_none (end_kept (halt_of w.run w.since))) (swapped r w.run) ∙ ap (λ (k : Kept). (k.number == r) && is_none k.end) (sym h.is) ∙ e
 
-pub no_trigger : (kept : Kept) (w : Work) (r : ℕ) (act : Act) → RunIs kept w → ((kept.number == r) && is_none kept.end) ≡ false → RunIs kept (and_then w (ToTrigger r act))
+pub no_trigger : (kept : Kept) (w : Work) (r : ℕ) (act : Act) → RunIs kept w → ((kept.number == r) && is_none kept.end) ≡ false
+    → RunIs kept (and_then w (ToTrigger r act))
 no_trigger kept w r act h e =
     idle kept w (ToTrigger r act) h (halt_stays (halt_of w.run w.since) (r == w.run) (Triggered act w.since) (is_not kept w r h e)) (λ j job is. refl)
     (λ j job is. marks_stay w (ToTrigger r act) j (no_mark_ends (halt_of w.run w.since) w.run r act).0)
@@ -100,12 +110,14 @@ other_mark None run r j e = refl
 other_mark (Some Stopped) run r j e = refl
 other_mark (Some (Triggered act before)) run r j e = ap (λ t. if t then j ∷ [] else []) e
 
-pub no_mark : (kept : Kept) (w : Work) (r j : ℕ) → RunIs kept w → (kept.number == r) ≡ false → RunIs kept (and_then w (ToMark r j)) × (acts.None ≡ act_of (Some w) (ToMark r j))
+pub no_mark : (kept : Kept) (w : Work) (r j : ℕ) → RunIs kept w → (kept.number == r) ≡ false
+    → RunIs kept (and_then w (ToMark r j)) × (acts.None ≡ act_of (Some w) (ToMark r j))
 no_mark kept w r j h e =
     let other : (r == w.run) ≡ false = swapped r w.run ∙ ap (λ (k : Kept). k.number == r) (sym h.is) ∙ e in
     let unmarked = other_mark (halt_of w.run w.since) w.run r j other in (
       idle kept w (ToMark r j) h (or_none (halt_of w.run w.since)) (λ i job is. refl) (λ i job is. marks_stay w (ToMark r j) i unmarked),
-      sym (ap (λ ms. if wants_cut (halt_of w.run w.since) && (not (is_marked w) && list_all (has (ms ++ marks w.run w.since)) (numbers_below (length w.jobs))) then acts.Cut else acts.None) unmarked
+      sym (ap (λ ms. if wants_cut (halt_of w.run w.since) && (not (is_marked w) && list_all (has (ms ++ marks w.run w.since)) (numbers_below (length w.jobs)))
+          then acts.Cut else acts.None) unmarked
           ∙ never (wants_cut (halt_of w.run w.since)) (is_marked w)),
     )
   where
@@ -116,20 +128,23 @@ no_mark kept w r j h e =
 
 -- ---- the same of the present run, if there is one
 
-pub trigger_elsewhere : (me now_boot : ℕ) (old : Option Kept) (kept : Kept) (w : Option Work) (r : ℕ) (act : Act) → old ≡ Some kept → WorkIs me now_boot old w → ((kept.number == r) && is_none kept.end) ≡ false
+pub trigger_elsewhere : (me now_boot : ℕ) (old : Option Kept) (kept : Kept) (w : Option Work) (r : ℕ) (act : Act) → old ≡ Some kept → WorkIs me now_boot old w
+    → ((kept.number == r) && is_none kept.end) ≡ false
     → WorkIs me now_boot (Some kept) (goes_on (ToTrigger r act) w)
 trigger_elsewhere me now_boot None kept w r act e h t = cc
 trigger_elsewhere me now_boot (Some old) kept None r act e h t = absurd h
 trigger_elsewhere me now_boot (Some old) kept (Some w) r act e h t =
     let same : old ≡ kept = cc in record { run = no_trigger kept w r act (subst (λ k. RunIs k w) same h.run) t; server = h.server; boot_is = h.boot_is }
 
-pub stop_elsewhere : (me now_boot : ℕ) (old : Option Kept) (kept : Kept) (w : Option Work) (r : ℕ) → old ≡ Some kept → WorkIs me now_boot old w → ((kept.number == r) && is_none kept.end) ≡ false → WorkIs me now_boot (Some kept) (goes_on (ToStop r) w)
+pub stop_elsewhere : (me now_boot : ℕ) (old : Option Kept) (kept : Kept) (w : Option Work) (r : ℕ) → old ≡ Some kept → WorkIs me now_boot old w
+    → ((kept.number == r) && is_none kept.end) ≡ false → WorkIs me now_boot (Some kept) (goes_on (ToStop r) w)
 stop_elsewhere me now_boot None kept w r e h t = cc
 stop_elsewhere me now_boot (Some old) kept None r e h t = absurd h
 stop_elsewhere me now_boot (Some old) kept (Some w) r e h t =
     let same : old ≡ kept = cc in record { run = no_stop kept w r (subst (λ k. RunIs k w) same h.run) t; server = h.server; boot_is = h.boot_is }
 
-pub mark_elsewhere : (me now_boot : ℕ) (old : Option Kept) (kept : Kept) (w : Option Work) (r j : ℕ) → old ≡ Some kept → WorkIs me now_boot old w → (kept.number == r) ≡ false
+pub mark_elsewhere : (me now_boot : ℕ) (old : Option Kept) (kept : Kept) (w : Option Work) (r j : ℕ) → old ≡ Some kept → WorkIs me now_boot old w
+    → (kept.number == r) ≡ false
     → WorkIs me now_boot (Some kept) (goes_on (ToMark r j) w) × (acts.None ≡ act_of w (ToMark r j))
 mark_elsewhere me now_boot None kept w r j e h t = cc
 mark_elsewhere me now_boot (Some old) kept None r j e h t = absurd h
@@ -138,7 +153,8 @@ mark_elsewhere me now_boot (Some old) kept (Some w) r j e h t =
     let n = no_mark kept w r j (subst (λ k. RunIs k w) same h.run) t in
     (record { run = n.0; server = h.server; boot_is = h.boot_is }, n.1)
 
-pub work_elsewhere : (me now_boot : ℕ) (kept : Option Kept) (w : Option Work) (x : Request) → WorkIs me now_boot kept w → IsElsewhere x → WorkIs me now_boot kept (goes_on x w)
+pub work_elsewhere : (me now_boot : ℕ) (kept : Option Kept) (w : Option Work) (x : Request) → WorkIs me now_boot kept w → IsElsewhere x
+    → WorkIs me now_boot kept (goes_on x w)
 work_elsewhere me now_boot None None x h e = tt
 work_elsewhere me now_boot (Some kept) (Some w) x h e = record { run = elsewhere kept w x h.run e; server = h.server; boot_is = h.boot_is }
 work_elsewhere me now_boot None (Some w) x h e = absurd h
@@ -168,7 +184,8 @@ unchecked kept c (ToEnd ticket end) h e = absurd e
 unchecked kept c (ToReport b a j report) h e = absurd e
 unchecked kept c ToNobody h e = h
 
-pub check_elsewhere : (me now_boot : ℕ) (kept : Option CheckKept) (c : Option Check) (x : Request) → OpenIs me now_boot kept c → IsUnchecked x → OpenIs me now_boot kept (check_goes_on x c)
+pub check_elsewhere : (me now_boot : ℕ) (kept : Option CheckKept) (c : Option Check) (x : Request) → OpenIs me now_boot kept c → IsUnchecked x
+    → OpenIs me now_boot kept (check_goes_on x c)
 check_elsewhere me now_boot None None x h e = tt
 check_elsewhere me now_boot (Some kept) (Some c) x h e = record { is = unchecked kept c x h.is e; server = h.server; boot_is = h.boot_is }
 check_elsewhere me now_boot None (Some c) x h e = absurd h

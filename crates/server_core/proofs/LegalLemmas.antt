@@ -19,7 +19,8 @@ use Rattle.server_core.specs.declared.event.WriteEnd.TheVariants.{Done, Failed}
 use Rattle.server_core.specs.Request.{Request, ToStage, ToStart, ToTrigger, ToMark, ToStop, ToVerify, ToHold, ToPassFully, ToIssue, ToEnd, ToReport, ToNobody}
 use Rattle.server_core.specs.Run.{halt_of, with_issue, with_ticket, with_request, history}
 
-answer_legal : WritesAreLegal → (origin : Origin) (stopped : Bool) (h : List window.Event) (answer : Issue) → 1 ≤ origin.job.window → IsLegal origin.job h → answer_to origin stopped h ≡ answer → IsLegal origin.job (with_issue answer h)
+answer_legal : WritesAreLegal → (origin : Origin) (stopped : Bool) (h : List window.Event) (answer : Issue) → 1 ≤ origin.job.window → IsLegal origin.job h
+    → answer_to origin stopped h ≡ answer → IsLegal origin.job (with_issue answer h)
 answer_legal writes origin stopped h (issues.Write ticket) some legal e = (writes origin stopped h ticket some legal e).1
 answer_legal writes origin stopped h issues.Full some legal e = legal
 answer_legal writes origin stopped h issues.Held some legal e = legal
@@ -27,7 +28,8 @@ answer_legal writes origin stopped h issues.Overlap some legal e = legal
 answer_legal writes origin stopped h issues.Finished some legal e = legal
 answer_legal writes origin stopped h issues.Stopped some legal e = legal
 
-ticket_legal : EndsAreLegal → (origin : Origin) (h : List window.Event) (ticket : Ticket) (end : WriteEnd) (answer : Result (Unit {0}) Fault) → IsLegal origin.job h → ticket_answer origin (window.open_writes h) ticket ≡ answer
+ticket_legal : EndsAreLegal → (origin : Origin) (h : List window.Event) (ticket : Ticket) (end : WriteEnd) (answer : Result (Unit {0}) Fault)
+    → IsLegal origin.job h → ticket_answer origin (window.open_writes h) ticket ≡ answer
     → IsLegal origin.job (with_ticket answer end ticket.seq h)
 ticket_legal ends origin h ticket Done (Ok u) legal e = (ends origin h ticket legal e).1
 ticket_legal ends origin h ticket Failed (Ok u) legal e = (ends origin h ticket legal e).2
@@ -37,10 +39,13 @@ if_legal : (t : Bool) (job : JobParts) (new old : List window.Event) → IsLegal
 if_legal true job new old h k = h
 if_legal false job new old h k = k
 
-request_legal : WritesAreLegal → EndsAreLegal → (origin : Origin) (stopped : Bool) (x : Request) (h : List window.Event) → 1 ≤ origin.job.window → IsLegal origin.job h → IsLegal origin.job (with_request origin stopped x h)
+request_legal : WritesAreLegal → EndsAreLegal → (origin : Origin) (stopped : Bool) (x : Request) (h : List window.Event) → 1 ≤ origin.job.window
+    → IsLegal origin.job h → IsLegal origin.job (with_request origin stopped x h)
 request_legal writes ends origin stopped (ToIssue j) h some legal =
-    if_legal (j == origin.key.job) origin.job (with_issue (answer_to origin stopped h) h) h (answer_legal writes origin stopped h (answer_to origin stopped h) some legal refl) legal
-request_legal writes ends origin stopped (ToEnd ticket end) h some legal = ticket_legal ends origin h ticket end (ticket_answer origin (window.open_writes h) ticket) legal refl
+    if_legal (j == origin.key.job) origin.job (with_issue (answer_to origin stopped h) h) h
+    (answer_legal writes origin stopped h (answer_to origin stopped h) some legal refl) legal
+request_legal writes ends origin stopped (ToEnd ticket end) h some legal =
+    ticket_legal ends origin h ticket end (ticket_answer origin (window.open_writes h) ticket) legal refl
 request_legal writes ends origin stopped (ToStage r text) h some legal = legal
 request_legal writes ends origin stopped (ToStart r) h some legal = legal
 request_legal writes ends origin stopped (ToTrigger r act) h some legal = legal
@@ -54,7 +59,8 @@ request_legal writes ends origin stopped ToNobody h some legal = legal
 
 pub history_legal : WritesAreLegal → EndsAreLegal → (origin : Origin) (since : List Request) → 1 ≤ origin.job.window → IsLegal origin.job (history origin since)
 history_legal writes ends origin [] some = record { by_window = tt; by_job = tt }
-history_legal writes ends origin (x ∷ since) some = request_legal writes ends origin (is_some (halt_of origin.key.run since)) x (history origin since) some (history_legal writes ends origin since some)
+history_legal writes ends origin (x ∷ since) some =
+    request_legal writes ends origin (is_some (halt_of origin.key.run since)) x (history origin since) some (history_legal writes ends origin since some)
 
 pub some_window : (job : JobParts) → is_within_limits job ≡ true → 1 ≤ job.window
 some_window job h =

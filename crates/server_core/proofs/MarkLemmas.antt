@@ -1,5 +1,6 @@
 -- What is kept of a run behind a mark.
-use Rattle.std.proofs.Common.{◌≡◌, ◌≢◌, refl, sym, ap, ◌∙◌, ℕ, zero, suc, ◌+◌, ◌≤◌, arith, Bool, true, false, ◌&&◌, ◌||◌, List, [], ◌∷◌, ◌++◌, length, Option, None, Some}
+use Rattle.std.proofs.Common.{◌≡◌, ◌≢◌, refl, sym, ap, ◌∙◌, ℕ, zero, suc, ◌+◌, ◌≤◌, arith, Bool, true}
+use Rattle.std.proofs.Common.{false, ◌&&◌, ◌||◌, List, [], ◌∷◌, ◌++◌, length, Option, None, Some}
 use Rattle.std.specs.Prelude.{if◌then◌else◌, not, set, slice_get, is_some}
 use Rattle.std.specs.List.{list_all}
 use Rattle.std.proofs.lemmas.Bool.{eq-eqb, ne_eqb}
@@ -39,19 +40,23 @@ all_more p j (suc n) =
 below_all : (p : ℕ → Bool) (n : ℕ) → list_all p (numbers_below n) ≡ all_in p 0 n
 below_all p zero = refl
 below_all p (suc n) =
-    list_all-append p (numbers_below n) (n ∷ []) ∙ ap (λ b. list_all p (numbers_below n) && b) (and_true (p n)) ∙ ap (λ b. b && p n) (below_all p n) ∙ ap (λ m. all_in p 0 n && p m) at ∙ sym (all_more p 0 n)
+    list_all-append p (numbers_below n) (n ∷ []) ∙ ap (λ b. list_all p (numbers_below n) && b) (and_true (p n)) ∙ ap (λ b. b && p n) (below_all p n)
+    ∙ ap (λ m. all_in p 0 n && p m) at ∙ sym (all_more p 0 n)
   where
     at : n ≡ 0 + n
     at = omega arith
 
-rows_marked : (w : Work) (j : ℕ) (jobs : List Job) → list_all (λ (k : JobRun). k.marked) (jobs_kept w j jobs) ≡ all_in (has (marks w.run w.since)) j (length jobs)
+rows_marked : (w : Work) (j : ℕ) (jobs : List Job) → list_all (λ (k : JobRun). k.marked) (jobs_kept w j jobs)
+    ≡ all_in (has (marks w.run w.since)) j (length jobs)
 rows_marked w j [] = refl
 rows_marked w j (job ∷ jobs) = ap (λ b. has (marks w.run w.since) j && b) (rows_marked w (j + 1) jobs)
 
 pub marked_is : (kept : Kept) (w : Work) → RunIs kept w → list_all (λ (k : JobRun). k.marked) kept.kept ≡ is_marked w
-marked_is kept w h = ap (λ (k : Kept). list_all (λ (k : JobRun). k.marked) k.kept) h.is ∙ rows_marked w 0 w.jobs ∙ sym (below_all (has (marks w.run w.since)) (length w.jobs))
+marked_is kept w h =
+    ap (λ (k : Kept). list_all (λ (k : JobRun). k.marked) k.kept) h.is ∙ rows_marked w 0 w.jobs ∙ sym (below_all (has (marks w.run w.since)) (length w.jobs))
 
-pub marked_rows : (b : Bool) (items rows : List JobRun) → items ≡ rows → b ≡ list_all (λ (k : JobRun). k.marked) items → b ≡ list_all (λ (k : JobRun). k.marked) rows
+pub marked_rows : (b : Bool) (items rows : List JobRun) → items ≡ rows → b ≡ list_all (λ (k : JobRun). k.marked) items
+    → b ≡ list_all (λ (k : JobRun). k.marked) rows
 marked_rows b items rows is e = e ∙ ap (λ ks. list_all (λ (k : JobRun). k.marked) ks) is
 
 -- ---- a mark
@@ -82,20 +87,24 @@ here ms i = ap (λ b. b || has ms i) (eq-eqb i i refl)
 other : (ms : List ℕ) (i j : ℕ) → j ≢ i → has (i ∷ ms) j ≡ has ms j
 other ms i j ne = ap (λ b. b || has ms j) (ne_eqb i j (λ e. ne (sym e)))
 
-pub mark_step : (kept : Kept) (w : Work) (i : ℕ) (old : JobRun) → RunIs kept w → is_some (act_of_end kept.end) ≡ true → slice_get kept.kept i ≡ Some old → RunIs (record kept { kept = set kept.kept i (record old { marked = true }) }) (and_then w (ToMark w.run i))
+pub mark_step : (kept : Kept) (w : Work) (i : ℕ) (old : JobRun) → RunIs kept w → is_some (act_of_end kept.end) ≡ true → slice_get kept.kept i ≡ Some old
+    → RunIs (record kept { kept = set kept.kept i (record old { marked = true }) }) (and_then w (ToMark w.run i))
 mark_step kept w i old h taken at =
     let p = job_here kept w i old h at in
     let mark = mark_in (halt_of w.run w.since) w.run i (ap (λ (k : Kept). is_some (act_of_end k.end)) (sym h.is) ∙ taken) in
     let x = ToMark w.run i in
-    one_row kept w x i (record old { marked = true }) h (or_none (halt_of w.run w.since)) (λ j job ne. refl) (λ j ne. ap (λ ms. has (ms ++ marks w.run w.since) j) mark ∙ other (marks w.run w.since) i j ne)
+    one_row kept w x i (record old { marked = true }) h (or_none (halt_of w.run w.since)) (λ j job ne. refl)
+    (λ j ne. ap (λ ms. has (ms ++ marks w.run w.since) j) mark ∙ other (marks w.run w.since) i j ne)
     (λ job is. same_job_run _ _ _ _ _ _ _ _ (ap (λ (k : JobRun). k.engine) p.2) (ap (λ (k : JobRun). k.save) p.2) (ap (λ (k : JobRun). k.taken) p.2) refl
-    ∙ sym (row_by w x i p.0 (halt_of w.run w.since) (history (origin_of w i p.0) w.since) true (or_none (halt_of w.run w.since)) refl (ap (λ ms. has (ms ++ marks w.run w.since) i) mark ∙ here (marks w.run w.since) i))
+    ∙ sym (row_by w x i p.0 (halt_of w.run w.since) (history (origin_of w i p.0) w.since) true (or_none (halt_of w.run w.since)) refl
+    (ap (λ ms. has (ms ++ marks w.run w.since) i) mark ∙ here (marks w.run w.since) i))
     ∙ ap (job_kept (and_then w x) i) (same_some p.0 job (sym p.1 ∙ is)))
   where
     same_some : (a b : Job) → Some a ≡ Some b → a ≡ b
     same_some a b e = cc
 
-pub mark_past : (kept : Kept) (w : Work) (i : ℕ) → RunIs kept w → is_some (act_of_end kept.end) ≡ true → length kept.kept ≤ i → RunIs kept (and_then w (ToMark w.run i))
+pub mark_past : (kept : Kept) (w : Work) (i : ℕ) → RunIs kept w → is_some (act_of_end kept.end) ≡ true → length kept.kept ≤ i
+    → RunIs kept (and_then w (ToMark w.run i))
 mark_past kept w i h taken past =
     let mark = mark_in (halt_of w.run w.since) w.run i (ap (λ (k : Kept). is_some (act_of_end k.end)) (sym h.is) ∙ taken) in
     idle kept w (ToMark w.run i) h (or_none (halt_of w.run w.since)) (λ j job is. refl)
@@ -107,12 +116,14 @@ mark_past kept w i h taken past =
         no : None ≡ Some job → ⊥
         no e = cc
 
-pub mark_acts : (kept new : Kept) (w : Work) (i : ℕ) (act : Act) (before after : Bool) → RunIs kept w → RunIs new (and_then w (ToMark w.run i)) → act_of_end kept.end ≡ Some act
+pub mark_acts : (kept new : Kept) (w : Work) (i : ℕ) (act : Act) (before after : Bool) → RunIs kept w → RunIs new (and_then w (ToMark w.run i))
+    → act_of_end kept.end ≡ Some act
     → before ≡ list_all (λ (k : JobRun). k.marked) kept.kept → after ≡ list_all (λ (k : JobRun). k.marked) new.kept
     → (if not before && after then act else acts.None) ≡ act_of (Some w) (ToMark w.run i)
 mark_acts kept new w i act before after h k e b a =
     let t = taken_by (halt_of w.run w.since) act (ap (λ (x : Kept). act_of_end x.end) (sym h.is) ∙ e) in
-    ap (λ x. if not x && after then act else acts.None) (b ∙ marked_is kept w h) ∙ ap (λ x. if not (is_marked w) && x then act else acts.None) (a ∙ marked_is new (and_then w (ToMark w.run i)) k)
+    ap (λ x. if not x && after then act else acts.None) (b ∙ marked_is kept w h)
+    ∙ ap (λ x. if not (is_marked w) && x then act else acts.None) (a ∙ marked_is new (and_then w (ToMark w.run i)) k)
     ∙ by_act act (not (is_marked w) && is_marked (and_then w (ToMark w.run i)))
     ∙ ap (λ x. if wants_cut x && (not (is_marked w) && is_marked (and_then w (ToMark w.run i))) then acts.Cut else acts.None) (sym t.is)
   where

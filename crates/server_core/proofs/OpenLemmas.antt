@@ -16,12 +16,14 @@ use Rattle.server_core.specs.OpenWrites.{open_origin_of, open_origin, open_ticke
 use Rattle.server_core.proofs.RowLemmas.{job_here}
 use Rattle.server_core.proofs.RunLemmas.{no_job}
 
-ticket_if : (is_open : Bool) (origin : Origin) (k : ℕ) → (if is_open then Some (ticket_of origin k) else None) ≡ option_map (λ (o : Origin). ticket_of o k) (if is_open then Some origin else None)
+ticket_if : (is_open : Bool) (origin : Origin) (k : ℕ) → (if is_open then Some (ticket_of origin k) else None)
+    ≡ option_map (λ (o : Origin). ticket_of o k) (if is_open then Some origin else None)
 ticket_if true origin k = refl
 ticket_if false origin k = refl
 
 -- The engine that is kept of a job has the tickets of its open writes.
-pub open_here : (kept : Kept) (w : Work) (i k : ℕ) (old : JobRun) → RunIs kept w → slice_get kept.kept i ≡ Some old → engine.open_ticket old.engine.origin old.engine.kept.open_writes k ≡ open_ticket (Some w) i k
+pub open_here : (kept : Kept) (w : Work) (i k : ℕ) (old : JobRun) → RunIs kept w → slice_get kept.kept i ≡ Some old
+    → engine.open_ticket old.engine.origin old.engine.kept.open_writes k ≡ open_ticket (Some w) i k
 open_here kept w i k old is at =
     let p = job_here kept w i old is at in
     let origin = origin_of w i p.0 in
@@ -35,11 +37,13 @@ open_nowhere kept w i k is past =
     sym (ap (λ (job : Option Job). option_map (λ (o : Origin). ticket_of o k) (open_origin_of w i k job)) (no_job kept w i is past))
 
 told_if : (is_open : Bool) (w : Work) (j k : ℕ) (job : Job) →
-    (if is_open then Some (origin_of w j job) else None) ≡ origin_told (option_map (λ (o : Origin). ticket_of o k) (if is_open then Some (origin_of w j job) else None)) (Some job)
+    (if is_open then Some (origin_of w j job) else None)
+    ≡ origin_told (option_map (λ (o : Origin). ticket_of o k) (if is_open then Some (origin_of w j job) else None)) (Some job)
 told_if true w j k job = refl
 told_if false w j k job = refl
 
-told_of : (w : Work) (j k : ℕ) (job : Option Job) → open_origin_of w j k job ≡ origin_told (option_map (λ (o : Origin). ticket_of o k) (open_origin_of w j k job)) job
+told_of : (w : Work) (j k : ℕ) (job : Option Job) → open_origin_of w j k job
+    ≡ origin_told (option_map (λ (o : Origin). ticket_of o k) (open_origin_of w j k job)) job
 told_of w j k None = refl
 told_of w j k (Some job) = told_if (has (open_writes (history (origin_of w j job) w.since)) k) w j k job
 

@@ -10,7 +10,8 @@ use Rattle.server_core.specs.declared.event.Event.{Event}
 use Rattle.disk_model.specs.declared.left.Left.{Left}
 use Rattle.disk_model.specs.declared.left.Left.TheVariants.{NoSave, Saved, LostNew, LostOld}
 use Rattle.server_core.specs.History.{Opening, Entry, Met, Cut, Restart}
-use Rattle.server_core.specs.Request.{Request, ToStage, ToStart, ToTrigger, ToMark, ToStop, ToVerify, ToHold, ToPassFully, ToIssue, ToEnd, ToReport, ToNobody, request_of}
+use Rattle.server_core.specs.Request.{Request, ToStage, ToStart, ToTrigger, ToMark, ToStop, ToVerify}
+use Rattle.server_core.specs.Request.{ToHold, ToPassFully, ToIssue, ToEnd, ToReport, ToNobody, request_of}
 use Rattle.server_core.specs.Run.{Work, Halt, halt_by, halt_of, is_halted, goes_on}
 use Rattle.server_core.specs.Words.{Staged, is_on, boot, last_run_after, work_after, last_run, work, staged_run, due}
 use Rattle.server_core.specs.Taken.{triggers, takes_now, takes, takings}
@@ -40,7 +41,8 @@ calm_after run last Saved (Some s) me now_boot x w f e c = let above = (f s refl
 calm_after run last LostNew d me now_boot x w f e c = tt
 calm_after run last LostOld d me now_boot x w f e c = tt
 
-calm_met : (o : Opening) (run : ℕ) (e : Entry) (past : List Entry) → last_run o (e ∷ past) ≡ last_run o past → Calm run (work o past) → Calm run (work o (e ∷ past))
+calm_met : (o : Opening) (run : ℕ) (e : Entry) (past : List Entry) → last_run o (e ∷ past) ≡ last_run o past → Calm run (work o past)
+    → Calm run (work o (e ∷ past))
 calm_met o run (Met e left) past same c =
     calm_after run (last_run o past) left (due o past e) o.me (boot o past) (request_of o.me e) (work o past)
     (due_start (is_on past) (last_run o past) (staged_run o past) (work o past) (request_of o.me e)) same c
@@ -120,7 +122,8 @@ least_on o run [] list h = h
 least_on o run (e ∷ between) list h = let g = last_grows o e (between ++ list) in let i = least_on o run between list h in omega arith
 
 -- As long as the last run is that run, it stays halted.
-calm_behind : (o : Opening) (run : ℕ) (between list : List Entry) → IsBehind o run list → last_run o (between ++ list) ≡ run → Calm run (work o (between ++ list))
+calm_behind : (o : Opening) (run : ℕ) (between list : List Entry) → IsBehind o run list → last_run o (between ++ list) ≡ run
+    → Calm run (work o (between ++ list))
 calm_behind o run [] list b e = b.calm
 calm_behind o run (x ∷ between) list b e =
     let g = last_grows o x (between ++ list) in
@@ -150,13 +153,15 @@ no_write run (ToEnd ticket end) w c = refl
 no_write run (ToReport b a i report) w c = refl
 no_write run ToNobody w c = refl
 
-pub quiet_while_last : (o : Opening) (older between : List Entry) (trigger e : Event) (was : Left) (run j : ℕ) (state : State) → takes run j (request_of o.me trigger) (work o older) ≡ Some state
+pub quiet_while_last : (o : Opening) (older between : List Entry) (trigger e : Event) (was : Left) (run j : ℕ) (state : State)
+    → takes run j (request_of o.me trigger) (work o older) ≡ Some state
     → last_run o (between ++ Met trigger was ∷ older) ≡ run → gives_write (issue o (between ++ Met trigger was ∷ older) e) ≡ false
 quiet_while_last o older between trigger e was run j state h last =
     no_write run (request_of o.me e) (work o (between ++ Met trigger was ∷ older))
     (calm_behind o run between (Met trigger was ∷ older) (behind_at o run j trigger was older (work o older) state refl h) last)
 
-pub quiet_until_check : (o : Opening) (older between newer : List Entry) (trigger e : Event) (was left : Left) (run j i : ℕ) (state with_it : State) → takes run j (request_of o.me trigger) (work o older) ≡ Some state
+pub quiet_until_check : (o : Opening) (older between newer : List Entry) (trigger e : Event) (was left : Left) (run j i : ℕ) (state with_it : State)
+    → takes run j (request_of o.me trigger) (work o older) ≡ Some state
     → progress o (newer ++ Met e left ∷ (between ++ Met trigger was ∷ older)) i ≡ Some (With with_it) → with_it.key.run ≡ run
     → gives_write (issue o (between ++ Met trigger was ∷ older) e) ≡ false
 quiet_until_check o older between newer trigger e was left run j i state with_it h p same =

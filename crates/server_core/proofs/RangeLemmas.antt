@@ -21,7 +21,8 @@ use Rattle.server_core.specs.declared.event.Event.{Event}
 use Rattle.server_core.specs.declared.event.Event.TheVariants.{Deliver, Issue, WriteDone, CheckDone}
 use Rattle.server_core.specs.History.{Opening, Entry, Met, Cut, Restart}
 use Rattle.messages.specs.Nodes.{is_client, is_server}
-use Rattle.server_core.specs.Request.{Request, ToStage, ToStart, ToTrigger, ToMark, ToStop, ToVerify, ToHold, ToPassFully, ToIssue, ToEnd, ToReport, ToNobody, request_in, request_of}
+use Rattle.server_core.specs.Request.{Request, ToStage, ToStart, ToTrigger, ToMark, ToStop, ToVerify, ToHold}
+use Rattle.server_core.specs.Request.{ToPassFully, ToIssue, ToEnd, ToReport, ToNobody, request_in, request_of}
 use Rattle.server_core.specs.Texts.{jobs_by, jobs_for, is_phase}
 use Rattle.server_core.specs.Words.{Staged, last_run_after, last_run, due}
 use Rattle.server_core.specs.Laws.{IsSet, TextsGiveSets}
@@ -154,7 +155,8 @@ if_for_it false x h = tt
 
 pub asked_fits : (me : ℕ) (e : Event) → IsInRange e → RequestFits (request_of me e)
 asked_fits me (Deliver p) h =
-    if_for_it (is_client p.from && is_server me p.to) (request_in p.body) (body_asks p.body (and_parts (is_node p.from && is_node p.to) (is_body p.body) h.in_range).1)
+    if_for_it (is_client p.from && is_server me p.to) (request_in p.body)
+    (body_asks p.body (and_parts (is_node p.from && is_node p.to) (is_body p.body) h.in_range).1)
 asked_fits me (Issue j) h = tt
 asked_fits me (WriteDone ticket end) h = tt
 asked_fits me (CheckDone boot a j report) h = h
@@ -190,6 +192,7 @@ recorded_below left (Some s) last h k = either_below (has_new left) s.run last (
 pub last_below : TextsGiveSets → (o : Opening) (past : List Entry) → OpensInRange o → CameInRange past → last_run o past < 2 ^ 64
 last_below texts o [] i h = i.last
 last_below texts o (Met e left ∷ past) i h =
-    recorded_below left (due o past e) (last_run o past) (due_known RequestFits InRun InAttempt o past e (kept_in_range texts o past h.1)) (last_below texts o past i h.1)
+    recorded_below left (due o past e) (last_run o past) (due_known RequestFits InRun InAttempt o past e (kept_in_range texts o past h.1))
+    (last_below texts o past i h.1)
 last_below texts o (Cut ∷ past) i h = last_below texts o past i h
 last_below texts o (Restart left ∷ past) i h = last_below texts o past i h

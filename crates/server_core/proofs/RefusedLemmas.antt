@@ -28,31 +28,38 @@ use Rattle.server_core.proofs.IdleLemmas.{work_elsewhere, check_elsewhere}
 
 -- ---- a ticket that names no open write
 
-unnamed : (boot names : Bool) (end : WriteEnd) (k : ℕ) (h : List window.Event) → names ≡ false → with_ticket (if not boot then Err OldBoot else (if names then Ok tt else Err NotInFlight)) end k h ≡ h
+unnamed : (boot names : Bool) (end : WriteEnd) (k : ℕ) (h : List window.Event) → names ≡ false
+    → with_ticket (if not boot then Err OldBoot else (if names then Ok tt else Err NotInFlight)) end k h ≡ h
 unnamed false names end k h e = refl
 unnamed true true end k h e = cc
 unnamed true false end k h e = refl
 
-unnamed_run : (kept : Kept) (w : Work) (ticket : Ticket) (end : WriteEnd) → RunIs kept w → names_open_of w ticket (slice_get w.jobs ticket.key.job) ≡ false → RunIs kept (and_then w (ToEnd ticket end))
+unnamed_run : (kept : Kept) (w : Work) (ticket : Ticket) (end : WriteEnd) → RunIs kept w → names_open_of w ticket (slice_get w.jobs ticket.key.job) ≡ false
+    → RunIs kept (and_then w (ToEnd ticket end))
 unnamed_run kept w ticket end h e =
-    idle kept w (ToEnd ticket end) h (or_none (halt_of w.run w.since)) (λ j job is. each j job is (j == ticket.key.job) refl) (λ j job is. unmarked w ticket end j)
+    idle kept w (ToEnd ticket end) h (or_none (halt_of w.run w.since)) (λ j job is. each j job is (j == ticket.key.job) refl)
+    (λ j job is. unmarked w ticket end j)
   where
-    each : (j : ℕ) (job : Job) → slice_get w.jobs j ≡ Some job → (b : Bool) → (j == ticket.key.job) ≡ b → history (origin_of w j job) (ToEnd ticket end ∷ w.since) ≡ history (origin_of w j job) w.since
+    each : (j : ℕ) (job : Job) → slice_get w.jobs j ≡ Some job → (b : Bool) → (j == ticket.key.job) ≡ b
+        → history (origin_of w j job) (ToEnd ticket end ∷ w.since) ≡ history (origin_of w j job) w.since
     each j job is false t = other_job w ticket end j job (eqb-false j ticket.key.job t)
     each j job is true t =
         let at = eqb-true j ticket.key.job t in
         let here : slice_get w.jobs ticket.key.job ≡ Some job = ap (slice_get w.jobs) (sym at) ∙ is in
-        let no_name : names_one_of (origin_of w ticket.key.job job) (window.open_writes (history (origin_of w ticket.key.job job) w.since)) ticket ≡ false = sym (ap (names_open_of w ticket) here) ∙ e in
+        let no_name : names_one_of (origin_of w ticket.key.job job) (window.open_writes (history (origin_of w ticket.key.job job) w.since)) ticket ≡ false =
+        sym (ap (names_open_of w ticket) here) ∙ e in
         subst (λ n. history (origin_of w n job) (ToEnd ticket end ∷ w.since) ≡ history (origin_of w n job) w.since) (sym at)
         (unnamed (ticket.boot == w.boot) _ end ticket.seq (history (origin_of w ticket.key.job job) w.since) no_name)
 
-unnamed_work : (me now_boot : ℕ) (kept : Option Kept) (w : Option Work) (ticket : Ticket) (end : WriteEnd) → WorkIs me now_boot kept w → names_open w ticket ≡ false → WorkIs me now_boot kept (goes_on (ToEnd ticket end) w)
+unnamed_work : (me now_boot : ℕ) (kept : Option Kept) (w : Option Work) (ticket : Ticket) (end : WriteEnd) → WorkIs me now_boot kept w
+    → names_open w ticket ≡ false → WorkIs me now_boot kept (goes_on (ToEnd ticket end) w)
 unnamed_work me now_boot None None ticket end h e = tt
 unnamed_work me now_boot (Some kept) (Some w) ticket end h e = record { run = unnamed_run kept w ticket end h.run e; server = h.server; boot_is = h.boot_is }
 unnamed_work me now_boot None (Some w) ticket end h e = absurd h
 unnamed_work me now_boot (Some kept) None ticket end h e = absurd h
 
-end_stays : (now : Now) (kept : Option Kept) (ticket : Ticket) (end : WriteEnd) (fault : Fault) (b n : Bool) → (ticket.boot == now.boot) ≡ b → names_open now.run ticket ≡ n → WorkIs now.server now.boot kept now.run → refused_by b n ≡ Some fault
+end_stays : (now : Now) (kept : Option Kept) (ticket : Ticket) (end : WriteEnd) (fault : Fault) (b n : Bool) → (ticket.boot == now.boot) ≡ b
+    → names_open now.run ticket ≡ n → WorkIs now.server now.boot kept now.run → refused_by b n ≡ Some fault
     → WorkIs now.server now.boot kept (goes_on (ToEnd ticket end) now.run)
 end_stays now kept ticket end fault false n e f h r = end_of_other_boot now.server now.boot kept now.run ticket end h (eqb-false ticket.boot now.boot e)
 end_stays now kept ticket end fault true false e f h r = unnamed_work now.server now.boot kept now.run ticket end h f
@@ -60,9 +67,11 @@ end_stays now kept ticket end fault true true e f h r = cc
 
 -- ---- a report that is refused
 
-no_report : (kept : CheckKept) (c : Check) (b a j : ℕ) (r : ReportParts) → kept ≡ check_kept c → ((b == c.boot) && ready_in kept a j) ≡ false → kept ≡ check_kept (checks.and_then c (ToReport b a j r))
+no_report : (kept : CheckKept) (c : Check) (b a j : ℕ) (r : ReportParts) → kept ≡ check_kept c → ((b == c.boot) && ready_in kept a j) ≡ false
+    → kept ≡ check_kept (checks.and_then c (ToReport b a j r))
 no_report kept c b a j r is no_one =
-    checks.idle kept c (ToReport b a j r) is (λ i job at. still (b == c.boot) (a == c.attempt) (c.attempt == a) (j == i) (is_ready (slice_get kept.progress j)) (job_progress c i job) (swapped a c.attempt)
+    checks.idle kept c (ToReport b a j r) is (λ i job at. still (b == c.boot) (a == c.attempt) (c.attempt == a) (j == i) (is_ready (slice_get kept.progress j))
+    (job_progress c i job) (swapped a c.attempt)
     (ap (λ (k : CheckKept). (b == c.boot) && ((k.attempt == a) && is_ready (slice_get kept.progress j))) (sym is) ∙ no_one)
     (λ e. ap (λ n. is_ready (slice_get kept.progress n)) (eqb-true j i e) ∙ ap is_ready (kept_at kept c i job is at)))
   where
@@ -72,7 +81,8 @@ no_report kept c b a j r is no_one =
         itself : (n : ℕ) → (n == n) ≡ true
         itself n = eq-eqb n n refl
 
-    still : (s t t' u v : Bool) (p : Progress) → (t ≡ true → t' ≡ true) → (s && (t' && v)) ≡ false → (u ≡ true → v ≡ is_ready (Some p)) → (if s && (t && u) then progress_with_report r p else p) ≡ p
+    still : (s t t' u v : Bool) (p : Progress) → (t ≡ true → t' ≡ true) → (s && (t' && v)) ≡ false → (u ≡ true → v ≡ is_ready (Some p))
+        → (if s && (t && u) then progress_with_report r p else p) ≡ p
     still false t t' u v p m e f = refl
     still true false t' u v p m e f = refl
     still true true t' false v p m e f = refl
@@ -82,7 +92,8 @@ no_report kept c b a j r is no_one =
         no e = cc
     still true true true true v p m e f = unready r p (sym (f refl) ∙ e)
 
-report_stays : (me now_boot : ℕ) (kept : Option CheckKept) (c : Option Check) (b a j : ℕ) (r : ReportParts) → OpenIs me now_boot kept c → ((b == now_boot) && ready_now kept a j) ≡ false → OpenIs me now_boot kept (check_goes_on (ToReport b a j r) c)
+report_stays : (me now_boot : ℕ) (kept : Option CheckKept) (c : Option Check) (b a j : ℕ) (r : ReportParts) → OpenIs me now_boot kept c
+    → ((b == now_boot) && ready_now kept a j) ≡ false → OpenIs me now_boot kept (check_goes_on (ToReport b a j r) c)
 report_stays me now_boot None None b a j r h e = tt
 report_stays me now_boot (Some kept) (Some c) b a j r h e =
     record { is = no_report kept c b a j r h.is (ap (λ n. (b == n) && ready_in kept a j) h.boot_is ∙ e); server = h.server; boot_is = h.boot_is }
@@ -96,7 +107,8 @@ not_both true true fault e = cc
 
 -- ---- any request
 
-pub refused_stays : (machine : Machine) (now : Now) (x : Request) (fault : Fault) → MachineIs machine now → refusal_of now x ≡ Some fault → MachineIs machine (words_after now x)
+pub refused_stays : (machine : Machine) (now : Now) (x : Request) (fault : Fault) → MachineIs machine now → refusal_of now x ≡ Some fault
+    → MachineIs machine (words_after now x)
 refused_stays machine now ToNobody fault h e = record {
   me = h.me;
   boot_is = h.boot_is;

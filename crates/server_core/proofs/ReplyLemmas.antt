@@ -14,7 +14,8 @@ use Rattle.messages.specs.Ranges.{is_body}
 use Rattle.messages.specs.Laws.{IsPacket}
 use Rattle.disk_model.specs.Left.{is_lost}
 use Rattle.server_core.specs.History.{Met, Cut, Restart}
-use Rattle.server_core.specs.Request.{Request, ToStage, ToStart, ToTrigger, ToMark, ToStop, ToVerify, ToHold, ToPassFully, ToIssue, ToEnd, ToReport, ToNobody, request_of}
+use Rattle.server_core.specs.Request.{Request, ToStage, ToStart, ToTrigger, ToMark, ToStop, ToVerify}
+use Rattle.server_core.specs.Request.{ToHold, ToPassFully, ToIssue, ToEnd, ToReport, ToNobody, request_of}
 use Rattle.server_core.specs.Texts.{jobs_for}
 use Rattle.server_core.specs.Run.{is_open}
 use Rattle.server_core.specs.Words.{for_run, is_on, boot, last_run, work}
@@ -38,7 +39,8 @@ record NowFits (n : Now) : Type 0 where
 replies_fit : Below → (n : Now) (x : Request) → refusal_of n x ≡ None → RequestFits x → NowFits n → Fit (replies n x)
 replies_fit below n (ToStage r text) f h k =
     fit_if (nat_le r n.last || nat_lt r (number_staged n.staged)) _ _
-    (refuse_fits asks.Jobs reasons.Old r 0 (max n.last (number_staged n.staged)) h (word _ (greater_below n.last (number_staged n.staged) k.last (staged_below n.staged k.staged))) refl refl)
+    (refuse_fits asks.Jobs reasons.Old r 0 (max n.last (number_staged n.staged)) h
+    (word _ (greater_below n.last (number_staged n.staged) k.last (staged_below n.staged k.staged))) refl refl)
     (new_jobs_reply r (for_run r n.staged) (is_open n.run) (jobs_for Write text) h (for_run_fits InRun r n.staged k.staged) (text_fits below.texts Write text))
 replies_fit below n (ToStart r) f h k = start_reply n r (present r n.run) h k.last
 replies_fit below n (ToTrigger r act) f h k = trigger_reply below n r n.run h k.run k.last
@@ -46,7 +48,8 @@ replies_fit below n (ToMark r j) f h k = tt
 replies_fit below n (ToStop r) f h k = stop_reply n r (present r n.run) h k.last
 replies_fit below n (ToVerify r a text) f h k =
     fit_if (nat_lt n.last r) _ _ (refuse_fits asks.Verify reasons.Unknown r a n.last h.0 (word n.last k.last) refl h.1)
-    (fit_if (nat_lt r n.last) _ _ (refuse_fits asks.Verify reasons.Overwritten r a n.last h.0 (word n.last k.last) refl h.1) (attempt_reply below n r a text n.check h.0 h.1 k.check_is))
+    (fit_if (nat_lt r n.last) _ _ (refuse_fits asks.Verify reasons.Overwritten r a n.last h.0 (word n.last k.last) refl h.1)
+    (attempt_reply below n r a text n.check h.0 h.1 k.check_is))
 replies_fit below n (ToHold a state) f h k = state_reply a state n.check k.check_is
 replies_fit below n (ToPassFully a j) f h k = tt
 replies_fit below n (ToIssue j) f h k = tt

@@ -1,5 +1,6 @@
 -- What is kept of a run answers as the run does, and a request changes it as it changes the run.
-use Rattle.std.proofs.Common.{◌≡◌, ◌≢◌, refl, sym, ap, subst, ◌∙◌, ℕ, ◌+◌, ◌≤◌, Bool, true, false, ◌&&◌, ◌||◌, ◌==◌, List, [], ◌∷◌, ◌++◌, length, Option, None, Some}
+use Rattle.std.proofs.Common.{◌≡◌, ◌≢◌, refl, sym, ap, subst, ◌∙◌, ℕ, ◌+◌, ◌≤◌, Bool, true, false}
+use Rattle.std.proofs.Common.{◌&&◌, ◌||◌, ◌==◌, List, [], ◌∷◌, ◌++◌, length, Option, None, Some}
 use Rattle.std.specs.Prelude.{if◌then◌else◌, nat_lt, set, slice_get, IsTrue}
 use Rattle.std.specs.List.{list_all, list_any}
 use Rattle.std.proofs.lemmas.Bool.{ne_eqb, eq-eqb}
@@ -25,27 +26,32 @@ use Rattle.server_core.specs.Kept.{Kept, job_kept, jobs_kept, RunIs}
 
 -- ---- what is kept of each job
 
-any_open : (w : Work) (j : ℕ) (jobs : List Job) → list_any (λ (k : JobRun). nat_lt 0 (length k.engine.kept.open_writes)) (jobs_kept w j jobs) ≡ list_any (λ origin. nat_lt 0 (length (window.open_writes (history origin w.since)))) (origins_from w j jobs)
+any_open : (w : Work) (j : ℕ) (jobs : List Job) → list_any (λ (k : JobRun). nat_lt 0 (length k.engine.kept.open_writes)) (jobs_kept w j jobs)
+    ≡ list_any (λ origin. nat_lt 0 (length (window.open_writes (history origin w.since)))) (origins_from w j jobs)
 any_open w j [] = refl
 any_open w j (job ∷ jobs) = ap (λ b. nat_lt 0 (length (window.open_writes (history (origin_of w j job) w.since))) || b) (any_open w (j + 1) jobs)
 
-all_ended : (w : Work) (j : ℕ) (jobs : List Job) → list_all (λ (k : JobRun). ended_of k.engine) (jobs_kept w j jobs) ≡ list_all (λ origin. has_ended origin (is_halted w) (history origin w.since)) (origins_from w j jobs)
+all_ended : (w : Work) (j : ℕ) (jobs : List Job) → list_all (λ (k : JobRun). ended_of k.engine) (jobs_kept w j jobs)
+    ≡ list_all (λ origin. has_ended origin (is_halted w) (history origin w.since)) (origins_from w j jobs)
 all_ended w j [] = refl
 all_ended w j (job ∷ jobs) = ap (λ b. has_ended (origin_of w j job) (is_halted w) (history (origin_of w j job) w.since) && b) (all_ended w (j + 1) jobs)
 
-pub open_is : (kept : Kept) (w : Work) (jobs : List JobRun) (b : Bool) → RunIs kept w → jobs ≡ kept.kept → b ≡ list_any (λ (k : JobRun). nat_lt 0 (length k.engine.kept.open_writes)) jobs → b ≡ has_open w
+pub open_is : (kept : Kept) (w : Work) (jobs : List JobRun) (b : Bool) → RunIs kept w → jobs ≡ kept.kept
+    → b ≡ list_any (λ (k : JobRun). nat_lt 0 (length k.engine.kept.open_writes)) jobs → b ≡ has_open w
 unfolding has_open
 open_is kept w jobs b h is e =
     e ∙ ap (λ ks. list_any (λ (k : JobRun). nat_lt 0 (length k.engine.kept.open_writes)) ks) (is ∙ ap (λ (k : Kept). k.kept) h.is) ∙ any_open w 0 w.jobs
 
-pub ended_is : (kept : Kept) (w : Work) (jobs : List JobRun) (b : Bool) → RunIs kept w → jobs ≡ kept.kept → b ≡ list_all (λ (k : JobRun). ended_of k.engine) jobs → b ≡ have_ended w
+pub ended_is : (kept : Kept) (w : Work) (jobs : List JobRun) (b : Bool) → RunIs kept w → jobs ≡ kept.kept
+    → b ≡ list_all (λ (k : JobRun). ended_of k.engine) jobs → b ≡ have_ended w
 unfolding have_ended
 ended_is kept w jobs b h is e =
     e ∙ ap (λ ks. list_all (λ (k : JobRun). ended_of k.engine) ks) (is ∙ ap (λ (k : Kept). k.kept) h.is) ∙ all_ended w 0 w.jobs
 
 -- ---- a write is issued
 
-answer_added : (origin : Origin) (stopped : Bool) (h : List window.Event) (old new : Running) (answer : Issue) → old ≡ running_of origin stopped h → StandsFor old h
+answer_added : (origin : Origin) (stopped : Bool) (h : List window.Event) (old new : Running) (answer : Issue) → old ≡ running_of origin stopped h
+    → StandsFor old h
     → new ≡ after_answer old answer → AddsAnswer old new answer → new ≡ running_of origin stopped (with_issue answer h)
 answer_added origin stopped h old new (issues.Write ticket) is s left added =
     (added h s).running_is ∙ ap (λ (r : Running). running_of r.origin r.stopped (window.issue ticket.seq ∷ h)) left
@@ -56,7 +62,8 @@ answer_added origin stopped h old new issues.Overlap is s left added = left ∙ 
 answer_added origin stopped h old new issues.Finished is s left added = left ∙ is
 answer_added origin stopped h old new issues.Stopped is s left added = left ∙ is
 
-pub stands : (origin : Origin) (stopped : Bool) (h : List window.Event) (old : Running) → old ≡ running_of origin stopped h → IsLegal origin.job h → StandsFor old h
+pub stands : (origin : Origin) (stopped : Bool) (h : List window.Event) (old : Running) → old ≡ running_of origin stopped h → IsLegal origin.job h
+    → StandsFor old h
 stands origin stopped h old is legal = subst (λ r. StandsFor r h) (sym is) (record { legal = legal; running_is = refl })
 
 no_marks : (b : Option Halt) (run i : ℕ) → marks_by b run (ToIssue i) ≡ []
@@ -80,9 +87,11 @@ unmarked : (w : Work) (i j : ℕ) → has (marks w.run (ToIssue i ∷ w.since)) 
 unmarked w i j = ap (λ ms. has (ms ++ marks w.run w.since) j) (no_marks (halt_of w.run w.since) w.run i)
 
 unasked : (w : Work) (i j : ℕ) (job : Job) → j ≢ i → history (origin_of w j job) (ToIssue i ∷ w.since) ≡ history (origin_of w j job) w.since
-unasked w i j job ne = let h = history (origin_of w j job) w.since in if_false (with_issue (answer_to (origin_of w j job) (is_halted w) h) h) h (not_other i j ne)
+unasked w i j job ne =
+    let h = history (origin_of w j job) w.since in if_false (with_issue (answer_to (origin_of w j job) (is_halted w) h) h) h (not_other i j ne)
 
-pub issue_step : HistoriesAreLegal → (kept : Kept) (w : Work) (i : ℕ) (old : JobRun) (new : Running) (answer : Issue) → RunIs kept w → slice_get kept.kept i ≡ Some old
+pub issue_step : HistoriesAreLegal → (kept : Kept) (w : Work) (i : ℕ) (old : JobRun) (new : Running) (answer : Issue) → RunIs kept w
+    → slice_get kept.kept i ≡ Some old
     → answer ≡ answer_of old.engine → new ≡ after_answer old.engine answer → AddsAnswer old.engine new answer
     → (answer ≡ issue_of_job w i (slice_get w.jobs i)) × RunIs (record kept { kept = set kept.kept i (record old { engine = new }) }) (and_then w (ToIssue i))
 issue_step legal kept w i old new answer h at e left added =
@@ -97,7 +106,8 @@ issue_step legal kept w i old new answer h at e left added =
     let asked : history origin (ToIssue i ∷ w.since) ≡ with_issue answer past =
     if_true (with_issue (answer_to origin (is_halted w) past) past) past (eq-eqb i i refl) ∙ ap (λ a. with_issue a past) (sym told) in
     let here : (other : Job) → job ≡ other → record old { engine = new } ≡ job_kept (and_then w (ToIssue i)) i other =
-    λ other same. engine_row w (ToIssue i) i job old new (with_issue answer past) p.2 now (or_none (halt_of w.run w.since)) asked (unmarked w i i) ∙ ap (job_kept (and_then w (ToIssue i)) i) same in (
+    λ other same. engine_row w (ToIssue i) i job old new (with_issue answer past) p.2 now (or_none (halt_of w.run w.since)) asked (unmarked w i i)
+    ∙ ap (job_kept (and_then w (ToIssue i)) i) same in (
       told ∙ sym (ap (issue_of_job w i) p.1),
       one_row kept w (ToIssue i) i (record old { engine = new }) h (or_none (halt_of w.run w.since))
           (λ j other ne. unasked w i j other ne)
@@ -111,7 +121,8 @@ issue_step legal kept w i old new answer h at e left added =
 pub no_job : (kept : Kept) (w : Work) (i : ℕ) → RunIs kept w → length kept.kept ≤ i → slice_get w.jobs i ≡ None
 no_job kept w i h past = slice_get_past w.jobs i (subst (λ n. n ≤ i) (ap (λ (k : Kept). length k.kept) h.is ∙ length-numbered (job_kept w) 0 w.jobs) past)
 
-pub no_issue : (kept : Kept) (w : Work) (i : ℕ) → RunIs kept w → length kept.kept ≤ i → (issues.Stopped ≡ issue_of_job w i (slice_get w.jobs i)) × RunIs kept (and_then w (ToIssue i))
+pub no_issue : (kept : Kept) (w : Work) (i : ℕ) → RunIs kept w → length kept.kept ≤ i
+    → (issues.Stopped ≡ issue_of_job w i (slice_get w.jobs i)) × RunIs kept (and_then w (ToIssue i))
 no_issue kept w i h past =
     let none = no_job kept w i h past in (
       sym (ap (issue_of_job w i) none),

@@ -14,13 +14,16 @@ use Rattle.messages.specs.declared.refusal.Asked.{Asked}
 use Rattle.messages.specs.declared.refusal.Asked.TheVariants as asks
 use Rattle.disk_model.specs.Left.{is_lost}
 use Rattle.server_core.specs.History.{Opening, Entry, Met, Cut, Restart}
-use Rattle.server_core.specs.Request.{Request, ToStage, ToStart, ToTrigger, ToMark, ToStop, ToVerify, ToHold, ToPassFully, ToIssue, ToEnd, ToReport, ToNobody, request_of}
+use Rattle.server_core.specs.Request.{Request, ToStage, ToStart, ToTrigger, ToMark, ToStop, ToVerify}
+use Rattle.server_core.specs.Request.{ToHold, ToPassFully, ToIssue, ToEnd, ToReport, ToNobody, request_of}
 use Rattle.server_core.specs.Texts.{jobs_for}
 use Rattle.server_core.specs.Run.{Work, Halt, Triggered, Stopped, halt_of, origin_of, is_open, is_unended}
 use Rattle.server_core.specs.Words.{Staged, for_run}
 use Rattle.server_core.specs.Taken.{job_state}
 use Rattle.server_core.specs.Check.{Check, Progress, Wanting, Full, With, Refused, Done, progress_after, progress_by}
-use Rattle.server_core.specs.Replies.{Now, number_staged, reply_to_text, reply_to_new_jobs, present, reply_to_new_start, reply_to_start, gone_or_unknown, state_frames, reply_to_halt, reply_to_trigger, reply_to_stop, progress_frame, check_frames_from, reply_to_check_text, reply_to_new_check, reply_to_attempt, misfit_frame, reply_to_state_for, reply_to_state, reply_to_report, replies}
+use Rattle.server_core.specs.Replies.{Now, number_staged, reply_to_text, reply_to_new_jobs, present, reply_to_new_start, reply_to_start, gone_or_unknown}
+use Rattle.server_core.specs.Replies.{state_frames, reply_to_halt, reply_to_trigger, reply_to_stop, progress_frame, check_frames_from, reply_to_check_text}
+use Rattle.server_core.specs.Replies.{reply_to_new_check, reply_to_attempt, misfit_frame, reply_to_state_for, reply_to_state, reply_to_report, replies}
 use Rattle.server_core.specs.Answers.{now, refusal, to_client, sent_by, packets}
 use Rattle.messages.specs.Bodies.{kind_of}
 use Rattle.messages.specs.Kinds.{is_of_server}
@@ -128,7 +131,8 @@ trigger_frames n r None = gone_frames asks.Trigger r n.last
 trigger_frames n r (Some w) = halt_frames w n.last (halt_of w.run w.since)
 
 reply_frames : (n : Now) (x : Request) → Each (replies n x)
-reply_frames n (ToStage r text) = each_if (nat_le r n.last || nat_lt r (number_staged n.staged)) _ _ (refl, tt) (new_jobs r (for_run r n.staged) (is_open n.run) (jobs_for Write text))
+reply_frames n (ToStage r text) =
+    each_if (nat_le r n.last || nat_lt r (number_staged n.staged)) _ _ (refl, tt) (new_jobs r (for_run r n.staged) (is_open n.run) (jobs_for Write text))
 reply_frames n (ToStart r) = start_frames n r (present r n.run)
 reply_frames n (ToTrigger r act) = trigger_frames n r (present r n.run)
 reply_frames n (ToMark r j) = tt

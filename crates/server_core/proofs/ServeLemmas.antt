@@ -18,7 +18,8 @@ use Rattle.server_core.specs.declared.outs.Outs.{Outs}
 use Rattle.server_core.specs.declared.packet_server.PacketServer.{PacketServer}
 use Rattle.server_core.specs.History.{Opening, Entry, Met}
 use Rattle.server_core.specs.Note.{Says, spelling}
-use Rattle.server_core.specs.Request.{Request, ToStage, ToStart, ToTrigger, ToMark, ToStop, ToVerify, ToHold, ToPassFully, ToIssue, ToEnd, ToReport, ToNobody, request_of}
+use Rattle.server_core.specs.Request.{Request, ToStage, ToStart, ToTrigger, ToMark, ToStop, ToVerify}
+use Rattle.server_core.specs.Request.{ToHold, ToPassFully, ToIssue, ToEnd, ToReport, ToNobody, request_of}
 use Rattle.server_core.specs.Words.{is_on, boot, last_run, words_noted, due, due_by}
 use Rattle.server_core.specs.Replies.{Now, replies}
 use Rattle.server_core.specs.Answers.{now, refusal, refusal_of, refused_by, packets, to_client, sent_by, shown_entries}
@@ -39,18 +40,23 @@ is_up true e = refl
 is_up false e = cc
 
 -- What a server that is on keeps is kept of the words behind its list.
-pub keeps_now : {T : Type 0} (note : T → Note) (server : PacketServer T) (o : Opening) (past : List Entry) → server.down ≡ false → StandsFor note server o past → (is_on past ≡ true) × MachineIs server.machine (now o past)
+pub keeps_now : {T : Type 0} (note : T → Note) (server : PacketServer T) (o : Opening) (past : List Entry) → server.down ≡ false → StandsFor note server o past
+    → (is_on past ≡ true) × MachineIs server.machine (now o past)
 keeps_now note server o past up s =
     let on = is_up (is_on past) (sym up ∙ s.on) in
     (on, subst (λ p. MachineIs server.machine (now o p)) (looked_on past on) s.keeps)
 
 -- It stands for the list with an event that made no save, where it keeps what is kept of the words behind it.
-pub stands_with : {T : Type 0} (note : T → Note) (server : PacketServer T) (m : Machine) (o : Opening) (past : List Entry) (e : Event) → server.down ≡ false → StandsFor note server o past → is_on past ≡ true → due o past e ≡ None
-    → MachineIs m (words_after (now o past) (request_of o.me e)) → StandsFor note (record { notes = server.notes; down = server.down; machine = m }) o (Met e NoSave ∷ past)
+pub stands_with : {T : Type 0} (note : T → Note) (server : PacketServer T) (m : Machine) (o : Opening) (past : List Entry) (e : Event) → server.down ≡ false
+    → StandsFor note server o past → is_on past ≡ true → due o past e ≡ None
+    → MachineIs m (words_after (now o past) (request_of o.me e))
+    → StandsFor note (record { notes = server.notes; down = server.down; machine = m }) o (Met e NoSave ∷ past)
 stands_with note server m o past e up s on none k = record {
   on = up ∙ sym (ap (λ b. not (b && true)) on);
-  durable = subst (λ n. Says (note server.notes).bytes (record { boot = boot o past; last_run = n })) (sym (unsaved (due o past e) (last_run o past))) s.durable;
-  keeps = subst (λ p. MachineIs m (now o p)) (sym (ap (λ b. if b then Met e NoSave ∷ past else shown_entries past) on)) (subst (λ n. MachineIs m n) (sym (follows o past e on none)) k);
+  durable = subst (λ n. Says (note server.notes).bytes (record { boot = boot o past; last_run = n }))
+      (sym (unsaved (due o past e) (last_run o past))) s.durable;
+  keeps = subst (λ p. MachineIs m (now o p)) (sym (ap (λ b. if b then Met e NoSave ∷ past else shown_entries past) on))
+      (subst (λ n. MachineIs m n) (sym (follows o past e on none)) k);
 }
 
 -- ---- refusals
@@ -98,8 +104,10 @@ sendable frames ranges o past e h = record {
 
 -- ---- an event that is not due to record a run
 
-ends : {T : Type 0} (note : T → Note) (server : PacketServer T) (m : Machine) (o : Opening) (past : List Entry) (e : Event) (result : Result Outs Fault) → server.down ≡ false → StandsFor note server o past → is_on past ≡ true → MachineIs server.machine (now o past)
-    → due o past e ≡ None → IsSendable o past e → Handled (now o past) (request_of o.me e) server.machine m result → Ends (steps note o) past e server (record { notes = server.notes; down = server.down; machine = m }) result
+ends : {T : Type 0} (note : T → Note) (server : PacketServer T) (m : Machine) (o : Opening) (past : List Entry) (e : Event) (result : Result Outs Fault)
+    → server.down ≡ false → StandsFor note server o past → is_on past ≡ true → MachineIs server.machine (now o past)
+    → due o past e ≡ None → IsSendable o past e → Handled (now o past) (request_of o.me e) server.machine m result
+    → Ends (steps note o) past e server (record { notes = server.notes; down = server.down; machine = m }) result
 ends note server m o past e (Ok outs) up s on k none can a =
     let free : refusal o past e ≡ None = ap (λ b. if b then refusal_of (now o past) (request_of o.me e) else Some Down) on ∙ a.free in
     let frames : outs.frames ≡ flat_map spelled_frames (packets o past (answered_entry o past e)) =
@@ -115,33 +123,41 @@ ends note server m o past e (Ok outs) up s on k none can a =
         ranges = can.ranges;
       };
       leaves = subst (λ d. LeavesNote d (spelling (words_noted o (answered_entry o past e ∷ past))) (note server.notes) (note server.notes)) (sym none) refl;
-      stands = subst (λ d. StandsFor note (record { notes = server.notes; down = server.down; machine = m }) o (Met e (saved_for d) ∷ past)) (sym none) (stands_with note server m o past e up s on none a.left);
+      stands = subst (λ d. StandsFor note (record { notes = server.notes; down = server.down; machine = m }) o (Met e (saved_for d) ∷ past)) (sym none)
+          (stands_with note server m o past e up s on none a.left);
     }
 ends note server m o past e (Err fault) up s on k none can u = by_why u.why
   where
     unchanged : StandsFor note (record { notes = server.notes; down = server.down; machine = m }) o past
     unchanged = record { on = s.on; durable = s.durable; keeps = subst (λ x. MachineIs x (now o (shown_entries past))) (sym u.same) s.keeps }
 
-    by_why : (fault ≡ NoMemory) ⊎ (refusal_of (now o past) (request_of o.me e) ≡ Some fault) → Faults (steps note o) past e (sort_of fault) fault server (record { notes = server.notes; down = server.down; machine = m })
-    by_why (inl w) = subst (λ t. Faults (steps note o) past e t fault server (record { notes = server.notes; down = server.down; machine = m })) (sym (ap sort_of w)) (record { why = w; same_note = refl; unchanged = unchanged })
+    by_why : (fault ≡ NoMemory) ⊎ (refusal_of (now o past) (request_of o.me e) ≡ Some fault)
+        → Faults (steps note o) past e (sort_of fault) fault server (record { notes = server.notes; down = server.down; machine = m })
+    by_why (inl w) = subst (λ t. Faults (steps note o) past e t fault server (record { notes = server.notes; down = server.down; machine = m }))
+        (sym (ap sort_of w)) (record { why = w; same_note = refl; unchanged = unchanged })
     by_why (inr w) =
-        subst (λ t. Faults (steps note o) past e t fault server (record { notes = server.notes; down = server.down; machine = m })) (sym (refusal_sort (now o past) (request_of o.me e) fault w))
+        subst (λ t. Faults (steps note o) past e t fault server (record { notes = server.notes; down = server.down; machine = m }))
+        (sym (refusal_sort (now o past) (request_of o.me e) fault w))
         (record {
           why = ap (λ b. if b then refusal_of (now o past) (request_of o.me e) else Some Down) on ∙ w;
           same_note = refl;
           unchanged = unchanged;
-          stands = stands_with note server m o past e up s on none (refused_stays m (now o past) (request_of o.me e) fault (subst (λ x. MachineIs x (now o past)) (sym u.same) k) w);
+          stands = stands_with note server m o past e up s on none
+              (refused_stays m (now o past) (request_of o.me e) fault (subst (λ x. MachineIs x (now o past)) (sym u.same) k) w);
         })
 
-pub taken : {T : Type 0} (note : T → Note) (server : PacketServer T) (m : Machine) (o : Opening) (past : List Entry) (e : Event) (result : Result Outs Fault) → server.down ≡ false → StandsFor note server o past
+pub taken : {T : Type 0} (note : T → Note) (server : PacketServer T) (m : Machine) (o : Opening) (past : List Entry) (e : Event) (result : Result Outs Fault)
+    → server.down ≡ false → StandsFor note server o past
     → EachNow server.machine (λ words. IsDueFor words (request_of server.machine.me e) None)
     → EachUndue server.machine (request_of server.machine.me e) (λ words. Handled words (request_of server.machine.me e) server.machine m result)
-    → ((o : Opening) (past : List Entry) → IsSendable o past e) → Ends (steps note o) past e server (record { notes = server.notes; down = server.down; machine = m }) result
+    → ((o : Opening) (past : List Entry) → IsSendable o past e)
+    → Ends (steps note o) past e server (record { notes = server.notes; down = server.down; machine = m }) result
 taken note server m o past e result up s undue handled can =
     let k = keeps_now note server o past up s in
     let me = k.1.me in
     let words = now o past in
-    let none : due o past e ≡ None = ap (λ b. due_by b words.last words.staged words.run (request_of o.me e)) k.0 ∙ ap (λ n. due_by true words.last words.staged words.run (request_of n e)) (sym me) ∙ undue words k.1 in
+    let none : due o past e ≡ None = ap (λ b. due_by b words.last words.staged words.run (request_of o.me e)) k.0
+    ∙ ap (λ n. due_by true words.last words.staged words.run (request_of n e)) (sym me) ∙ undue words k.1 in
     ends note server m o past e result up s k.0 k.1 none (can o past)
     (subst (λ n. Handled words (request_of n e) server.machine m result) me (handled words k.1 (undue words k.1)))
 
@@ -151,10 +167,12 @@ is_due_at : (words : Now) (x : Request) (run : Option ℕ) → IsDueFor words x 
 is_due_at words x None d = ap is_some (sym d)
 is_due_at words x (Some r) d = sym d.1
 
-pub saves_where_due : {T : Type 0} (note : T → Note) (server : PacketServer T) (o : Opening) (past : List Entry) (e : Event) (run : Option ℕ) → server.down ≡ false → StandsFor note server o past
+pub saves_where_due : {T : Type 0} (note : T → Note) (server : PacketServer T) (o : Opening) (past : List Entry) (e : Event) (run : Option ℕ)
+    → server.down ≡ false → StandsFor note server o past
     → EachNow server.machine (λ words. IsDueFor words (request_of server.machine.me e) run) → is_some run ≡ is_some (due o past e)
 saves_where_due note server o past e run up s d =
     let k = keeps_now note server o past up s in
     let words = now o past in
-    is_due_at words (request_of server.machine.me e) run (d words k.1) ∙ ap (λ n. is_some (due_by true words.last words.staged words.run (request_of n e))) k.1.me
+    is_due_at words (request_of server.machine.me e) run (d words k.1)
+    ∙ ap (λ n. is_some (due_by true words.last words.staged words.run (request_of n e))) k.1.me
     ∙ ap (λ b. is_some (due_by b words.last words.staged words.run (request_of o.me e))) (sym k.0)

@@ -13,10 +13,12 @@ use Rattle.disk_model.specs.declared.left.Left.{Left}
 use Rattle.disk_model.specs.declared.left.Left.TheVariants.{NoSave, Saved, LostNew, LostOld}
 use Rattle.server_core.specs.declared.event.Event.{Event}
 use Rattle.server_core.specs.History.{Opening, Entry, Met, Cut, Restart}
-use Rattle.server_core.specs.Request.{Request, ToStage, ToStart, ToTrigger, ToMark, ToStop, ToVerify, ToHold, ToPassFully, ToIssue, ToEnd, ToReport, ToNobody, request_of}
+use Rattle.server_core.specs.Request.{Request, ToStage, ToStart, ToTrigger, ToMark, ToStop, ToVerify}
+use Rattle.server_core.specs.Request.{ToHold, ToPassFully, ToIssue, ToEnd, ToReport, ToNobody, request_of}
 use Rattle.server_core.specs.Texts.{jobs_by, jobs_for, is_phase}
 use Rattle.server_core.specs.Run.{Work, goes_on, is_open, is_unended}
-use Rattle.server_core.specs.Words.{Staged, staged_by, stages, staged_after, greater, greatest, for_run, due_by, work_after, is_on, boot, last_run, stagings, staged_run, work, due}
+use Rattle.server_core.specs.Words.{Staged, staged_by, stages, staged_after, greater, greatest, for_run}
+use Rattle.server_core.specs.Words.{due_by, work_after, is_on, boot, last_run, stagings, staged_run, work, due}
 use Rattle.server_core.specs.Check.{Check, is_above, new_check, opens, check_goes_on, or_opened, check_after, check}
 use Rattle.server_core.specs.Laws.{IsSet, TextsGiveSets}
 
@@ -80,9 +82,11 @@ by_text : (R : ℕ → Type 0) (r : ℕ) (found : Result (List Job) ℕ) → R r
 by_text R r (Ok js) h f = record { run = h; jobs = f js refl }
 by_text R r (Err value) h f = tt
 
-stages_fit : (Q : Request → Type 0) (R A : ℕ → Type 0) → Rules Q R A → (on : Bool) (last : ℕ) (now : Option Work) (x : Request) → Q x → SomeStaged R (stages on last now x)
+stages_fit : (Q : Request → Type 0) (R A : ℕ → Type 0) → Rules Q R A → (on : Bool) (last : ℕ) (now : Option Work) (x : Request) → Q x
+    → SomeStaged R (stages on last now x)
 stages_fit Q R A k on last now (ToStage r text) q =
-    if_staged R (on && (nat_lt last r && not (is_open now))) (staged_by r (jobs_for Write text)) (by_text R r (jobs_for Write text) (k.to_stage r text q) (k.texts Write text))
+    if_staged R (on && (nat_lt last r && not (is_open now))) (staged_by r (jobs_for Write text))
+    (by_text R r (jobs_for Write text) (k.to_stage r text q) (k.texts Write text))
 stages_fit Q R A k on last now (ToStart r) q = tt
 stages_fit Q R A k on last now (ToTrigger r act) q = tt
 stages_fit Q R A k on last now (ToMark r j) q = tt
@@ -95,7 +99,8 @@ stages_fit Q R A k on last now (ToEnd ticket end) q = tt
 stages_fit Q R A k on last now (ToReport b a j report) q = tt
 stages_fit Q R A k on last now ToNobody q = tt
 
-after_fits : (R : ℕ → Type 0) (left : Left) (new : Option Staged) (older : List Staged) → SomeStaged R new → AllByRecursion (StagedFits R) older → AllByRecursion (StagedFits R) (staged_after left new older)
+after_fits : (R : ℕ → Type 0) (left : Left) (new : Option Staged) (older : List Staged) → SomeStaged R new → AllByRecursion (StagedFits R) older
+    → AllByRecursion (StagedFits R) (staged_after left new older)
 after_fits R NoSave None older h k = k
 after_fits R NoSave (Some s) older h k = (h, k)
 after_fits R Saved None older h k = k
@@ -119,7 +124,8 @@ pub for_run_fits : (R : ℕ → Type 0) (r : ℕ) (s : Option Staged) → SomeSt
 for_run_fits R r None h = tt
 for_run_fits R r (Some s) h = if_staged R (s.run == r) (Some s) h
 
-due_fits : (R : ℕ → Type 0) (on : Bool) (last : ℕ) (s : Option Staged) (now : Option Work) (x : Request) → SomeStaged R s → SomeStaged R (due_by on last s now x)
+due_fits : (R : ℕ → Type 0) (on : Bool) (last : ℕ) (s : Option Staged) (now : Option Work) (x : Request) → SomeStaged R s
+    → SomeStaged R (due_by on last s now x)
 due_fits R on last s now (ToStart r) h = if_staged R (on && (nat_lt last r && not (is_open now))) (for_run r s) (for_run_fits R r s h)
 due_fits R on last s now (ToStage r text) h = tt
 due_fits R on last s now (ToTrigger r act) h = tt
@@ -139,7 +145,8 @@ on_fits : (R : ℕ → Type 0) (x : Request) (w : Option Work) → SomeWork R w 
 on_fits R x None h = tt
 on_fits R x (Some w) h = record { run = h.run; jobs = h.jobs }
 
-work_fits : (R : ℕ → Type 0) (left : Left) (d : Option Staged) (me b : ℕ) (x : Request) (w : Option Work) → SomeStaged R d → SomeWork R w → SomeWork R (work_after left d me b x w)
+work_fits : (R : ℕ → Type 0) (left : Left) (d : Option Staged) (me b : ℕ) (x : Request) (w : Option Work) → SomeStaged R d → SomeWork R w
+    → SomeWork R (work_after left d me b x w)
 work_fits R NoSave d me b x w h k = on_fits R x w k
 work_fits R Saved None me b x w h k = on_fits R x w k
 work_fits R Saved (Some s) me b x w h k = record { run = h.run; jobs = h.jobs }
@@ -148,7 +155,8 @@ work_fits R LostOld d me b x w h k = tt
 
 -- ---- the open check
 
-opened_fits : (Q : Request → Type 0) (R A : ℕ → Type 0) (me b r a : ℕ) (found : Result (List Job) ℕ) → R r → A a → ((js : List Job) → found ≡ Ok js → IsSet js) → SomeCheck Q R A (new_check me b r a found)
+opened_fits : (Q : Request → Type 0) (R A : ℕ → Type 0) (me b r a : ℕ) (found : Result (List Job) ℕ) → R r → A a → ((js : List Job) → found ≡ Ok js → IsSet js)
+    → SomeCheck Q R A (new_check me b r a found)
 opened_fits Q R A me b r a (Ok js) h k f = record { run = h; attempt = k; jobs = f js refl; since = tt }
 opened_fits Q R A me b r a (Err value) h k f = tt
 
@@ -156,7 +164,8 @@ if_opened : (Q : Request → Type 0) (R A : ℕ → Type 0) (t : Bool) (c : Opti
 if_opened Q R A true c h = h
 if_opened Q R A false c h = tt
 
-opens_fit : (Q : Request → Type 0) (R A : ℕ → Type 0) → Rules Q R A → (on : Bool) (me b last : ℕ) (w : Option Work) (old : Option Check) (x : Request) → Q x → SomeCheck Q R A (opens on me b last w old x)
+opens_fit : (Q : Request → Type 0) (R A : ℕ → Type 0) → Rules Q R A → (on : Bool) (me b last : ℕ) (w : Option Work) (old : Option Check) (x : Request) → Q x
+    → SomeCheck Q R A (opens on me b last w old x)
 opens_fit Q R A k on me b last w old (ToVerify r a text) q =
     let n = k.to_verify r a text q in
     if_opened Q R A (on && ((r == last) && (is_above a old && (not (is_open w) && not (is_unended w))))) (new_check me b r a (jobs_for Read text))
@@ -173,12 +182,14 @@ opens_fit Q R A k on me b last w old (ToEnd ticket end) q = tt
 opens_fit Q R A k on me b last w old (ToReport c a j report) q = tt
 opens_fit Q R A k on me b last w old ToNobody q = tt
 
-goes_fit : (Q : Request → Type 0) (R A : ℕ → Type 0) (x : Request) (new old : Option Check) → Q x → SomeCheck Q R A new → SomeCheck Q R A old → SomeCheck Q R A (or_opened new (check_goes_on x old))
+goes_fit : (Q : Request → Type 0) (R A : ℕ → Type 0) (x : Request) (new old : Option Check) → Q x → SomeCheck Q R A new → SomeCheck Q R A old
+    → SomeCheck Q R A (or_opened new (check_goes_on x old))
 goes_fit Q R A x (Some c) old q h k = h
 goes_fit Q R A x None None q h k = tt
 goes_fit Q R A x None (Some c) q h k = record { run = k.run; attempt = k.attempt; jobs = k.jobs; since = (q, k.since) }
 
-check_fits : (Q : Request → Type 0) (R A : ℕ → Type 0) (left : Left) (d : Option Staged) (x : Request) (new old : Option Check) → Q x → SomeCheck Q R A new → SomeCheck Q R A old → SomeCheck Q R A (check_after left d new x old)
+check_fits : (Q : Request → Type 0) (R A : ℕ → Type 0) (left : Left) (d : Option Staged) (x : Request) (new old : Option Check) → Q x → SomeCheck Q R A new
+    → SomeCheck Q R A old → SomeCheck Q R A (check_after left d new x old)
 check_fits Q R A NoSave d x new old q h k = goes_fit Q R A x new old q h k
 check_fits Q R A Saved None x new old q h k = goes_fit Q R A x new old q h k
 check_fits Q R A Saved (Some s) x new old q h k = tt
@@ -204,9 +215,11 @@ known Q R A rules o (Met e left ∷ past) h =
     let k = known Q R A rules o past h.1 in
     let x = request_of o.me e in
     record {
-      all_staged = after_fits R left (stages (is_on past) (last_run o past) (work o past) x) (stagings o past) (stages_fit Q R A rules (is_on past) (last_run o past) (work o past) x h.0) k.all_staged;
+      all_staged = after_fits R left (stages (is_on past) (last_run o past) (work o past) x) (stagings o past)
+          (stages_fit Q R A rules (is_on past) (last_run o past) (work o past) x h.0) k.all_staged;
       run = work_fits R left (due o past e) o.me (boot o past) x (work o past) (due_known Q R A o past e k) k.run;
-      check_is = check_fits Q R A left (due o past e) x (opens (is_on past) o.me (boot o past) (last_run o past) (work o past) (check o past) x) (check o past) h.0
+      check_is = check_fits Q R A left (due o past e) x (opens (is_on past) o.me (boot o past) (last_run o past) (work o past) (check o past) x)
+          (check o past) h.0
           (opens_fit Q R A rules (is_on past) o.me (boot o past) (last_run o past) (work o past) (check o past) x h.0) k.check_is;
     }
 known Q R A rules o (Cut ∷ past) h = record { all_staged = tt; run = tt; check_is = tt }

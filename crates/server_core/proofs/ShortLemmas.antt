@@ -43,9 +43,11 @@ uncut : (n : ℕ) → n ≤ CHUNK_LIMIT → nat_lt CHUNK_LIMIT n ≡ false
 uncut n h = grind (arith, nat_tests, h)
 
 one_frame : LengthsAreBounded → (p : PacketParts) → IsPacket p → is_of_server (kind_of p.body) ≡ true → length (spelled_frames p) ≡ 1
-one_frame bounded p h k = one_if p (nat_lt CHUNK_LIMIT (length_of p.body)) (uncut (length_of p.body) (omega (arith, bounded p.body (body_in_range p h) h.state, short_kind (kind_of p.body) k)))
+one_frame bounded p h k = one_if p (nat_lt CHUNK_LIMIT (length_of p.body))
+    (uncut (length_of p.body) (omega (arith, bounded p.body (body_in_range p h) h.state, short_kind (kind_of p.body) k)))
 
-as_many : LengthsAreBounded → (ps : List PacketParts) → AllByRecursion IsPacket ps → ((p : PacketParts) → Contains ps p → is_of_server (kind_of p.body) ≡ true) → length (flat_map spelled_frames ps) ≡ length ps
+as_many : LengthsAreBounded → (ps : List PacketParts) → AllByRecursion IsPacket ps → ((p : PacketParts) → Contains ps p → is_of_server (kind_of p.body) ≡ true)
+    → length (flat_map spelled_frames ps) ≡ length ps
 as_many bounded [] h k = refl
 as_many bounded (p ∷ ps) h k = omega (
   arith,
@@ -56,7 +58,8 @@ as_many bounded (p ∷ ps) h k = omega (
 
 all_short : FramesAreFew → (ps : List PacketParts) → AllByRecursion IsPacket ps → All (λ frame. length frame ≤ MAX_FRAME) (flat_map spelled_frames ps)
 all_short few [] h = All-nil (λ (frame : List ℕ). length frame ≤ MAX_FRAME)
-all_short few (p ∷ ps) h = All-append (λ (frame : List ℕ). length frame ≤ MAX_FRAME) (spelled_frames p) (flat_map spelled_frames ps) (few p h.0).short (all_short few ps h.1)
+all_short few (p ∷ ps) h =
+    All-append (λ (frame : List ℕ). length frame ≤ MAX_FRAME) (spelled_frames p) (flat_map spelled_frames ps) (few p h.0).short (all_short few ps h.1)
 
 pub frames_are_short : PacketsAreFew → PacketsAreInRange → PacketsGoToClient → FramesAreFew → LengthsAreBounded → FramesAreShort
 frames_are_short few ranges kinds frames bounded o past e i h =

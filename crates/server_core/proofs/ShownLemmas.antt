@@ -14,7 +14,8 @@ use Rattle.server_core.proofs.NumberedLemmas.{job_of, each_at}
 use Rattle.server_core.proofs.RunLemmas.{no_job}
 
 -- The state that is kept of a job is the one that was taken.
-pub taken_here : (kept : Kept) (w : Work) (i : ℕ) (k : JobRun) → RunIs kept w → slice_get kept.kept i ≡ Some k → k.taken ≡ taken_by_halt w i (halt_of w.run w.since)
+pub taken_here : (kept : Kept) (w : Work) (i : ℕ) (k : JobRun) → RunIs kept w → slice_get kept.kept i ≡ Some k
+    → k.taken ≡ taken_by_halt w i (halt_of w.run w.since)
 taken_here kept w i k is at = ap (λ (j : JobRun). j.taken) (job_of (job_kept w) w.jobs i k (subst (λ (q : Kept). slice_get q.kept i ≡ Some k) is.is at)).2
 
 -- Where there is no such job, none was taken.

@@ -22,5 +22,6 @@ starts_grow o older between e f left s t n d h =
     let list = Met e left ∷ older in
     let here : last_run o list ≡ s.run = recorded_new left (due o older e) s (last_run o older) n d in
     let g = grows_on o between list in
-    let above = (due_start (is_on (between ++ list)) (last_run o (between ++ list)) (staged_run o (between ++ list)) (work o (between ++ list)) (request_of o.me f) t h).above in
+    let above = (due_start (is_on (between ++ list)) (last_run o (between ++ list)) (staged_run o (between ++ list)) (work o (between ++ list))
+    (request_of o.me f) t h).above in
     omega arith

@@ -59,11 +59,14 @@ abbrev noted_as : ℕ → ℕ → Noted
 noted_as b run = record { boot = b; last_run = run }
 
 -- The durable bytes say the boot and a run that was recorded.
-new_says : (bytes : List ℕ) (b mine last run : ℕ) → Says bytes (record { boot = b; last_run = last }) → mine ≡ b → run < 2 ^ 64 → (new : List ℕ) → new ≡ spelling (record { boot = mine; last_run = run }) → Says new (record { boot = b; last_run = run })
-new_says bytes b mine last run s same fits new is = record { boot_range = s.boot_range; last_range = fits; spelled = inl (is ∙ ap (λ n. spelling (record { boot = n; last_run = run })) same) }
+new_says : (bytes : List ℕ) (b mine last run : ℕ) → Says bytes (record { boot = b; last_run = last }) → mine ≡ b → run < 2 ^ 64 → (new : List ℕ)
+    → new ≡ spelling (record { boot = mine; last_run = run }) → Says new (record { boot = b; last_run = run })
+new_says bytes b mine last run s same fits new is =
+    record { boot_range = s.boot_range; last_range = fits; spelled = inl (is ∙ ap (λ n. spelling (record { boot = n; last_run = run })) same) }
 
 -- A boot and a run that was recorded are what is noted then.
-to_note : (o : Opening) (past : List Entry) (e : Event) (run : ℕ) (s : Staged) (mine : ℕ) (left : Left) → has_new left ≡ true → mine ≡ boot o past → IsStart o past e run s
+to_note : (o : Opening) (past : List Entry) (e : Event) (run : ℕ) (s : Staged) (mine : ℕ) (left : Left) → has_new left ≡ true → mine ≡ boot o past
+    → IsStart o past e run s
     → noted_as mine run ≡ words_noted o (Met e left ∷ past)
 to_note o past e run s mine left new same d =
     ap (λ b. noted_as b run) same
@@ -75,14 +78,16 @@ to_note o past e run s mine left new same d =
     by_left LostOld h = cc
     by_left NoSave h = cc
 
-begun : {T : Type 0} (note : T → Note) (old new : PacketServer T) (o : Opening) (past : List Entry) (e : Event) (run : ℕ) (s : Staged) (outs : Outs) → old.down ≡ false → StandsFor note old o past → MachineIs old.machine (now o past) → run < 2 ^ 64 → IsStart o past e run s
+begun : {T : Type 0} (note : T → Note) (old new : PacketServer T) (o : Opening) (past : List Entry) (e : Event) (run : ℕ) (s : Staged) (outs : Outs)
+    → old.down ≡ false → StandsFor note old o past → MachineIs old.machine (now o past) → run < 2 ^ 64 → IsStart o past e run s
     → IsSendable o past e → Starts note run old new (Ok outs) → Answers (steps note o) past e old new outs
 begun note old new o past e run s outs up stands k fits d can p =
     let q = p.2 (now o past) s k d.words in
     let free = free_of o past e run s d in
     let last : last_run o (Met e Saved ∷ past) ≡ run = ap (λ x. last_run_after Saved x (last_run o past)) d.is ∙ d.run_is in
     let bytes : (note new.notes).bytes ≡ spelling (record { boot = old.machine.boot; last_run = run }) = ap (λ (n : Note). n.bytes) p.0 in
-    let says = new_says (note old.notes).bytes (boot o past) old.machine.boot (last_run o past) run stands.durable k.boot_is fits (note new.notes).bytes bytes in
+    let says = new_says (note old.notes).bytes (boot o past) old.machine.boot (last_run o past) run stands.durable k.boot_is fits
+    (note new.notes).bytes bytes in
     let frames : outs.frames ≡ flat_map spelled_frames (packets o past (answered_entry o past e)) =
     ap (λ (x : Outs). x.frames) q.0 ∙ ap (λ x. frames_to_client o.me (replies (now o past) x)) (sym d.asks)
     ∙ ap (λ r. flat_map spelled_frames (to_client o.me (sent_by false r (replies (now o past) (request_of o.me e))))) (sym free)
@@ -102,11 +107,13 @@ begun note old new o past e run s outs up stands k fits d can p =
           (record {
             on = p.1 ∙ up ∙ sym (ap (λ b. not (b && true)) d.on);
             durable = subst (λ n. Says (note new.notes).bytes (record { boot = boot o past; last_run = n })) (sym last) says;
-            keeps = subst (λ l. MachineIs new.machine (now o l)) (sym (ap (λ b. if b then Met e Saved ∷ past else shown_entries past) d.on)) (subst (λ n. MachineIs new.machine n) (sym (starts_follow o past e s d.is)) q.1);
+            keeps = subst (λ l. MachineIs new.machine (now o l)) (sym (ap (λ b. if b then Met e Saved ∷ past else shown_entries past) d.on))
+                (subst (λ n. MachineIs new.machine n) (sym (starts_follow o past e s d.is)) q.1);
           });
     }
 
-unbegun : {T : Type 0} (note : T → Note) (old new : PacketServer T) (o : Opening) (past : List Entry) (e : Event) (run : ℕ) (s : Staged) (t : FaultSort) (fault : Fault) → old.down ≡ false → StandsFor note old o past → MachineIs old.machine (now o past) → run < 2 ^ 64 → IsStart o past e run s
+unbegun : {T : Type 0} (note : T → Note) (old new : PacketServer T) (o : Opening) (past : List Entry) (e : Event) (run : ℕ) (s : Staged) (t : FaultSort)
+    (fault : Fault) → old.down ≡ false → StandsFor note old o past → MachineIs old.machine (now o past) → run < 2 ^ 64 → IsStart o past e run s
     → Unstarted note run t fault old new → Faults (steps note o) past e t fault old new
 unbegun note old new o past e run s sorts.Memory fault up stands k fits d u = record {
   why = u.0;
@@ -120,7 +127,8 @@ unbegun note old new o past e run s sorts.Memory fault up stands k fits d u = re
 unbegun note old new o past e run s sorts.Refusal fault up stands k fits d u = absurd u
 unbegun note old new o past e run s sorts.Save fault up stands k fits d u = by_bytes u.1
   where
-    by_bytes : ((note new.notes).bytes ≡ (note old.notes).bytes) ⊎ ((note new.notes).bytes ≡ spelling (record { boot = old.machine.boot; last_run = run })) → Fails (steps note o) past e old new
+    by_bytes : ((note new.notes).bytes ≡ (note old.notes).bytes) ⊎ ((note new.notes).bytes ≡ spelling (record { boot = old.machine.boot; last_run = run }))
+        → Fails (steps note o) past e old new
     by_bytes (inl same) = record {
       cause = u.0;
       free = free_of o past e run s d;
@@ -131,9 +139,11 @@ unbegun note old new o past e run s sorts.Save fault up stands k fits d u = by_b
       bytes_are = same;
       stands = record {
         on = u.2 ∙ sym (ap (λ b. not (b && false)) d.on);
-        durable = subst (λ n. Says (note new.notes).bytes (record { boot = boot o past; last_run = n })) (sym (ap (λ x. last_run_after LostOld x (last_run o past)) d.is))
+        durable = subst (λ n. Says (note new.notes).bytes (record { boot = boot o past; last_run = n }))
+            (sym (ap (λ x. last_run_after LostOld x (last_run o past)) d.is))
             (subst (λ bs. Says bs (record { boot = boot o past; last_run = last_run o past })) (sym same) stands.durable);
-        keeps = subst (λ l. MachineIs new.machine (now o l)) (sym (ap (λ b. if b then past else shown_entries past) d.on)) (subst (λ m. MachineIs m (now o past)) (sym u.3) k);
+        keeps = subst (λ l. MachineIs new.machine (now o l)) (sym (ap (λ b. if b then past else shown_entries past) d.on))
+            (subst (λ m. MachineIs m (now o past)) (sym u.3) k);
       };
     }
     by_bytes (inr new_bytes) = record {
@@ -146,26 +156,33 @@ unbegun note old new o past e run s sorts.Save fault up stands k fits d u = by_b
       bytes_are = new_bytes ∙ ap spelling (to_note o past e run s old.machine.boot LostNew refl k.boot_is d);
       stands = record {
         on = u.2 ∙ sym (ap (λ b. not (b && false)) d.on);
-        durable = subst (λ n. Says (note new.notes).bytes (record { boot = boot o past; last_run = n })) (sym (ap (λ x. last_run_after LostNew x (last_run o past)) d.is ∙ d.run_is))
-            (new_says (note old.notes).bytes (boot o past) old.machine.boot (last_run o past) run stands.durable k.boot_is fits (note new.notes).bytes new_bytes);
-        keeps = subst (λ l. MachineIs new.machine (now o l)) (sym (ap (λ b. if b then past else shown_entries past) d.on)) (subst (λ m. MachineIs m (now o past)) (sym u.3) k);
+        durable = subst (λ n. Says (note new.notes).bytes (record { boot = boot o past; last_run = n }))
+            (sym (ap (λ x. last_run_after LostNew x (last_run o past)) d.is ∙ d.run_is))
+            (new_says (note old.notes).bytes (boot o past) old.machine.boot (last_run o past) run stands.durable k.boot_is fits
+            (note new.notes).bytes new_bytes);
+        keeps = subst (λ l. MachineIs new.machine (now o l)) (sym (ap (λ b. if b then past else shown_entries past) d.on))
+            (subst (λ m. MachineIs m (now o past)) (sym u.3) k);
       };
     }
 
-ends : {T : Type 0} (note : T → Note) (old new : PacketServer T) (o : Opening) (past : List Entry) (e : Event) (run : ℕ) (s : Staged) (result : Result Outs Fault) → old.down ≡ false → StandsFor note old o past → MachineIs old.machine (now o past) → run < 2 ^ 64 → IsStart o past e run s
+ends : {T : Type 0} (note : T → Note) (old new : PacketServer T) (o : Opening) (past : List Entry) (e : Event) (run : ℕ) (s : Staged)
+    (result : Result Outs Fault) → old.down ≡ false → StandsFor note old o past → MachineIs old.machine (now o past) → run < 2 ^ 64 → IsStart o past e run s
     → IsSendable o past e → Starts note run old new result → Ends (steps note o) past e old new result
 ends note old new o past e run s (Ok outs) up stands k fits d can p = begun note old new o past e run s outs up stands k fits d can p
 ends note old new o past e run s (Err fault) up stands k fits d can u = unbegun note old new o past e run s (sort_of fault) fault up stands k fits d u
 
-pub started : {T : Type 0} (note : T → Note) (old new : PacketServer T) (o : Opening) (past : List Entry) (e : Event) (run : ℕ) (result : Result Outs Fault) → old.down ≡ false → StandsFor note old o past → is_run run ≡ true
-    → EachNow old.machine (λ words. IsDueFor words (request_of old.machine.me e) (Some run)) → Starts note run old new result → IsSendable o past e → Ends (steps note o) past e old new result
+pub started : {T : Type 0} (note : T → Note) (old new : PacketServer T) (o : Opening) (past : List Entry) (e : Event) (run : ℕ) (result : Result Outs Fault)
+    → old.down ≡ false → StandsFor note old o past → is_run run ≡ true
+    → EachNow old.machine (λ words. IsDueFor words (request_of old.machine.me e) (Some run)) → Starts note run old new result → IsSendable o past e
+    → Ends (steps note o) past e old new result
 started note old new o past e run result up stands range is p can =
     let k = keeps_now note old o past up stands in
     let words = now o past in
     let d = is words k.1 in
     let asks : request_of o.me e ≡ ToStart run = ap (λ n. request_of n e) (sym k.1.me) ∙ d.0 in
     let found = there (due_by true words.last words.staged words.run (request_of old.machine.me e)) d.1 in
-    let told : due_by true words.last words.staged words.run (ToStart run) ≡ Some found.0 = ap (due_by true words.last words.staged words.run) (sym d.0) ∙ found.1 in
+    let told : due_by true words.last words.staged words.run (ToStart run) ≡ Some found.0 =
+    ap (due_by true words.last words.staged words.run) (sym d.0) ∙ found.1 in
     let fits = ltb-true run (2 ^ 64) (and_parts (nat_le 1 run) (is_word run) range).1 in
     ends note old new o past e run found.0 result up stands k.1 fits
     (record {

@@ -52,13 +52,15 @@ run_parts r h = and_parts (nat_le 1 r) (is_word r) h
 pub run_below : (r : ℕ) → is_run r ≡ true → r < 2 ^ 64
 run_below r h = ltb-true r (2 ^ 64) (run_parts r h).1
 
-pub state_fits : HistoriesAreLegal → ComesToPossible → (w : Work) (j : ℕ) (job : Job) (before : List Request) → is_run w.run ≡ true → w.server < MAX_SERVERS → j < MAX_JOBS → is_within_limits job.rec ≡ true → FitsItsWidths job → IsState (job_state (origin_of w j job) before)
+pub state_fits : HistoriesAreLegal → ComesToPossible → (w : Work) (j : ℕ) (job : Job) (before : List Request) → is_run w.run ≡ true → w.server < MAX_SERVERS
+    → j < MAX_JOBS → is_within_limits job.rec ≡ true → FitsItsWidths job → IsState (job_state (origin_of w j job) before)
 unfolding job_state has_come_by
 state_fits legal_law possible_law w j job before r s i limits widths =
     let h = history (origin_of w j job) before in
     let legal = legal_law (origin_of w j job) before limits in
     let fewer = issued_within job.rec job.rec.depth job.rec.window h legal.by_window legal.by_job in
-    let possible : is_possible job.rec.depth job.rec.window (window.issued h) (window.recent job.rec.window h) ≡ true = possible_law job.rec.depth job.rec.window h legal.by_window in
+    let possible : is_possible job.rec.depth job.rec.window (window.issued h) (window.recent job.rec.window h) ≡ true =
+    possible_law job.rec.depth job.rec.window h legal.by_window in
     let one = (run_parts w.run r).0 in
     let n = narrow job.rec limits in
     record {

@@ -23,7 +23,8 @@ over_on : (r : ℕ) (x : Request) (w : Option Work) → IsOver r w → IsOver r 
 over_on r x None h = tt
 over_on r x (Some w) h = λ e. still (halt_of w.run w.since) (halt_by w.run x w.since) (h e)
 
-over_after : (r last : ℕ) (left : Left) (d : Option Staged) (me b : ℕ) (x : Request) (w : Option Work) → r ≤ last → ((s : Staged) → d ≡ Some s → IsStart last x s) → IsOver r w → IsOver r (work_after left d me b x w)
+over_after : (r last : ℕ) (left : Left) (d : Option Staged) (me b : ℕ) (x : Request) (w : Option Work) → r ≤ last
+    → ((s : Staged) → d ≡ Some s → IsStart last x s) → IsOver r w → IsOver r (work_after left d me b x w)
 over_after r last NoSave d me b x w l f h = over_on r x w h
 over_after r last Saved None me b x w l f h = over_on r x w h
 over_after r last Saved (Some s) me b x w l f h = λ e. let above = (f s refl).above in absurd (omega arith)
@@ -51,9 +52,11 @@ over_all : (o : Opening) (r : ℕ) (newer list : List Entry) → r ≤ last_run 
 over_all o r [] list l h = h
 over_all o r (e ∷ newer) list l h = let g = grows_on o newer list in over_met o r e (newer ++ list) (omega arith) (over_all o r newer list l h)
 
-pub takings_stay : (o : Opening) (r j : ℕ) (newer list : List Entry) → r ≤ last_run o list → IsOver r (work o list) → takings o r j (newer ++ list) ≡ takings o r j list
+pub takings_stay : (o : Opening) (r j : ℕ) (newer list : List Entry) → r ≤ last_run o list → IsOver r (work o list)
+    → takings o r j (newer ++ list) ≡ takings o r j list
 takings_stay o r j [] list l h = refl
 takings_stay o r j (Met e left ∷ newer) list l h =
-    ap (λ x. and_those x (takings o r j (newer ++ list))) (no_more r j (request_of o.me e) (work o (newer ++ list)) (over_all o r newer list l h)) ∙ takings_stay o r j newer list l h
+    ap (λ x. and_those x (takings o r j (newer ++ list))) (no_more r j (request_of o.me e) (work o (newer ++ list)) (over_all o r newer list l h))
+    ∙ takings_stay o r j newer list l h
 takings_stay o r j (Cut ∷ newer) list l h = takings_stay o r j newer list l h
 takings_stay o r j (Restart left ∷ newer) list l h = takings_stay o r j newer list l h

@@ -8,7 +8,8 @@ use Rattle.disk_model.specs.declared.left.Left.{Left}
 use Rattle.disk_model.specs.declared.left.Left.TheVariants.{NoSave, Saved, LostNew, LostOld}
 use Rattle.disk_model.proofs.StepLemmas.{and_true}
 use Rattle.server_core.specs.History.{Opening, Entry, Met, Cut, Restart}
-use Rattle.server_core.specs.Request.{Request, ToStage, ToStart, ToTrigger, ToMark, ToStop, ToVerify, ToHold, ToPassFully, ToIssue, ToEnd, ToReport, ToNobody, request_of}
+use Rattle.server_core.specs.Request.{Request, ToStage, ToStart, ToTrigger, ToMark, ToStop, ToVerify}
+use Rattle.server_core.specs.Request.{ToHold, ToPassFully, ToIssue, ToEnd, ToReport, ToNobody, request_of}
 use Rattle.server_core.specs.Run.{Work, Halt, Triggered, Stopped, halt_by, halt_of, goes_on}
 use Rattle.server_core.specs.Words.{Staged, is_on, boot, last_run_after, work_after, last_run, work, staged_run, due}
 use Rattle.server_core.specs.Taken.{state_of_job, taken_by_halt, triggers, takes_now, takes, and_those, takings}
@@ -33,7 +34,8 @@ abbrev pub Known : ℕ → ℕ → ℕ → List State → Option Work → Type 0
 Known r j last states None = Few r last states
 Known r j last states (Some w) = KnownOf r j last states w
 
-chosen : (b : Bool) (w : Work) (j : ℕ) (halt : Halt) (x : Option State) → taken_by_halt w j (Some halt) ≡ x → taken_by_halt w j (if b then Some halt else None) ≡ (if b then x else None)
+chosen : (b : Bool) (w : Work) (j : ℕ) (halt : Halt) (x : Option State) → taken_by_halt w j (Some halt) ≡ x
+    → taken_by_halt w j (if b then Some halt else None) ≡ (if b then x else None)
 chosen true w j halt x h = h
 chosen false w j halt x h = refl
 
@@ -69,13 +71,16 @@ never u w j (Some halt) = refl
 -- A request of the present run, or of another.
 stepped : (r j last : ℕ) (states : List State) (x : Request) (w : Work) (t : Bool) → (t ≡ true → w.run ≡ r)
     → Stands t r last states (taken_by_halt w j (halt_of w.run w.since))
-    → Stands t r last (and_those (takes_now (triggers r x && t) w j (halt_of w.run w.since)) states) (taken_by_halt w j (option_or (halt_of w.run w.since) (halt_by w.run x w.since)))
+    → Stands t r last (and_those (takes_now (triggers r x && t) w j (halt_of w.run w.since)) states)
+    (taken_by_halt w j (option_or (halt_of w.run w.since) (halt_by w.run x w.since)))
 stepped r j last states x w true e s =
     went_on (triggers r x && true) w j (halt_of w.run w.since) (halt_by w.run x w.since) states
-    (subst (λ n. taken_by_halt w j (halt_by w.run x w.since) ≡ (if triggers n x && true then state_of_job w j w.since else None)) (e refl) (rw (and_true (triggers w.run x)) (new_taken w j x))) s
+    (subst (λ n. taken_by_halt w j (halt_by w.run x w.since) ≡ (if triggers n x && true then state_of_job w j w.since else None)) (e refl)
+    (rw (and_true (triggers w.run x)) (new_taken w j x))) s
 stepped r j last states x w false e s = rw (never (triggers r x) w j (halt_of w.run w.since)) s
 
-kept_on : (r j last : ℕ) (states : List State) (x : Request) (w : Option Work) → Known r j last states w → Known r j last (and_those (takes r j x w) states) (goes_on x w)
+kept_on : (r j last : ℕ) (states : List State) (x : Request) (w : Option Work) → Known r j last states w
+    → Known r j last (and_those (takes r j x w) states) (goes_on x w)
 kept_on r j last states x None k = k
 kept_on r j last states x (Some w) k = record {
   within = k.within;
@@ -86,7 +91,8 @@ few_of : (r last : ℕ) (states : List State) (now : Option State) → r ≤ las
 few_of r last states None h e = untaken e
 few_of r last states (Some state) h e = once state e h
 
-few_at : (r last : ℕ) (states : List State) (run : ℕ) (now : Option State) (t : Bool) → (t ≡ true → run ≡ r) → run ≤ last → Stands t r last states now → Few r last states
+few_at : (r last : ℕ) (states : List State) (run : ℕ) (now : Option State) (t : Bool) → (t ≡ true → run ≡ r) → run ≤ last → Stands t r last states now
+    → Few r last states
 few_at r last states run now true e h s = few_of r last states now (subst (λ n. n ≤ last) (e refl) h) s
 few_at r last states run now false e h s = s
 
@@ -131,13 +137,15 @@ to_begin r j last states Saved s me now_boot w h k = record {
 to_begin r j last states LostNew s me now_boot w h k = raised r last s.run states (omega arith) (few r j last states w k)
 to_begin r j last states LostOld s me now_boot w h k = few r j last states w k
 
-met : (r j last : ℕ) (states : List State) (left : Left) (d : Option Staged) (me now_boot : ℕ) (x : Request) (w : Option Work) → ((s : Staged) → d ≡ Some s → IsStart last x s) → Known r j last states w
+met : (r j last : ℕ) (states : List State) (left : Left) (d : Option Staged) (me now_boot : ℕ) (x : Request) (w : Option Work)
+    → ((s : Staged) → d ≡ Some s → IsStart last x s) → Known r j last states w
     → Known r j (last_run_after left d last) (and_those (takes r j x w) states) (work_after left d me now_boot x w)
 met r j last states left None me now_boot x w f k = not_begun r j last states left me now_boot x w k
 met r j last states left (Some s) me now_boot x w f k =
     let i = f s refl in
     subst (λ y. Known r j (last_run_after left (Some s) last) (and_those (takes r j y w) states) (work_after left (Some s) me now_boot y w)) (sym i.start)
-    (subst (λ o. Known r j (last_run_after left (Some s) last) (and_those o states) (work_after left (Some s) me now_boot (ToStart s.run) w)) (sym (no_taking r j s.run w))
+    (subst (λ o. Known r j (last_run_after left (Some s) last) (and_those o states) (work_after left (Some s) me now_boot (ToStart s.run) w))
+    (sym (no_taking r j s.run w))
     (to_begin r j last states left s me now_boot w i.above k))
 
 -- What is known of each run's job after each list of events.

@@ -16,7 +16,8 @@ pub given : (phase : Phase) (text : List ℕ) (set : JobSet) → Answers (Ok set
 unfolding jobs_for
 given phase text set h e = rw (h.0, ap (is_phase phase) (sym h.1.phase) ∙ e) (ap Ok (sym h.1.jobs))
 
-pub other : (phase : Phase) (text : List ℕ) (set : JobSet) → Answers (Ok set) text → is_phase phase set.phase ≡ false → jobs_for phase text ≡ Err (number_of WrongPhase)
+pub other : (phase : Phase) (text : List ℕ) (set : JobSet) → Answers (Ok set) text → is_phase phase set.phase ≡ false
+    → jobs_for phase text ≡ Err (number_of WrongPhase)
 unfolding jobs_for
 other phase text set h e = rw (h.0, ap (is_phase phase) (sym h.1.phase) ∙ e) refl
 
@@ -34,11 +35,14 @@ told_is (job_faults.SharedFile j) = inr refl
 told_is job_faults.MixedPhases = inr refl
 told_is job_faults.NoMemory = inl refl
 
-by_told : (phase : Phase) (text : List ℕ) (fault : JobFault) → refusal_of text ≡ Some fault → (fault_of_text fault ≡ NoMemory) ⊎ (fault_of fault ≡ fault_of_text fault) → (fault_of_text fault ≡ NoMemory) ⊎ (jobs_for phase text ≡ Err (number_of (fault_of_text fault)))
+by_told : (phase : Phase) (text : List ℕ) (fault : JobFault) → refusal_of text ≡ Some fault
+    → (fault_of_text fault ≡ NoMemory) ⊎ (fault_of fault ≡ fault_of_text fault)
+    → (fault_of_text fault ≡ NoMemory) ⊎ (jobs_for phase text ≡ Err (number_of (fault_of_text fault)))
 unfolding jobs_for
 by_told phase text fault e (inl none) = inl none
 by_told phase text fault e (inr same) = inr (rw e (ap (λ f. Err (number_of f)) same))
 
-pub refused : (phase : Phase) (text : List ℕ) (fault : JobFault) → Answers (Err fault) text → (fault_of_text fault ≡ NoMemory) ⊎ (jobs_for phase text ≡ Err (number_of (fault_of_text fault)))
+pub refused : (phase : Phase) (text : List ℕ) (fault : JobFault) → Answers (Err fault) text
+    → (fault_of_text fault ≡ NoMemory) ⊎ (jobs_for phase text ≡ Err (number_of (fault_of_text fault)))
 refused phase text fault (inl e) = inl (ap fault_of_text e)
 refused phase text fault (inr e) = by_told phase text fault e (told_is fault)

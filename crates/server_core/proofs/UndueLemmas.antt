@@ -39,7 +39,8 @@ pub no_act : (w : Option Work) (r : ℕ) → acts.None ≡ act_of w (ToStart r)
 no_act None r = refl
 no_act (Some w) r =
     never (wants_cut (halt_of w.run w.since)) (is_marked w)
-    ∙ ap (λ ms. if wants_cut (halt_of w.run w.since) && (not (is_marked w) && list_all (has (ms ++ marks w.run w.since)) (numbers_below (length w.jobs))) then acts.Cut else acts.None) (sym (unmarked (halt_of w.run w.since) w.run r))
+    ∙ ap (λ ms. if wants_cut (halt_of w.run w.since) && (not (is_marked w) && list_all (has (ms ++ marks w.run w.since)) (numbers_below (length w.jobs)))
+    then acts.Cut else acts.None) (sym (unmarked (halt_of w.run w.since) w.run r))
 
 -- A refusal is told for its reason.
 pub reason_told : (reason : Option Fault) (fault : Fault) → Err fault ≡ ok_unless_refused reason → reason ≡ Some fault

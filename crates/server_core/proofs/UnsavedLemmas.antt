@@ -40,30 +40,37 @@ kinds_are : (a b : Tag) → is_tag a b ≡ true → (number_of a.whole == number
 kinds_are a b h = first_of _ _ (first_of _ _ (first_of _ _ (first_of _ _ (first_of _ _ h))))
 
 -- What a long packet asks is not due.
-undue_body : (on : Bool) (last : ℕ) (s : Option Staged) (w : Option Work) (b : Body) (kind : PacketKind) → is_long_kind kind ≡ true → (number_of (kind_of b) == number_of kind) ≡ true → due_by on last s w (request_in b) ≡ None
+undue_body : (on : Bool) (last : ℕ) (s : Option Staged) (w : Option Work) (b : Body) (kind : PacketKind) → is_long_kind kind ≡ true
+    → (number_of (kind_of b) == number_of kind) ≡ true → due_by on last s w (request_in b) ≡ None
 undue_body on last s w (bodies.Start run) kind l e = absurd (not_both (3 == number_of kind) (start_is_short kind l) e)
 undue_body on last s w _ kind l e = refl
 
-undue_packet : (on : Bool) (last : ℕ) (s : Option Staged) (w : Option Work) (b : Body) (mine : Bool) → due_by on last s w (request_in b) ≡ None → due_by on last s w (if mine then request_in b else ToNobody) ≡ None
+undue_packet : (on : Bool) (last : ℕ) (s : Option Staged) (w : Option Work) (b : Body) (mine : Bool) → due_by on last s w (request_in b) ≡ None
+    → due_by on last s w (if mine then request_in b else ToNobody) ≡ None
 undue_packet on last s w b true h = h
 undue_packet on last s w b false h = refl
 
-undue_tag : (o : Opening) (past : List history.Entry) (q : PieceParts) (b : Body) (same : Bool) → (same ≡ true → due_by (is_on past) (last_run o past) (staged_run o past) (work o past) (request_in b) ≡ None)
+undue_tag : (o : Opening) (past : List history.Entry) (q : PieceParts) (b : Body) (same : Bool)
+    → (same ≡ true → due_by (is_on past) (last_run o past) (staged_run o past) (work o past) (request_in b) ≡ None)
     → due_of_sense o past (sense_of q (said_by (if same then Gives (packet_of q b) else NoPacket))) ≡ None
 undue_tag o past q b true h = undue_packet (is_on past) (last_run o past) (staged_run o past) (work o past) b (is_client q.from && is_server o.me q.to) (h refl)
 undue_tag o past q b false h = refl
 
-undue_read : (o : Opening) (past : List history.Entry) (q : PieceParts) (b : Option Body) → is_long_kind q.tag.whole ≡ true → due_of_sense o past (sense_of q (said_by (of_tag q b))) ≡ None
+undue_read : (o : Opening) (past : List history.Entry) (q : PieceParts) (b : Option Body) → is_long_kind q.tag.whole ≡ true
+    → due_of_sense o past (sense_of q (said_by (of_tag q b))) ≡ None
 undue_read o past q None l = refl
 undue_read o past q (Some b) l =
     let t = tag_in b q.tag.length in
-    undue_tag o past q b (is_tag t q.tag) (λ same. undue_body (is_on past) (last_run o past) (staged_run o past) (work o past) b q.tag.whole l (kinds_are t q.tag same))
+    undue_tag o past q b (is_tag t q.tag) (λ same. undue_body (is_on past) (last_run o past) (staged_run o past) (work o past) b q.tag.whole l
+    (kinds_are t q.tag same))
 
-undue_look : (o : Opening) (past : List history.Entry) (q : PieceParts) (bytes : Option (List ℕ)) → is_long_kind q.tag.whole ≡ true → due_of_sense o past (sense_of q (said_by (look_by_body q bytes))) ≡ None
+undue_look : (o : Opening) (past : List history.Entry) (q : PieceParts) (bytes : Option (List ℕ)) → is_long_kind q.tag.whole ≡ true
+    → due_of_sense o past (sense_of q (said_by (look_by_body q bytes))) ≡ None
 undue_look o past q None l = refl
 undue_look o past q (Some bytes) l = undue_read o past q (body_at q.tag.whole bytes) l
 
-undue_meaning : (o : Opening) (past : List history.Entry) (q : PieceParts) (rows : List Row) (takes : Bool) → is_long_kind q.tag.whole ≡ true → due_of_sense o past (sense_of q (if takes then said_by (look_at_piece rows q) else Strays)) ≡ None
+undue_meaning : (o : Opening) (past : List history.Entry) (q : PieceParts) (rows : List Row) (takes : Bool) → is_long_kind q.tag.whole ≡ true
+    → due_of_sense o past (sense_of q (if takes then said_by (look_at_piece rows q) else Strays)) ≡ None
 undue_meaning o past q rows true l = undue_look o past q (completed_body rows q) l
 undue_meaning o past q rows false l = refl
 
@@ -73,4 +80,5 @@ long q r =
     first_of _ _ (first_of _ _ (first_of _ _ (first_of _ _ tag)))
 
 pub no_piece_saves : (o : Opening) (past : List FrameEntry) (q : PieceParts) → is_piece q ≡ true → would_save o past (Piece q) ≡ false
-no_piece_saves o past q r = ap is_some (undue_meaning o (packets_heard o past) q (assembly o past) (is_on (packets_heard o past) && is_piece_for o.me q) (long q r))
+no_piece_saves o past q r =
+    ap is_some (undue_meaning o (packets_heard o past) q (assembly o past) (is_on (packets_heard o past) && is_piece_for o.me q) (long q r))

@@ -20,7 +20,8 @@ pub unsaved : (d : Option Staged) (last : ℕ) → last_run_after NoSave d last 
 unsaved None last = refl
 unsaved (Some s) last = refl
 
-after_of : (me now_boot last : ℕ) (left : Left) (d : Option Staged) (x : Request) (w : Option Work) → Of me now_boot last w → Of me now_boot (last_run_after left d last) (work_after left d me now_boot x w)
+after_of : (me now_boot last : ℕ) (left : Left) (d : Option Staged) (x : Request) (w : Option Work) → Of me now_boot last w
+    → Of me now_boot (last_run_after left d last) (work_after left d me now_boot x w)
 after_of me now_boot last NoSave d x w h = subst (λ l. Of me now_boot l (goes_on x w)) (sym (unsaved d last)) (goes_on_of me now_boot last x w h)
 after_of me now_boot last Saved None x w h = goes_on_of me now_boot last x w h
 after_of me now_boot last Saved (Some s) x w h = record { server = refl; boot_is = refl; run = refl }

@@ -1,4 +1,5 @@
--- Which completions were accepted, and what a taking is: a Start, what came behind it, and a Trigger.
+-- Which completions were accepted, and what a taking is: a Start, what came behind it, and a
+-- Trigger.
 use Rattle.std.specs.Prelude.{◌≡◌, ◌⊎◌, ℕ, true, List, [], ◌∷◌, ◌++◌, Some, None}
 use Rattle.fc_base.specs.Counted.{has}
 use Rattle.fc_base.specs.declared.numbers.Key.{Key}
@@ -31,8 +32,8 @@ IsDoneIn o before (Met e left ∷ between) key k =
 IsDoneIn o before (Cut ∷ between) key k = IsDoneIn o before between key k
 IsDoneIn o before (Restart left ∷ between) key k = IsDoneIn o before between key k
 
--- A taking of a state: the Start that was accepted, what came behind it, and the Trigger that took it.
--- The state counts exactly the writes that were completed between.
+-- A taking of a state: the Start that was accepted, what came behind it, and the Trigger that took
+-- it. The state counts exactly the writes that were completed between.
 pub record IsTaking (o : Opening) (run j : ℕ) (list : List Entry) (state : State) : Type 0 where
   pub newer : List Entry
   pub trigger : Event
@@ -45,11 +46,14 @@ pub record IsTaking (o : Opening) (run j : ℕ) (list : List Entry) (state : Sta
   pub accepted : due o older start ≡ Some started
   pub run_is : started.run ≡ run
   pub pulls :
-      takes run j (request_of o.me trigger) (work o (between ++ Met start Saved ∷ older)) ≡ Some state
+      takes run j (request_of o.me trigger) (work o (between ++ Met start Saved ∷ older))
+      ≡ Some state
   pub counts :
       (k : ℕ) → has state.counted k ≡ true
-      → IsDoneIn o (Met start Saved ∷ older) between (record { run = run; server = o.me; job = j }) k
+      → IsDoneIn o (Met start Saved ∷ older) between
+      (record { run = run; server = o.me; job = j }) k
   pub counts_all :
       (k : ℕ)
-      → IsDoneIn o (Met start Saved ∷ older) between (record { run = run; server = o.me; job = j }) k
+      → IsDoneIn o (Met start Saved ∷ older) between
+      (record { run = run; server = o.me; job = j }) k
       → has state.counted k ≡ true

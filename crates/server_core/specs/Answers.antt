@@ -93,7 +93,8 @@ sent_by lost (Some fault) bodies = []
 -- The packets that an entry sends.
 abbrev pub packets : Opening → List Entry → Entry → List PacketParts
 packets o past (Met e left) =
-    to_client o.me (sent_by (is_lost left) (refusal o past e) (replies (now o past) (request_of o.me e)))
+    to_client o.me (sent_by (is_lost left) (refusal o past e)
+    (replies (now o past) (request_of o.me e)))
 packets o past Cut = []
 packets o past (Restart left) = []
 
@@ -117,8 +118,8 @@ issue_for now _ = None
 abbrev pub issue : Opening → List Entry → Event → Option Issue
 issue o past e = issue_for (work o past) (request_of o.me e)
 
--- The job that this request marks: the client tells that its state is kept, behind the Trigger of the
--- run.
+-- The job that this request marks: the client tells that its state is kept, behind the Trigger of
+-- the run.
 abbrev pub marks_by : Option Halt → ℕ → Request → List ℕ
 marks_by (Some (Triggered act before)) run (ToMark r j) = if r == run then j ∷ [] else []
 marks_by _ run _ = []
@@ -162,7 +163,8 @@ act o past e = act_of (work o past) (request_of o.me e)
 abbrev pub would_save : Opening → List Entry → Event → Bool
 would_save o past e = is_some (due o past e)
 
--- What the calls that only look answer from: all that came, but for what came from a failed save on.
+-- What the calls that only look answer from: all that came, but for what came from a failed save
+-- on.
 abbrev pub shown_entries : List Entry → List Entry
 shown_entries [] = []
 shown_entries (Met e left ∷ past) =

@@ -13,8 +13,8 @@ pub record AreShort (frames : List (List ℕ)) : Type 0 where
   pub few : length frames ≤ MAX_JOBS
   pub short : All (λ frame. length frame ≤ MAX_FRAME) frames
 
--- A server sends at most 16 frames of at most 1,073 bytes in answer to one event, where what came is
--- within its ranges.
+-- A server sends at most 16 frames of at most 1,073 bytes in answer to one event, where what came
+-- is within its ranges.
 abbrev pub FramesAreShort : Type 0
 FramesAreShort =
     (o : Opening) (past : List Entry) (e : Entry) →

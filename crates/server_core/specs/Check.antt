@@ -62,8 +62,10 @@ progress_with_report r (Done report) = Done report
 abbrev pub progress_by : Check → ℕ → Job → Request → Progress → Progress
 progress_by c j job (ToHold a state) p =
     if (a == c.attempt) && (state.key.job == j)
-    then progress_with_state (misfit state (record { run = c.run; server = c.server; job = j }) job.rec) state p else p
-progress_by c j job (ToPassFully a i) p = if (a == c.attempt) && (i == j) then progress_without_state p else p
+    then progress_with_state (misfit state
+    (record { run = c.run; server = c.server; job = j }) job.rec) state p else p
+progress_by c j job (ToPassFully a i) p =
+    if (a == c.attempt) && (i == j) then progress_without_state p else p
 progress_by c j job (ToReport b a i report) p =
     if (b == c.boot) && ((a == c.attempt) && (i == j)) then progress_with_report report p else p
 progress_by c j job _ p = p
@@ -129,7 +131,8 @@ abbrev pub check : Opening → List Entry → Option Check
 check o [] = None
 check o (Met e left ∷ past) =
     check_after left (due o past e)
-    (opens (is_on past) o.me (boot o past) (last_run o past) (work o past) (check o past) (request_of o.me e))
+    (opens (is_on past) o.me (boot o past) (last_run o past) (work o past) (check o past)
+    (request_of o.me e))
     (request_of o.me e) (check o past)
 check o (Cut ∷ past) = None
 check o (Restart left ∷ past) = None

@@ -6,9 +6,10 @@ use Rattle.server_core.specs.Request.{Request, ToStart, request_of}
 use Rattle.server_core.specs.Run.{Work, is_open}
 use Rattle.server_core.specs.Words.{Staged, is_on, last_run, staged_run, work, due}
 
--- The server is on, a Start of the staged run is asked, the run is above the last one, and no write is
--- open.
-pub record IsDueStart (on : Bool) (last : ℕ) (found : Option Staged) (now : Option Work) (x : Request) (s : Staged) : Type 0 where
+-- The server is on, a Start of the staged run is asked, the run is above the last one, and no write
+-- is open.
+pub record IsDueStart (on : Bool) (last : ℕ) (found : Option Staged) (now : Option Work)
+    (x : Request) (s : Staged) : Type 0 where
   pub is_up : on ≡ true
   pub start : x ≡ ToStart s.run
   pub staged_is : found ≡ Some s
@@ -20,4 +21,5 @@ abbrev pub DueIsStart : Type 0
 DueIsStart =
     (o : Opening) (past : List Entry) (e : Event) (s : Staged) →
     due o past e ≡ Some s
-    → IsDueStart (is_on past) (last_run o past) (staged_run o past) (work o past) (request_of o.me e) s
+    → IsDueStart (is_on past) (last_run o past) (staged_run o past) (work o past)
+    (request_of o.me e) s

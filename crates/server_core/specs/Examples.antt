@@ -103,18 +103,21 @@ pub record StartsAndIssues : Type 0 where
   pub write : issue blank after_start (Issue 0) ≡ Some (issues.Write (ticket 0))
   pub done : issue blank after_writes (Issue 0) ≡ Some issues.Finished
 
--- The state that is taken counts the write that is done. Once it is taken it stays, though the other
--- write completes; the client's mark asks for the cut, and a second one doesn't.
+-- The state that is taken counts the write that is done. Once it is taken it stays, though the
+-- other write completes; the client's mark asks for the cut, and a second one doesn't.
 pub record TakesOnce : Type 0 where
   pub counts :
-      option_map (λ (s : SavedState). s.counted) (state_taken blank (with_events after_writes (trigger ∷ [])) 0)
+      option_map (λ (s : SavedState). s.counted)
+      (state_taken blank (with_events after_writes (trigger ∷ [])) 0)
       ≡ Some (0 ∷ [])
   pub stays :
-      sent_bodies (with_events after_writes (WriteDone (ticket 1) Done ∷ trigger ∷ [])) trigger ≡ sent_bodies after_writes trigger
+      sent_bodies (with_events after_writes (WriteDone (ticket 1) Done ∷ trigger ∷ [])) trigger
+      ≡ sent_bodies after_writes trigger
   pub cut : act blank (with_events after_writes (trigger ∷ [])) mark ≡ acts.Cut
   pub once : act blank (with_events after_writes (mark ∷ trigger ∷ [])) mark ≡ acts.None
 
--- Behind a cut and a restart the run is gone, its Start is old, and its tickets are of an older boot.
+-- Behind a cut and a restart the run is gone, its Start is old, and its tickets are of an older
+-- boot.
 pub record ForgetsByACut : Type 0 where
   pub trigger_gone : sent_bodies after_cut trigger ≡ refuse asks.Trigger reasons.Gone 1 0 1
   pub start_old : sent_bodies after_cut start ≡ refuse asks.Start reasons.Old 1 0 1
@@ -123,27 +126,33 @@ pub record ForgetsByACut : Type 0 where
 -- A Start whose save failed may begin again, with its jobs sent again, where the note has the old
 -- bytes; where it has the new ones, it is old.
 pub record SavesBeforeItStarts : Type 0 where
-  pub unsaved : sent_bodies (after_lost_start LostOld) start ≡ refuse asks.Start reasons.NoJobs 1 0 0
-  pub staged_again : sent_bodies (with_events (after_lost_start LostOld) (stage ∷ [])) start ≡ bodies.Started 1 ∷ []
+  pub unsaved : sent_bodies (after_lost_start LostOld) start
+      ≡ refuse asks.Start reasons.NoJobs 1 0 0
+  pub staged_again : sent_bodies (with_events (after_lost_start LostOld) (stage ∷ [])) start
+      ≡ bodies.Started 1 ∷ []
   pub saved : sent_bodies (after_lost_start LostNew) start ≡ refuse asks.Start reasons.Old 1 0 1
 
 -- A stopped run isn't taken.
 pub record StopsForGood : Type 0 where
   pub stopped : sent_bodies after_start (client_says (bodies.Stop 1)) ≡ bodies.Stopped 1 ∷ []
   pub gone :
-      sent_bodies (with_events after_start (client_says (bodies.Stop 1) ∷ [])) trigger ≡ refuse asks.Trigger reasons.Gone 1 0 1
+      sent_bodies (with_events after_start (client_says (bodies.Stop 1) ∷ [])) trigger
+      ≡ refuse asks.Trigger reasons.Gone 1 0 1
   pub issues_none :
-      issue blank (with_events after_start (client_says (bodies.Stop 1) ∷ [])) (Issue 0) ≡ Some issues.Stopped
+      issue blank (with_events after_start (client_says (bodies.Stop 1) ∷ [])) (Issue 0)
+      ≡ Some issues.Stopped
 
 -- A Verify waits for the open writes, of which a failed one is none; it wants a state where the job
 -- loads one; a run above the last is unknown; writing jobs are of the wrong phase.
 pub record ChecksTheLastRun : Type 0 where
-  pub busy : sent_bodies (with_events after_start (Issue 0 ∷ [])) verify ≡ refuse asks.Verify reasons.Busy 1 1 0
+  pub busy : sent_bodies (with_events after_start (Issue 0 ∷ [])) verify
+      ≡ refuse asks.Verify reasons.Busy 1 1 0
   pub wants :
       sent_bodies (with_events after_start (WriteDone (ticket 0) Failed ∷ Issue 0 ∷ [])) verify
       ≡ bodies.WantState 1 1 0 ∷ []
   pub unknown :
-      sent_bodies after_start (client_says (bodies.Verify 2 1 reading_text)) ≡ refuse asks.Verify reasons.Unknown 2 1 1
+      sent_bodies after_start (client_says (bodies.Verify 2 1 reading_text))
+      ≡ refuse asks.Verify reasons.Unknown 2 1 1
   pub wrong :
       sent_bodies after_cut (client_says (bodies.Verify 1 1 writing_text))
       ≡ refuse asks.Verify reasons.BadJobs 1 1 13
@@ -155,7 +164,8 @@ other = codes "[a]\nrw=read\nbs=1k\nsize=1k\nverify_state_load=1\n"
 -- Run 1 was taken, the server was cut and restarted, and a check by these jobs is open.
 abbrev pub after_verify : List ℕ → List Entry
 after_verify text =
-    with_events (Restart Saved ∷ (Cut ∷ with_events after_writes (trigger ∷ []))) (client_says (bodies.Verify 1 1 text) ∷ [])
+    with_events (Restart Saved ∷ (Cut ∷ with_events after_writes (trigger ∷ [])))
+    (client_says (bodies.Verify 1 1 text) ∷ [])
 
 -- The state that was taken.
 abbrev pub taken_state : Option SavedState
@@ -180,4 +190,5 @@ pub record RefusesAMisfit : Type 0 where
       })
       ∷ [])
   pub once :
-      option_map (λ s. sent_bodies (with_events (after_verify other) (sent_state s ∷ [])) (sent_state s)) taken_state ≡ Some []
+      option_map (λ s. sent_bodies (with_events (after_verify other) (sent_state s ∷ []))
+      (sent_state s)) taken_state ≡ Some []

@@ -46,8 +46,8 @@ sense o past (Issue j) = Hears (events.Issue j)
 sense o past (WriteDone ticket end) = Hears (events.WriteDone ticket end)
 sense o past (CheckDone boot a j report) = Hears (events.CheckDone boot a j report)
 
--- A piece that isn't for this server is misdirected, unless the server is down; where the bytes aren't
--- their tag's packet a field is bad; and what is heard is refused as the event is.
+-- A piece that isn't for this server is misdirected, unless the server is down; where the bytes
+-- aren't their tag's packet a field is bad; and what is heard is refused as the event is.
 abbrev pub refusal_of_sense : Opening → List history.Entry → Sense → Option Fault
 refusal_of_sense o past (Hears e) = answers.refusal o past e
 refusal_of_sense o past (Keeps q) = None

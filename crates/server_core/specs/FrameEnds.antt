@@ -19,9 +19,10 @@ use Rattle.server_core.specs.Serves as whole
 use Rattle.server_core.specs.Hearing.{FrameEntry, Met, Restart, packets_heard, assembly}
 use Rattle.server_core.specs.FrameAnswers.{Sense, Hears, Keeps, Drops, Misses, sense, frames, refusal, due, issue, act, answered_entry}
 
--- A server stands for a list of frames where its core stands for the packets that are heard in it, and,
--- while it is on, keeps what has come together of pieces.
-pub record StandsFor {T : Type 0} (note : T → Note) (server : Server T) (o : Opening) (past : List FrameEntry) : Type 0 where
+-- A server stands for a list of frames where its core stands for the packets that are heard in it,
+-- and, while it is on, keeps what has come together of pieces.
+pub record StandsFor {T : Type 0} (note : T → Note) (server : Server T) (o : Opening)
+    (past : List FrameEntry) : Type 0 where
   pub core : whole.StandsFor note server.core o (packets_heard o past)
   pub pieces : words.is_on (packets_heard o past) ≡ true → server.pieces ≡ assembly o past
 
@@ -57,10 +58,12 @@ steps note o = record {
 
 -- For each list whose words the note said, the server stands for it with the restart. The note said
 -- something, so there is such a list: the empty one. Now it has the next boot.
-pub record Restarts {T : Type 0} (note : T → Note) (me : ℕ) (notes : T) (server : Server T) : Type 0 where
+pub record Restarts {T : Type 0} (note : T → Note) (me : ℕ) (notes : T)
+    (server : Server T) : Type 0 where
   pub said : Noted
   pub says : Says (note notes).bytes said
-  pub leaves : note server.core.notes ≡ record (note notes) { bytes = spelling (record said { boot = said.boot + 1 }) }
+  pub leaves : note server.core.notes
+      ≡ record (note notes) { bytes = spelling (record said { boot = said.boot + 1 }) }
   pub stands :
       (o : Opening) (past : List FrameEntry) → o.me ≡ me
       → Says (note notes).bytes (words.words_noted o (packets_heard o past))

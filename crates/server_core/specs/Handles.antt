@@ -14,8 +14,8 @@ use Rattle.server_core.specs.Framed.{frames_to_client}
 use Rattle.server_core.specs.Stands.{MachineIs}
 use Rattle.server_core.specs.WordsAfter.{words_after}
 
--- The request isn't refused; these are its frames, what it is answered of writes and what the caller is
--- asked to do; and what is left is what is kept of the words behind it.
+-- The request isn't refused; these are its frames, what it is answered of writes and what the
+-- caller is asked to do; and what is left is what is kept of the words behind it.
 pub record Answered (now : Now) (x : Request) (new : Machine) (outs : Outs) : Type 0 where
   pub free : refusal_of now x ≡ None
   pub frames_are : outs.frames ≡ frames_to_client now.server (replies now x)

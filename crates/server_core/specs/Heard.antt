@@ -36,10 +36,11 @@ pub record IsHeard (o : Opening) (past : List Entry) (j : ℕ) (state : State) :
   pub fits : misfit state state.key job.rec ≡ None
   pub attempt : ℕ
   pub sent :
-      Contains (heard_packets past) (record { from = Client; to = Server o.me; body = Saved attempt state })
+      Contains (heard_packets past)
+      (record { from = Client; to = Server o.me; body = Saved attempt state })
 
--- The present run was taken by a Trigger that asks for the cut, and with this event the client has told
--- of each of its jobs that its state is kept, or needn't be.
+-- The present run was taken by a Trigger that asks for the cut, and with this event the client has
+-- told of each of its jobs that its state is kept, or needn't be.
 pub record AreStatesKept (o : Opening) (past : List Entry) (e : Event) : Type 0 where
   pub now : Work
   pub works : work o past ≡ Some now

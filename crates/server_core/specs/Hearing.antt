@@ -43,7 +43,8 @@ rules o = record {
 abbrev pub coming_of : FrameEntry → Coming history.Entry Left
 coming_of (Met (Deliver f) left) = Comes f left
 coming_of (Met (Issue j) left) = Happens (history.Met (events.Issue j) left)
-coming_of (Met (WriteDone ticket end) left) = Happens (history.Met (events.WriteDone ticket end) left)
+coming_of (Met (WriteDone ticket end) left) =
+    Happens (history.Met (events.WriteDone ticket end) left)
 coming_of (Met (CheckDone boot a j report) left) =
     Happens (history.Met (events.CheckDone boot a j report) left)
 coming_of Cut = Happens history.Cut

@@ -47,7 +47,8 @@ IsOfText _ = Unit {0}
 -- Memory ran out, or this is the number of what is wrong with the text.
 abbrev pub LacksJobs : Phase → List ℕ → Result (List Job) Fault → Type 0
 LacksJobs phase text (Ok jobs) = Unit {0}
-LacksJobs phase text (Err fault) = (fault ≡ NoMemory) ⊎ (jobs_for phase text ≡ Err (number_of fault))
+LacksJobs phase text (Err fault) =
+    (fault ≡ NoMemory) ⊎ (jobs_for phase text ≡ Err (number_of fault))
 
 -- These frames are sent, and nothing is staged.
 abbrev pub frames_without_staging : Result (List (List ℕ)) AllocError → Result Staging Fault
@@ -77,7 +78,8 @@ checked_again (Some c) = check_frames c
 -- A check of these jobs is opened, and told.
 pub record Opened (me now_boot r a : ℕ) (jobs : List Job) (v : Verifying) : Type 0 where
   pub check_is : OpenIs me now_boot v.new (new_check me now_boot r a (Ok jobs))
-  pub frames_are : v.frames ≡ frames_to_client me (checked_again (new_check me now_boot r a (Ok jobs)))
+  pub frames_are : v.frames ≡ frames_to_client me
+      (checked_again (new_check me now_boot r a (Ok jobs)))
 
 -- An answer, where want of memory is told as a fault.
 abbrev pub lacks : Result (List (List ℕ)) AllocError → Result (List (List ℕ)) Fault

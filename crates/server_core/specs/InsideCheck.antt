@@ -14,8 +14,8 @@ check_in check = record {
   progress = map progress_of check.progress.items;
 }
 
--- The run and the attempt are in their ranges, there are 1 to 16 jobs, and it is kept of each how far
--- its check is.
+-- The run and the attempt are in their ranges, there are 1 to 16 jobs, and it is kept of each how
+-- far its check is.
 pub record IsCheck (check : Inside) : Type 0 where
   pub run : IsTrue (is_run check.run)
   pub attempt : IsTrue (is_attempt check.attempt)

@@ -35,8 +35,8 @@ end_kept None = None
 end_kept (Some (Triggered act before)) = Some (ends.Taken act)
 end_kept (Some Stopped) = Some ends.Stopped
 
--- What is kept of job j: what an engine keeps of its history, whether a Trigger takes its state, the
--- state that was taken, and whether the client has told that it is kept.
+-- What is kept of job j: what an engine keeps of its history, whether a Trigger takes its state,
+-- the state that was taken, and whether the client has told that it is kept.
 abbrev pub job_kept : Work → ℕ → Job → JobRun
 job_kept w j job =
     let origin = origin_of w j job in
@@ -65,7 +65,8 @@ kept_of w = record {
   kept = jobs_kept w 0 w.jobs;
 }
 
--- Just this is kept of the run, whose jobs are a set, and whose number and server are in their ranges.
+-- Just this is kept of the run, whose jobs are a set, and whose number and server are in their
+-- ranges.
 pub record RunIs (kept : Kept) (w : Work) : Type 0 where
   pub is : kept ≡ kept_of w
   pub jobs : IsSet w.jobs
@@ -117,8 +118,8 @@ new_work me now_boot s = record {
   since = [];
 }
 
--- This is kept of the jobs of a run of which nothing was asked yet; they are a set, and its number and
--- server are in their ranges.
+-- This is kept of the jobs of a run of which nothing was asked yet; they are a set, and its number
+-- and server are in their ranges.
 pub record Begins (number : ℕ) (jobs : List Job) (kept : List JobRun) (w : Work) : Type 0 where
   pub run_is : w.run ≡ number
   pub jobs_are : w.jobs ≡ jobs

@@ -76,12 +76,14 @@ ready_now (Some kept) attempt job = ready_in kept attempt job
 abbrev pub judgement_of_job : ℕ → ℕ → State → Option Job → Option Progress
 judgement_of_job me run state None = None
 judgement_of_job me run state (Some job) =
-    Some (progress_with_state (misfit state (record { run = run; server = me; job = state.key.job }) job.rec) state Wanting)
+    Some (progress_with_state (misfit state
+    (record { run = run; server = me; job = state.key.job }) job.rec) state Wanting)
 
 -- What a state that comes in an attempt makes of its job, where that waits for one.
 abbrev pub judgement : ℕ → CheckKept → ℕ → State → Option Progress
 judgement me kept attempt state =
-    if wants_in kept attempt state.key.job then judgement_of_job me kept.run state (slice_get kept.jobs state.key.job) else None
+    if wants_in kept attempt state.key.job
+    then judgement_of_job me kept.run state (slice_get kept.jobs state.key.job) else None
 
 -- The refusal of a state that doesn't fit job j, with the number of why.
 abbrev pub misfit_of : CheckKept → ℕ → ℕ → Refusal

@@ -36,7 +36,8 @@ NumbersGrow =
     (o : Opening) (e : Entry) (past : List Entry) →
     (last_run o past ≤ last_run o (e ∷ past)) × (boot o past ≤ boot o (e ∷ past))
 
--- A Start that is recorded is of a lower run than each that is due later: so each run is started once.
+-- A Start that is recorded is of a lower run than each that is due later: so each run is started
+-- once.
 abbrev pub StartsOnce : Type 0
 StartsOnce =
     (o : Opening) (older between : List Entry) (e f : Event) (left : Left) (s t : Staged) →
@@ -93,8 +94,8 @@ StatesTellJobs =
     (o : Opening) (past : List Entry) (e : Entry) (p : PacketParts) (jobs : ℕ) (state : State) →
     Contains (packets o past e) p → p.body ≡ bodies.State jobs state → HasJobs o (e ∷ past) jobs
 
--- This run is the present one and has come to its end, has so many jobs, and no state of this one was
--- ever taken.
+-- This run is the present one and has come to its end, has so many jobs, and no state of this one
+-- was ever taken.
 pub record IsUntaken (o : Opening) (list : List Entry) (run j jobs : ℕ) : Type 0 where
   pub now : Work
   pub works : work o list ≡ Some now
@@ -143,7 +144,8 @@ RunsHaveSets = (o : Opening) (past : List Entry) (w : Work) → work o past ≡ 
 
 -- And so are those of the open check.
 abbrev pub ChecksHaveSets : Type 0
-ChecksHaveSets = (o : Opening) (past : List Entry) (c : Check) → check o past ≡ Some c → IsSet c.jobs
+ChecksHaveSets =
+    (o : Opening) (past : List Entry) (c : Check) → check o past ≡ Some c → IsSet c.jobs
 
 -- The history of a job that is within its limits is legal, so that an engine can stand for it.
 abbrev pub HistoriesAreLegal : Type 0
@@ -151,8 +153,8 @@ HistoriesAreLegal =
     (origin : Origin) (since : List Request) →
     IsTrue (is_within_limits origin.job) → IsLegal origin.job (history origin since)
 
--- A state that was ever taken was taken once its run was started, and counts exactly the writes that
--- were completed between.
+-- A state that was ever taken was taken once its run was started, and counts exactly the writes
+-- that were completed between.
 abbrev pub CountsTheDone : Type 0
 CountsTheDone =
     (o : Opening) (run j : ℕ) (list : List Entry) (state : State) →
@@ -163,8 +165,8 @@ abbrev pub gives_write : Option Issue → Bool
 gives_write None = false
 gives_write (Some answer) = is_write answer
 
--- Behind a taking of a run no write is issued, of any job or run, for as long as the last run is that
--- one.
+-- Behind a taking of a run no write is issued, of any job or run, for as long as the last run is
+-- that one.
 abbrev pub QuietWhileLast : Type 0
 QuietWhileLast =
     (o : Opening) (older between : List Entry) (trigger e : Event) (was : Left) (run j : ℕ)
@@ -173,14 +175,15 @@ QuietWhileLast =
     → last_run o (between ++ Met trigger was ∷ older) ≡ run
     → gives_write (issue o (between ++ Met trigger was ∷ older) e) ≡ false
 
--- Between a taking of a run and any moment at which a job is checked with a state of that run, no write
--- is issued, of any job or run.
+-- Between a taking of a run and any moment at which a job is checked with a state of that run, no
+-- write is issued, of any job or run.
 abbrev pub QuietUntilChecked : Type 0
 QuietUntilChecked =
     (o : Opening) (older between newer : List Entry) (trigger e : Event) (was left : Left)
     (run j i : ℕ) (state with_it : State) →
     takes run j (request_of o.me trigger) (work o older) ≡ Some state
-    → progress o (newer ++ Met e left ∷ (between ++ Met trigger was ∷ older)) i ≡ Some (With with_it)
+    → progress o (newer ++ Met e left ∷ (between ++ Met trigger was ∷ older)) i
+    ≡ Some (With with_it)
     → with_it.key.run ≡ run
     → gives_write (issue o (between ++ Met trigger was ∷ older) e) ≡ false
 
@@ -194,7 +197,8 @@ WithWasHeard =
 -- A server asks for the cut only once the client has told of each job of the run that its state is
 -- kept.
 abbrev pub CutsWhenKept : Type 0
-CutsWhenKept = (o : Opening) (past : List Entry) (e : Event) → act o past e ≡ acts.Cut → AreStatesKept o past e
+CutsWhenKept = (o : Opening) (past : List Entry) (e : Event) → act o past e ≡ acts.Cut
+    → AreStatesKept o past e
 
 -- A server sends at most 16 packets in answer to one event.
 abbrev pub PacketsAreFew : Type 0

@@ -39,7 +39,8 @@ origin_told (Some ticket) (Some job) =
 origin_told (Some ticket) None = None
 origin_told None job = None
 
--- The ticket of an open write and its job tell where it comes from, and there is no ticket of any other.
+-- The ticket of an open write and its job tell where it comes from, and there is no ticket of any
+-- other.
 abbrev pub TicketsTellOrigins : Type 0
 TicketsTellOrigins =
     (now : Option Work) (j k : ℕ) →

@@ -1,5 +1,6 @@
 -- What a server replies to each request, by its words before the request.
-use Rattle.std.specs.Prelude.{ℕ, ◌+◌, Bool, ◌||◌, ◌==◌, nat_lt, nat_le, max, List, [], ◌∷◌, ◌++◌, length, Option, Some, None, slice_get, Result, Ok, Err, if◌then◌else◌}
+use Rattle.std.specs.Prelude.{ℕ, ◌+◌, Bool, ◌||◌, ◌==◌, nat_lt, nat_le, max, List, [], ◌∷◌, ◌++◌}
+use Rattle.std.specs.Prelude.{length, Option, Some, None, slice_get, Result, Ok, Err, if◌then◌else◌}
 use Rattle.fc_base.specs.declared.report.ReportParts.{ReportParts}
 use Rattle.job_file.specs.declared.job.Job.{Job}
 use Rattle.job_file.specs.declared.job.Phase.TheVariants.{Read, Write}
@@ -16,7 +17,8 @@ use Rattle.server_core.specs.Run.{Work, Halt, Triggered, halt_of, origin_of, is_
 use Rattle.server_core.specs.Run as runs
 use Rattle.server_core.specs.Taken.{job_state}
 use Rattle.server_core.specs.Words.{Staged, for_run}
-use Rattle.server_core.specs.Check.{Check, Progress, Wanting, Full, With, progress_after, progress_at, progress_in, progress_by, progress_at_first, new_check, is_above}
+use Rattle.server_core.specs.Check.{Check, Progress, Wanting, Full, With, progress_after, progress_at}
+use Rattle.server_core.specs.Check.{progress_in, progress_by, progress_at_first, new_check, is_above}
 use Rattle.server_core.specs.Check as checks
 
 -- The words of a server that a reply is read from.
@@ -55,7 +57,8 @@ reply_to_text r (Err value) = refuse Jobs BadJobs r 0 value
 -- The staged run is answered again; with a write open nothing is staged.
 abbrev pub reply_to_new_jobs : ℕ → Option Staged → Bool → Result (List Job) ℕ → List Body
 reply_to_new_jobs r (Some s) is_open text = JobsOk r (length s.jobs) ∷ []
-reply_to_new_jobs r None is_open text = if is_open then refuse Jobs Busy r 0 0 else reply_to_text r text
+reply_to_new_jobs r None is_open text =
+    if is_open then refuse Jobs Busy r 0 0 else reply_to_text r text
 
 -- Jobs of a run up to the last run, or below the staged run, are old.
 abbrev pub reply_to_jobs : Now → ℕ → List ℕ → List Body
@@ -95,7 +98,8 @@ state_frame w j job before =
 -- Those of jobs, numbered on from j.
 abbrev pub state_frames : Work → List Request → ℕ → List Job → List Body
 state_frames w before j [] = []
-state_frames w before j (job ∷ jobs) = state_frame w j job before ∷ state_frames w before (j + 1) jobs
+state_frames w before j (job ∷ jobs) =
+    state_frame w j job before ∷ state_frames w before (j + 1) jobs
 
 -- A Trigger of the present run: a writing one is taken now, a taken one is answered again, and a
 -- stopped one is gone.

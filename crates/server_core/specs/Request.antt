@@ -26,7 +26,8 @@ pub data Request : Type 0 where
   ToReport : ℕ → ℕ → ℕ → ReportParts → Request  -- in this boot and attempt, of this job
   ToNobody : Request  -- it is not for this server
 
--- What a packet of the client asks. The kinds that servers send, and those for a mirror, ask nothing of one.
+-- What a packet of the client asks. The kinds that servers send, and those for a mirror, ask
+-- nothing of one.
 abbrev pub request_in : Body → Request
 request_in (bodies.Jobs run text) = ToStage run text
 request_in (bodies.Start run) = ToStart run
@@ -41,7 +42,8 @@ request_in _ = ToNobody
 -- What an event asks of the server with this number. A packet that isn't for it, or isn't from the
 -- client, asks nothing.
 abbrev pub request_of : ℕ → Event → Request
-request_of me (Deliver p) = if is_client p.from && is_server me p.to then request_in p.body else ToNobody
+request_of me (Deliver p) =
+    if is_client p.from && is_server me p.to then request_in p.body else ToNobody
 request_of me (Issue job) = ToIssue job
 request_of me (WriteDone ticket end) = ToEnd ticket end
 request_of me (CheckDone boot attempt job report) = ToReport boot attempt job report

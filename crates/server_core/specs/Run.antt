@@ -23,7 +23,8 @@ pub record Work : Type 0 where
   pub jobs : List Job
   pub since : List Request
 
--- What ended a run's writing: a Trigger, with its act and the requests that came before it, or a Stop.
+-- What ended a run's writing: a Trigger, with its act and the requests that came before it, or a
+-- Stop.
 pub data Halt : Type 0 where
   Triggered : Act → List Request → Halt
   Stopped : Halt
@@ -58,7 +59,8 @@ with_end Done k h = window.done k ∷ h
 with_end Failed k h = window.fail k ∷ h
 
 -- The same, where the ticket was accepted.
-abbrev pub with_ticket : Result (Unit {0}) Fault → WriteEnd → ℕ → List window.Event → List window.Event
+abbrev pub with_ticket : Result (Unit {0}) Fault → WriteEnd → ℕ → List window.Event
+    → List window.Event
 with_ticket (Ok _) end k h = with_end end k h
 with_ticket (Err fault) end k h = h
 

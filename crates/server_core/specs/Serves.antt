@@ -30,18 +30,21 @@ use Rattle.server_core.specs.Handles.{sent_alone}
 use Rattle.server_core.specs.Stands.{MachineIs}
 use Rattle.server_core.specs.WordsAfter.{begun_by}
 
--- A server stands for a list where it is on or down as the list says, where the durable bytes say what
--- the list says, and where it keeps what the list said before the first failed save.
-pub record StandsFor {T : Type 0} (note : T → Note) (server : PacketServer T) (o : Opening) (past : List Entry) : Type 0 where
+-- A server stands for a list where it is on or down as the list says, where the durable bytes say
+-- what the list says, and where it keeps what the list said before the first failed save.
+pub record StandsFor {T : Type 0} (note : T → Note) (server : PacketServer T) (o : Opening)
+    (past : List Entry) : Type 0 where
   pub on : server.down ≡ not (is_on past)
   pub durable : Says (note server.notes).bytes (words_noted o past)
   pub keeps : MachineIs server.machine (now o (shown_entries past))
 
--- A Start that is due isn't answered: memory ran out, and nothing changes; or the device failed, and the
--- durable bytes are the new or the old, and the server is down.
-abbrev pub Unstarted : {T : Type 0} → (T → Note) → ℕ → FaultSort → Fault → PacketServer T → PacketServer T → Type 0
+-- A Start that is due isn't answered: memory ran out, and nothing changes; or the device failed,
+-- and the durable bytes are the new or the old, and the server is down.
+abbrev pub Unstarted : {T : Type 0} → (T → Note) → ℕ → FaultSort → Fault → PacketServer T
+    → PacketServer T → Type 0
 Unstarted note run sorts.Memory fault old new =
-    (fault ≡ NoMemory) × (note new.notes ≡ note old.notes) × (new.down ≡ old.down) × (new.machine ≡ old.machine)
+    (fault ≡ NoMemory) × (note new.notes ≡ note old.notes) × (new.down ≡ old.down)
+    × (new.machine ≡ old.machine)
 Unstarted note run sorts.Save fault old new =
     ((note old.notes).failures < (note new.notes).failures)
     × (((note new.notes).bytes ≡ (note old.notes).bytes)
@@ -50,9 +53,11 @@ Unstarted note run sorts.Save fault old new =
 Unstarted note run sorts.Refusal fault old new = ⊥
 
 -- How a Start that is due ends: the run is durable and begins, or it isn't answered.
-abbrev pub Starts : {T : Type 0} → (T → Note) → ℕ → PacketServer T → PacketServer T → Result Outs Fault → Type 0
+abbrev pub Starts : {T : Type 0} → (T → Note) → ℕ → PacketServer T → PacketServer T
+    → Result Outs Fault → Type 0
 Starts note run old new (Ok outs) =
-    (note new.notes ≡ record (note old.notes) { bytes = spelling (record { boot = old.machine.boot; last_run = run }) })
+    (note new.notes ≡ record (note old.notes)
+    { bytes = spelling (record { boot = old.machine.boot; last_run = run }) })
     × (new.down ≡ old.down)
     × ((words : Now) (s : Staged) → MachineIs old.machine words
     → due_by true words.last words.staged words.run (ToStart run) ≡ Some s
@@ -71,7 +76,8 @@ pub record Sends (o : Opening) (past : List Entry) (e : Event) (outs : Outs) : T
   pub issue_is : outs.issue ≡ issue o past e
   pub act_is : outs.act ≡ act o past e
   pub short : OpensInRange o → CameInRange past → AreShort outs.frames
-  pub ranges : OpensInRange o → CameInRange past → AllByRecursion IsPacket (packets o past (answered_entry o past e))
+  pub ranges : OpensInRange o → CameInRange past
+      → AllByRecursion IsPacket (packets o past (answered_entry o past e))
 
 -- The steps of a server that takes packets: its note, what its list says of an event, and what is
 -- answered and sent. A refused event leaves it as it was.
@@ -90,27 +96,31 @@ steps note o = record {
 
 -- For each list whose words the note said, the server stands for it with the restart. The note said
 -- something, so there is such a list: the empty one. Now it has the next boot.
-pub record Restarts {T : Type 0} (note : T → Note) (me : ℕ) (notes : T) (server : PacketServer T) : Type 0 where
+pub record Restarts {T : Type 0} (note : T → Note) (me : ℕ) (notes : T)
+    (server : PacketServer T) : Type 0 where
   pub said : Noted
   pub says : Says (note notes).bytes said
-  pub leaves : note server.notes ≡ record (note notes) { bytes = spelling (record said { boot = said.boot + 1 }) }
+  pub leaves : note server.notes ≡ record (note notes)
+      { bytes = spelling (record said { boot = said.boot + 1 }) }
   pub stands :
       (o : Opening) (past : List Entry) → o.me ≡ me
       → Says (note notes).bytes (words_noted o past)
       → StandsFor note server o (Restart Saved ∷ past)
 
--- The bytes said something that left a boot, and they are still there, or those of the next boot are.
+-- The bytes said something that left a boot, and they are still there, or those of the next boot
+-- are.
 abbrev pub IsHalfSaved : List ℕ → List ℕ → Type 0
 IsHalfSaved old new =
     (n : Noted) × Says old n × (n.boot < 2 ^ 64 - 1)
     × ((new ≡ old) ⊎ (new ≡ spelling (record { boot = n.boot + 1; last_run = n.last_run })))
 
--- Why a server isn't opened: the device failed, the bytes are no note, the boots are used up, memory ran
--- out, or the save failed; and what the notes then hold.
+-- Why a server isn't opened: the device failed, the bytes are no note, the boots are used up,
+-- memory ran out, or the save failed; and what the notes then hold.
 abbrev pub NotOpened : Note → Note → Fault → Type 0
 NotOpened old new LoadFault = (old.failures < new.failures) × (new.bytes ≡ old.bytes)
 NotOpened old new BadNote = (new ≡ old) × ((n : Noted) → Says old.bytes n → ⊥)
-NotOpened old new NumbersSpent = (new ≡ old) × ((n : Noted) → Says old.bytes n → n.boot ≡ 2 ^ 64 - 1)
+NotOpened old new NumbersSpent =
+    (new ≡ old) × ((n : Noted) → Says old.bytes n → n.boot ≡ 2 ^ 64 - 1)
 NotOpened old new NoMemory = new ≡ old
 NotOpened old new SaveFault = (old.failures < new.failures) × IsHalfSaved old.bytes new.bytes
 NotOpened old new _ = ⊥

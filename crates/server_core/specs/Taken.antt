@@ -43,7 +43,8 @@ abbrev pub triggers : ℕ → Request → Bool
 triggers run (ToTrigger r act) = r == run
 triggers run _ = false
 
--- The state of job j that a Trigger takes of a run: the one that finds it writing takes, and no later.
+-- The state of job j that a Trigger takes of a run: the one that finds it writing takes, and no
+-- later.
 abbrev pub takes_now : Bool → Work → ℕ → Option Halt → Option State
 takes_now hits w j (Some halt) = None
 takes_now hits w j None = if hits then state_of_job w j w.since else None

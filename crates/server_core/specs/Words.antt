@@ -96,7 +96,8 @@ abbrev mutual
   last_run o [] = o.last
   last_run o (Met e left ∷ past) =
       last_run_after left
-      (due_by (is_on past) (last_run o past) (greatest (last_run o past) (stagings o past)) (work o past)
+      (due_by (is_on past) (last_run o past) (greatest (last_run o past) (stagings o past))
+      (work o past)
       (request_of o.me e))
       (last_run o past)
   last_run o (Cut ∷ past) = last_run o past
@@ -116,7 +117,8 @@ abbrev mutual
   work o [] = None
   work o (Met e left ∷ past) =
       work_after left
-      (due_by (is_on past) (last_run o past) (greatest (last_run o past) (stagings o past)) (work o past)
+      (due_by (is_on past) (last_run o past) (greatest (last_run o past) (stagings o past))
+      (work o past)
       (request_of o.me e))
       o.me (boot o past) (request_of o.me e) (work o past)
   work o (Cut ∷ past) = None
@@ -132,4 +134,5 @@ staged_run o past = greatest (last_run o past) (stagings o past)
 
 -- The run that an event is due to record.
 abbrev pub due : Opening → List Entry → Event → Option Staged
-due o past e = due_by (is_on past) (last_run o past) (staged_run o past) (work o past) (request_of o.me e)
+due o past e =
+    due_by (is_on past) (last_run o past) (staged_run o past) (work o past) (request_of o.me e)

@@ -25,18 +25,20 @@ words_after now x = record {
   last = now.last;
   staged = with_staged now.last (stages true now.last now.run x) now.staged;
   run = goes_on x now.run;
-  check = or_opened (opens true now.server now.boot now.last now.run now.check x) (check_goes_on x now.check);
+  check = or_opened (opens true now.server now.boot now.last now.run now.check x)
+      (check_goes_on x now.check);
 }
 
 -- The text gives these jobs to the phase, and they are a set.
 abbrev pub GivesJobs : Phase → List ℕ → List Job → Type 0
 GivesJobs phase text jobs = (jobs_for phase text ≡ Ok jobs) × IsSet jobs
 
--- The check that a Verify of the last run opens in a new attempt: one of reading jobs, where no write is
--- open and no job of a writing run has yet to end.
+-- The check that a Verify of the last run opens in a new attempt: one of reading jobs, where no
+-- write is open and no job of a writing run has yet to end.
 abbrev pub opened_anew : ℕ → ℕ → Option Work → ℕ → ℕ → List ℕ → Option Check
 opened_anew me now_boot run r a text =
-    if not (is_open run) && not (is_unended run) then new_check me now_boot r a (jobs_for Read text) else None
+    if not (is_open run) && not (is_unended run) then new_check me now_boot r a (jobs_for Read text)
+    else None
 
 -- The words behind a Start that has recorded a staged run: the run begins, and any check is closed.
 abbrev pub begun_by : Now → Staged → Now
@@ -52,4 +54,5 @@ begun_by now s = record {
 -- The request is a Start of this run, which is due to be recorded; or none is due.
 abbrev pub IsDueFor : Now → Request → Option ℕ → Type 0
 IsDueFor now x None = due_by true now.last now.staged now.run x ≡ None
-IsDueFor now x (Some run) = (x ≡ ToStart run) × (is_some (due_by true now.last now.staged now.run x) ≡ true)
+IsDueFor now x (Some run) =
+    (x ≡ ToStart run) × (is_some (due_by true now.last now.staged now.run x) ≡ true)

@@ -26,7 +26,8 @@ pub record AreCounted (bytes : List ℕ) (states : List State) : Type 0 where
   pub count : number_in w32 bytes ≡ length states
   pub said : states_at (length states) (drop 4 bytes) ≡ Some states
 
-pub spelled_counted : SpelledAreRead → (parts : List (List ℕ)) (states : List State) → SayStates parts states → length states ≤ KEPT_LIMIT → AreCounted (counted_states parts) states
+pub spelled_counted : SpelledAreRead → (parts : List (List ℕ)) (states : List State) → SayStates parts states → length states ≤ KEPT_LIMIT
+    → AreCounted (counted_states parts) states
 unfolding bytes_of number_in
 spelled_counted reads parts states h few =
     let r = reads parts states h in
@@ -43,10 +44,12 @@ same_states bytes states others a b =
     let s : Some states ≡ Some others = sym a.said ∙ (ap (λ n. states_at n (drop 4 bytes)) c ∙ b.said) in
     cc
 
-pub too_many_states : (bytes : List ℕ) (states : List State) (count : ℕ) → count ≡ number_in w32 bytes → KEPT_LIMIT < count → AreCounted bytes states → length states ≤ KEPT_LIMIT → ⊥
+pub too_many_states : (bytes : List ℕ) (states : List State) (count : ℕ) → count ≡ number_in w32 bytes → KEPT_LIMIT < count → AreCounted bytes states
+    → length states ≤ KEPT_LIMIT → ⊥
 too_many_states bytes states count c more a few = let e : count ≡ length states = c ∙ a.count in absurd (omega arith)
 
-pub no_states_read : (bytes : List ℕ) (states : List State) (count : ℕ) → count ≡ number_in w32 bytes → ReadsStates count (drop 4 bytes) None → AreCounted bytes states → has_distinct_keys states ≡ true → ⊥
+pub no_states_read : (bytes : List ℕ) (states : List State) (count : ℕ) → count ≡ number_in w32 bytes → ReadsStates count (drop 4 bytes) None
+    → AreCounted bytes states → has_distinct_keys states ≡ true → ⊥
 no_states_read bytes states count c h a keys = h states (subst (λ n. states_at n (drop 4 bytes) ≡ Some states) (sym a.count ∙ sym c) a.said) keys
 
 -- ---- what was spelled
@@ -54,12 +57,12 @@ no_states_read bytes states count c h a keys = h states (subst (λ n. states_at 
 each_byte : (bytes : List ℕ) → IsBytes bytes → AllByRecursion (λ byte. byte < 256) bytes
 each_byte bytes h = recursion_from_All (λ byte. byte < 256) bytes (All-from_get_or (λ byte. byte < 256) bytes 0 (λ i l. h i))
 
-pub counted_spelled : SpelledAreRead → ReadWereSpelled → (bytes : List ℕ) (count : ℕ) (states : List State) → IsBytes bytes → 4 ≤ length bytes → count ≡ number_in w32 bytes → states_at count (drop 4 bytes) ≡ Some states
+pub counted_spelled : SpelledAreRead → ReadWereSpelled → (bytes : List ℕ) (count : ℕ) (states : List State) → IsBytes bytes → 4 ≤ length bytes
+    → count ≡ number_in w32 bytes → states_at count (drop 4 bytes) ≡ Some states
     → (s : AreSpelled count (drop 4 bytes) states) × (counted_states s.parts ≡ bytes) × (length states ≡ count)
 unfolding field
 counted_spelled reads spelled bytes count states h long c said =
-    let s = spelled count (drop 4 bytes) states (each_byte (drop 4 bytes) (bytes_drop 4 bytes h)) said in
-    (
+    let s = spelled count (drop 4 bytes) states (each_byte (drop 4 bytes) (bytes_drop 4 bytes h)) said in (
       s,
       ap (λ l. bytes_of w32 (length s.parts) ++ l) (sym s.spelled) ∙ (ap (λ n. bytes_of w32 n ++ drop 4 bytes) (s.count ∙ c) ∙ piece32 0 bytes h long),
       sym (reads s.parts states s.says).0 ∙ s.count,
@@ -74,7 +77,8 @@ written back (s ∷ states) h =
     let l : length (spelling s) ≡ 136 = r.long in
     (record { short = omega arith; sound = r.sound; said = r.said }, written back states h.1)
 
-pub put_counted : (kept states : List State) (count : ℕ) (front bytes whole : List ℕ) → count ≡ length kept → states ≡ kept → bytes ≡ front ++ bytes_of w32 count → whole ≡ bytes ++ flat_map (λ s. counted_bytes (spelling s)) states
+pub put_counted : (kept states : List State) (count : ℕ) (front bytes whole : List ℕ) → count ≡ length kept → states ≡ kept
+    → bytes ≡ front ++ bytes_of w32 count → whole ≡ bytes ++ flat_map (λ s. counted_bytes (spelling s)) states
     → whole ≡ front ++ counted_states (map spelling kept)
 put_counted kept states count front bytes whole many all bytes_are whole_is =
     let number : count ≡ length (map spelling kept) = many ∙ sym (length-map kept spelling) in

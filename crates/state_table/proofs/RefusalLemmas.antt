@@ -38,7 +38,8 @@ state_refusals states state =
 
 -- ---- a state that isn't refused
 
-room_by : (d : Bool) (states : List State) (x : Option State) → x ≡ None → when d Conflict ++ when (lacks_room states x) TableFull ≡ [] → length states < KEPT_LIMIT
+room_by : (d : Bool) (states : List State) (x : Option State) → x ≡ None → when d Conflict ++ when (lacks_room states x) TableFull ≡ []
+    → length states < KEPT_LIMIT
 room_by false states None e free = not_full (lacks_room states None) refl free
   where
     not_full : (full : Bool) → lacks_room states None ≡ full → when full TableFull ≡ [] → length states < KEPT_LIMIT

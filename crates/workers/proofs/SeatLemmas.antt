@@ -34,10 +34,12 @@ ends_alike (Err fault) = refl
 unmoved : (seat after : Seated) → after ≡ seat → IsSeatOf seat after
 unmoved seat after h = rw h (same_seat seat)
 
-moved : (seat after : Seated) (answer : Result Said Fault) → after ≡ record { server = seat.server; number = seat.number; applied = seat.applied + 1; last = Some answer } → IsSeatOf seat after
+moved : (seat after : Seated) (answer : Result Said Fault)
+    → after ≡ record { server = seat.server; number = seat.number; applied = seat.applied + 1; last = Some answer } → IsSeatOf seat after
 moved seat after answer h = rw h (record { server = refl; number = refl; grown = omega arith })
 
-worked_by : (is : Bool) (seat after : Seated) (answer : Result Said Fault) → is ≡ ends_with (Some answer) → after ≡ record { server = seat.server; number = seat.number; applied = seat.applied + 1; last = Some answer } → WorkedIf is seat after
+worked_by : (is : Bool) (seat after : Seated) (answer : Result Said Fault) → is ≡ ends_with (Some answer)
+    → after ≡ record { server = seat.server; number = seat.number; applied = seat.applied + 1; last = Some answer } → WorkedIf is seat after
 worked_by false seat after answer over h = moved seat after answer h
 worked_by true seat after answer over h = record {
   same = moved seat after answer h;
@@ -45,14 +47,17 @@ worked_by true seat after answer over h = record {
   ended = rw h (sym over);
 }
 
-left_as_it_was : (seat after : Seated) (result : Result CallerAnswer Fault) (fault : Fault) → result ≡ Err fault → is_off fault ≡ false → after ≡ seat → WorkedIf (ends_by result) seat after
+left_as_it_was : (seat after : Seated) (result : Result CallerAnswer Fault) (fault : Fault) → result ≡ Err fault → is_off fault ≡ false → after ≡ seat
+    → WorkedIf (ends_by result) seat after
 left_as_it_was seat after result fault told on h = rw (ap ends_by told ∙ on) (unmoved seat after h)
 
 -- A call leaves the same seat, which has worked where the answer ends a worker.
-pub applied : (old : ServerLog) (seat : Seated) (task : Task) (new : ServerLog) (after : Seated) (result : Result CallerAnswer Fault) → Applies old seat task new after result → WorkedIf (ends_by result) seat after
+pub applied : (old : ServerLog) (seat : Seated) (task : Task) (new : ServerLog) (after : Seated) (result : Result CallerAnswer Fault)
+    → Applies old seat task new after result → WorkedIf (ends_by result) seat after
 applied old seat task new after result h = by_seat (is_right old seat) h
   where
-    by_answer : (lacks : Bool) (answer : Result Said Fault) → result ≡ told_by answer → Enters lacks old seat task new after answer → WorkedIf (ends_by result) seat after
+    by_answer : (lacks : Bool) (answer : Result Said Fault) → result ≡ told_by answer → Enters lacks old seat task new after answer
+        → WorkedIf (ends_by result) seat after
     by_answer true answer told e = left_as_it_was seat after result NoMemory (told ∙ ap told_by e.1) refl e.0.seat_is
     by_answer false answer told e = worked_by (ends_by result) seat after answer (ap ends_by told ∙ ends_alike answer) e.seat_is
 

@@ -67,7 +67,8 @@ impl<N: Notes + Drop> ClientCell<N> {
         ensures opening { self.new.opening ≡ self.old.opening }
         ensures failures { Counts false self.old.failures self.new.failures result }
         ensures why { IfErr result (HasWhy (rules self.old.opening) self.old.history (Meets Tick)) }
-        ensures ends { Posts Client kinds.Tick None hub.old.net hub.new.net self.old.history self.new.history result }
+        ensures ends { Posts Client kinds.Tick None hub.old.net hub.new.net self.old.history
+            self.new.history result }
         ensures replay { (past : List FrameEntry) × IsReplay self.new past }
     {
         packets_are_in_range();

@@ -51,7 +51,8 @@ impl<N: Notes + Drop> ServerCell<N> {
         ensures opening { self.new.opening ≡ self.old.opening }
         ensures failures { Counts false self.old.failures self.new.failures result }
         ensures ends { Posts
-            (ServerNode self.old.opening.me) came taken hub.old.net hub.new.net self.old.history self.new.history result }
+            (ServerNode self.old.opening.me) came taken hub.old.net hub.new.net self.old.history
+            self.new.history result }
         ensures why { IfErr result
             (HasWhy (rules self.old.opening) self.old.history (Meets input)) }
         ensures replay { (past : List FrameEntry) × IsReplay self.new past }

@@ -10,7 +10,8 @@ returns-in_err-run-in-Begin-clause-ends g c o past on s =
     let read = c.as_slice in
     let p = err_from_is_err_and c.from_residual.result c.from_residual.ensures.1 in
     rw (c.in-Begin.is, ← read.ensures.value, p.1, p.2)
-    (unanswered note o past (inputs.Begin read.result.now) c.args.client.now c.begin.new.self c.in_err-run-in-Begin.field-0.0 on (unasked o past (inputs.Begin read.result.now) c.in_err-run-in-Begin.field-0.0 tt) (c.in_err-run-in-Begin.ensures o past s))
+    (unanswered note o past (inputs.Begin read.result.now) c.args.client.now c.begin.new.self c.in_err-run-in-Begin.field-0.0 on
+    (unasked o past (inputs.Begin read.result.now) c.in_err-run-in-Begin.field-0.0 tt) (c.in_err-run-in-Begin.ensures o past s))
 
 pub returns-in_err-attempt-in-Verify-clause-ends : goal.returns-in_err-attempt-in-Verify-clause-ends
 returns-in_err-attempt-in-Verify-clause-ends g c o past on s =
@@ -19,7 +20,8 @@ returns-in_err-attempt-in-Verify-clause-ends g c o past on s =
     let gone = c.from_residual-in_err-attempt-in-Verify in
     let p = err_from_is_err_and gone.result gone.ensures.1 in
     rw (c.in-Verify.is, ← read.ensures.value, p.1, p.2)
-    (unanswered note o past (inputs.Verify c.in-Verify.run' read.result.now) c.args.client.now c.verify.new.self c.in_err-attempt-in-Verify.field-0.0 on (unasked o past (inputs.Verify c.in-Verify.run' read.result.now) c.in_err-attempt-in-Verify.field-0.0 tt) (c.in_err-attempt-in-Verify.ensures o past s))
+    (unanswered note o past (inputs.Verify c.in-Verify.run' read.result.now) c.args.client.now c.verify.new.self c.in_err-attempt-in-Verify.field-0.0 on
+    (unasked o past (inputs.Verify c.in-Verify.run' read.result.now) c.in_err-attempt-in-Verify.field-0.0 tt) (c.in_err-attempt-in-Verify.ensures o past s))
 
 pub returns-in-Trigger-clause-ends : goal.returns-in-Trigger-clause-ends
 returns-in-Trigger-clause-ends g c o past on s =

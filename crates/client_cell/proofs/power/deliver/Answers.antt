@@ -15,9 +15,11 @@ pub returns-clause-ends : goal.returns-clause-ends
 returns-clause-ends g c o past s =
     let lent = c.in_ok-on.ensures.lent o past s in
     rw c.plainly.ensures
-    (sent_ends g.N.Notes.note o past (inputs.Deliver c.args.frame) c.in_ok-on.field-0.now c.deliver.new.self c.deliver.result lent.2 refl (c.deliver.ensures.ranges o past lent.1) (c.deliver.ensures.ends o past lent.1))
+    (sent_ends g.N.Notes.note o past (inputs.Deliver c.args.frame) c.in_ok-on.field-0.now c.deliver.new.self c.deliver.result lent.2 refl
+    (c.deliver.ensures.ranges o past lent.1) (c.deliver.ensures.ends o past lent.1))
 
 pub returns-clause-count : goal.returns-clause-count
 returns-clause-count g c o past s =
     let lent = c.in_ok-on.ensures.lent o past s in
-    rw (lent.0, c.plainly.ensures) (sent_counts g.N.Notes.note o past (inputs.Deliver c.args.frame) c.in_ok-on.field-0.now c.deliver.new.self c.deliver.result (c.deliver.ensures.ends o past lent.1))
+    rw (lent.0, c.plainly.ensures) (sent_counts g.N.Notes.note o past (inputs.Deliver c.args.frame) c.in_ok-on.field-0.now c.deliver.new.self c.deliver.result
+    (c.deliver.ensures.ends o past lent.1))

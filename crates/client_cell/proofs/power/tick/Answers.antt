@@ -12,7 +12,8 @@ pub returns-in-Some-clause-ends : goal.returns-in-Some-clause-ends
 returns-in-Some-clause-ends g c o past s =
     let shown = c.in-Some.ensures o past s in
     let client = c.in-Some.client.now in
-    rw (shown.0, c.plainly.ensures) (sent_ends g.N.Notes.note o past inputs.Tick client client c.tick.result shown.2 refl (heard o past inputs.Tick c.tick.result tt) (c.tick.ensures o past shown.1))
+    rw (shown.0, c.plainly.ensures) (sent_ends g.N.Notes.note o past inputs.Tick client client c.tick.result shown.2 refl
+    (heard o past inputs.Tick c.tick.result tt) (c.tick.ensures o past shown.1))
 
 pub returns-in-Some-clause-count : goal.returns-in-Some-clause-count
 returns-in-Some-clause-count g c o past s =

@@ -18,6 +18,8 @@ returns c deeds h =
     (flat_map (λ s. begin_again run (text_of run deeds) s (begin_at run s deeds)) all)
     (flat_map (λ s. packets_again (bodies.Trigger run (act_of run deeds)) s (trigger_at run s deeds)) all)
     (flat_map (λ s. packets_again (bodies.Stop run) s (stop_at run s deeds)) all)
-    (c.in_ok-begin_again.ensures (λ s. begin_at run s deeds) h.begins ∙ ap (λ t. c.args.frames.now ++ frame_bytes (flat_map (λ s. begin_again run t s (begin_at run s deeds)) all)) (c.text.ensures.text ∙ h.text))
-    (c.in_ok-say_again.ensures (λ s. trigger_at run s deeds) h.triggers ∙ ap (λ a. c.begin_again.new.frames ++ frame_bytes (flat_map (λ s. packets_again (bodies.Trigger run a) s (trigger_at run s deeds)) all)) h.act)
+    (c.in_ok-begin_again.ensures (λ s. begin_at run s deeds) h.begins
+    ∙ ap (λ t. c.args.frames.now ++ frame_bytes (flat_map (λ s. begin_again run t s (begin_at run s deeds)) all)) (c.text.ensures.text ∙ h.text))
+    (c.in_ok-say_again.ensures (λ s. trigger_at run s deeds) h.triggers
+    ∙ ap (λ a. c.begin_again.new.frames ++ frame_bytes (flat_map (λ s. packets_again (bodies.Trigger run a) s (trigger_at run s deeds)) all)) h.act)
     (c.in_ok-say_again-2.ensures (λ s. stop_at run s deeds) h.stops)

@@ -14,10 +14,13 @@ pub loop-server-preserved : goal.loop-server-preserved
 loop-server-preserved c = λ at h.
     let s = c.loop-server.server in
     let next : c.loop-server.server + 1 ≡ suc c.loop-server.server = omega arith in
-    framed_each (λ k. begin_again c.args.run c.args.text.now k (at k)) s (c.loop-server.server + 1) next c.args.frames.now c.loop-server.frames c.begin_at_server.new.frames (c.loop-server.invariant at h)
-    (c.in_ok-begin_at_server.ensures ∙ ap (λ b. c.loop-server.frames ++ frame_bytes (begin_again c.args.run c.args.text.now s b)) (h s _ (slice_get-get_or c.args.begins.now s _ (omega arith))))
+    framed_each (λ k. begin_again c.args.run c.args.text.now k (at k)) s
+    (c.loop-server.server + 1) next c.args.frames.now c.loop-server.frames c.begin_at_server.new.frames (c.loop-server.invariant at h)
+    (c.in_ok-begin_at_server.ensures ∙ ap (λ b. c.loop-server.frames ++ frame_bytes (begin_again c.args.run c.args.text.now s b))
+    (h s _ (slice_get-get_or c.args.begins.now s _ (omega arith))))
 
 pub returns : goal.returns
 returns c = λ at h.
     let all : c.loop-server.server ≡ c.args.servers = omega (arith, c.loop-server-test.false, c.loop-server.auto.server-end) in
-    subst (λ k. c.loop-server.frames ≡ c.args.frames.now ++ frame_bytes (flat_map (λ s. begin_again c.args.run c.args.text.now s (at s)) (numbers_below k))) all (c.loop-server.invariant at h)
+    subst (λ k. c.loop-server.frames ≡ c.args.frames.now ++ frame_bytes (flat_map (λ s. begin_again c.args.run c.args.text.now s (at s)) (numbers_below k))) all
+    (c.loop-server.invariant at h)

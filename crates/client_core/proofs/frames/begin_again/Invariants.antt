@@ -9,4 +9,5 @@ use Rattle.client_core.proofs.frames.begin_again.Given as goal
 
 abbrev pub invariant-loop-server : goal.invariant-loop-server
 invariant-loop-server l =
-    (at : ℕ → Beginning) → Each l.begins (λ s b. b ≡ at s) → l.frames ≡ l.fn.frames ++ frame_bytes (flat_map (λ s. begin_again l.run l.text s (at s)) (numbers_below l.server))
+    (at : ℕ → Beginning) → Each l.begins (λ s b. b ≡ at s)
+    → l.frames ≡ l.fn.frames ++ frame_bytes (flat_map (λ s. begin_again l.run l.text s (at s)) (numbers_below l.server))

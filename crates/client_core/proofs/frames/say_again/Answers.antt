@@ -22,7 +22,8 @@ loop-server-preserved c = (
       let s = c.loop-server.server in
       let next : c.loop-server.server + 1 ≡ suc c.loop-server.server = omega arith in
       let opened = c.is_open-is_open.ensures (at s) (h s _ (slice_get-get_or c.args.standings.now s _ (omega arith))) in
-      framed_each (λ k. packets_again c.args.body k (at k)) s (c.loop-server.server + 1) next c.args.frames.now c.loop-server.frames c.say_if.new.frames (c.loop-server.invariant.1 at h)
+      framed_each (λ k. packets_again c.args.body k (at k)) s (c.loop-server.server + 1) next c.args.frames.now c.loop-server.frames c.say_if.new.frames
+      (c.loop-server.invariant.1 at h)
       (c.in_ok-body.ensures.said
       ∙ ap (λ b. c.loop-server.frames ++ frame_bytes (if c.is_open-is_open.result then to_server b s ∷ [] else [])) c.loop-server.invariant.0
       ∙ ap (λ o. c.loop-server.frames ++ frame_bytes (if o then to_server c.args.body s ∷ [] else [])) opened
@@ -32,4 +33,5 @@ loop-server-preserved c = (
 pub returns : goal.returns
 returns c = λ at h.
     let all : c.loop-server.server ≡ c.args.servers = omega (arith, c.loop-server-test.false, c.loop-server.auto.server-end) in
-    subst (λ k. c.loop-server.frames ≡ c.args.frames.now ++ frame_bytes (flat_map (λ s. packets_again c.args.body s (at s)) (numbers_below k))) all (c.loop-server.invariant.1 at h)
+    subst (λ k. c.loop-server.frames ≡ c.args.frames.now ++ frame_bytes (flat_map (λ s. packets_again c.args.body s (at s)) (numbers_below k))) all
+    (c.loop-server.invariant.1 at h)

@@ -11,4 +11,5 @@ use Rattle.client_core.proofs.frames.say_again.Given as goal
 abbrev pub invariant-loop-server : goal.invariant-loop-server
 invariant-loop-server l =
     (l.body ≡ l.fn.body)
-    × ((at : ℕ → Request) → Each l.standings (λ s x. IsRequestKept x (at s)) → l.frames ≡ l.fn.frames ++ frame_bytes (flat_map (λ s. packets_again l.fn.body s (at s)) (numbers_below l.server)))
+    × ((at : ℕ → Request) → Each l.standings (λ s x. IsRequestKept x (at s))
+    → l.frames ≡ l.fn.frames ++ frame_bytes (flat_map (λ s. packets_again l.fn.body s (at s)) (numbers_below l.server)))

@@ -1,4 +1,6 @@
-use Rattle.client_core.proofs.ExampleLemmas.{begins, waits_for_the_busy, keeps_the_first, triggers_to_the_end, verifies, goes_down, keeps_what_is_noted, forgets_by_a_cut, asks_again_in_order, spends_numbers, numbers_once_granted, copies_what_is_kept, fetches_what_was_lost, hears_its_mirror_alone}
+use Rattle.client_core.proofs.ExampleLemmas.{begins, waits_for_the_busy, keeps_the_first, triggers_to_the_end, verifies, goes_down}
+use Rattle.client_core.proofs.ExampleLemmas.{keeps_what_is_noted, forgets_by_a_cut, asks_again_in_order, spends_numbers}
+use Rattle.client_core.proofs.ExampleLemmas.{numbers_once_granted, copies_what_is_kept, fetches_what_was_lost, hears_its_mirror_alone}
 use Rattle.client_core.proofs.law.examples.Goals as goal
 
 pub returns-clause-begins : goal.returns-clause-begins

@@ -19,8 +19,10 @@ returns-in-Some-clause-said c =
     let runs = c.split_u64-runs.ensures.rest in
     let attempts = c.split_u64-attempts.ensures.rest ∙ ap (drop 8) runs in
     let states = c.split_u32-count.ensures.rest ∙ ap (drop 4) attempts in
-    let read = subst (λ (l : List ℕ). ReadsStates c.split_u32-count.result.0 l (Some c.in-Some.kept)) states (subst (ReadsStates c.split_u32-count.result.0 c.split_u32-count.result.1.now) c.in-Some.is c.in_ok-kept.ensures.states) in
-    let says = numbers_say c.spelled_are_read.ensures c.read_were_spelled.ensures c.args.bytes.now c.args.generation c.split_u64-runs.result.0 c.split_u64-attempts.result.0 c.split_u32-count.result.0 c.in-Some.kept (λ i. omega (arith, c.type_inv.bytes i))
+    let read = subst (λ (l : List ℕ). ReadsStates c.split_u32-count.result.0 l (Some c.in-Some.kept)) states
+    (subst (ReadsStates c.split_u32-count.result.0 c.split_u32-count.result.1.now) c.in-Some.is c.in_ok-kept.ensures.states) in
+    let says = numbers_say c.spelled_are_read.ensures c.read_were_spelled.ensures c.args.bytes.now c.args.generation c.split_u64-runs.result.0
+    c.split_u64-attempts.result.0 c.split_u32-count.result.0 c.in-Some.kept (λ i. omega (arith, c.type_inv.bytes i))
     (omega (arith, c.if-bytes-lt-NUMBERS.false)) (omega (arith, c.number-number.ensures.value, c.number-number.ensures.range)) c.split_u64-runs.ensures.number
     (c.split_u64-attempts.ensures.number ∙ ap (λ l. number_in w64 l) runs)
     (c.split_u32-count.ensures.number ∙ ap (λ l. number_in w32 l) attempts)
@@ -32,5 +34,6 @@ returns-in-None-clause-said c =
     let attempts = c.split_u64-attempts.ensures.rest ∙ ap (drop 8) c.split_u64-runs.ensures.rest in
     let count = c.split_u32-count.ensures.number ∙ ap (λ l. number_in w32 l) attempts in
     let states = c.split_u32-count.ensures.rest ∙ ap (drop 4) attempts in
-    let read = subst (λ (l : List ℕ). ReadsStates c.split_u32-count.result.0 l None) states (subst (ReadsStates c.split_u32-count.result.0 c.split_u32-count.result.1.now) c.in-None.is c.in_ok-kept.ensures.states) in
+    let read = subst (λ (l : List ℕ). ReadsStates c.split_u32-count.result.0 l None) states
+    (subst (ReadsStates c.split_u32-count.result.0 c.split_u32-count.result.1.now) c.in-None.is c.in_ok-kept.ensures.states) in
     λ n k a. no_states c.spelled_are_read.ensures c.args.bytes.now n c.split_u32-count.result.0 count read k a

@@ -14,9 +14,11 @@ returns-in_err-on-clause-ends g c o past s =
 pub returns-clause-ends : goal.returns-clause-ends
 returns-clause-ends g c o past s =
     let lent = c.in_ok-on.ensures.lent o past s in
-    step_ends g.N.Notes.note o past (inputs.Issue c.args.job) c.in_ok-on.field-0.now c.issue.new.self (outs_of_issue c.issue.result) lent.2 (c.issue.ensures.ends o past lent.1) (c.issue.ensures.ranges o past lent.1)
+    step_ends g.N.Notes.note o past (inputs.Issue c.args.job) c.in_ok-on.field-0.now c.issue.new.self (outs_of_issue c.issue.result) lent.2
+    (c.issue.ensures.ends o past lent.1) (c.issue.ensures.ranges o past lent.1)
 
 pub returns-clause-count : goal.returns-clause-count
 returns-clause-count g c o past s =
     let lent = c.in_ok-on.ensures.lent o past s in
-    rw lent.0 (step_counts g.N.Notes.note o past (inputs.Issue c.args.job) c.in_ok-on.field-0.now c.issue.new.self (outs_of_issue c.issue.result) (c.issue.ensures.ends o past lent.1))
+    rw lent.0 (step_counts g.N.Notes.note o past (inputs.Issue c.args.job) c.in_ok-on.field-0.now c.issue.new.self (outs_of_issue c.issue.result)
+    (c.issue.ensures.ends o past lent.1))

@@ -7,14 +7,16 @@ use Rattle.server_cell.proofs.power.perform.Goals as goal
 pub returns-in_err-issue-in-Issue-clause-ends : goal.returns-in_err-issue-in-Issue-clause-ends
 returns-in_err-issue-in-Issue-clause-ends g c o past me s =
     let p = err_from_is_err_and c.from_residual.result c.from_residual.ensures.1 in
-    rw (c.in-Issue.is, p.1, p.2) (unanswered (ways g.N.Notes.note o) past (inputs.Issue c.in-Issue.job) c.in_err-issue-in-Issue.field-0.0 c.issue.new.power (c.in_err-issue-in-Issue.ensures.ends o past s))
+    rw (c.in-Issue.is, p.1, p.2) (unanswered (ways g.N.Notes.note o) past (inputs.Issue c.in-Issue.job) c.in_err-issue-in-Issue.field-0.0 c.issue.new.power
+    (c.in_err-issue-in-Issue.ensures.ends o past s))
 
 pub returns-in_err-end_write-in-WriteDone-clause-ends : goal.returns-in_err-end_write-in-WriteDone-clause-ends
 returns-in_err-end_write-in-WriteDone-clause-ends g c o past me s =
     let failed = c.in_err-end_write-in-WriteDone in
     let gone = c.from_residual-in_err-end_write-in-WriteDone in
     let p = err_from_is_err_and gone.result gone.ensures.1 in
-    rw (c.in-WriteDone.is, p.1, p.2) (unanswered (ways g.N.Notes.note o) past (inputs.WriteDone c.in-WriteDone.ticket c.in-WriteDone.end) failed.field-0.0 c.end_write.new.power (failed.ensures.ends o past s))
+    rw (c.in-WriteDone.is, p.1, p.2) (unanswered (ways g.N.Notes.note o) past
+    (inputs.WriteDone c.in-WriteDone.ticket c.in-WriteDone.end) failed.field-0.0 c.end_write.new.power (failed.ensures.ends o past s))
 
 pub returns-in-Cut-clause-ends : goal.returns-in-Cut-clause-ends
 returns-in-Cut-clause-ends g c o past me s = rw c.in-Cut.is (c.cut.ensures.ends o past s)

@@ -12,7 +12,8 @@ returns-in_err-on-clause-ends g c o past s =
 pub returns-clause-ends : goal.returns-clause-ends
 returns-clause-ends g c o past s =
     let lent = c.in_ok-on.ensures.lent o past s in
-    step_ends g.N.Notes.note o past c.args.input c.in_ok-on.field-0.now c.step.new.self c.step.result lent.2 (c.step.ensures.ends o past lent.1) (c.step.ensures.ranges o past lent.1)
+    step_ends g.N.Notes.note o past c.args.input c.in_ok-on.field-0.now c.step.new.self c.step.result lent.2 (c.step.ensures.ends o past lent.1)
+    (c.step.ensures.ranges o past lent.1)
 
 pub returns-clause-count : goal.returns-clause-count
 returns-clause-count g c o past s =

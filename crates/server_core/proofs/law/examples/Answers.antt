@@ -1,4 +1,5 @@
-use Rattle.server_core.proofs.ExampleLemmas.{starts_and_issues, takes_once, forgets_by_a_cut, saves_before_it_starts, stops_for_good, checks_the_last_run, refuses_a_misfit}
+use Rattle.server_core.proofs.ExampleLemmas.{starts_and_issues, takes_once, forgets_by_a_cut, saves_before_it_starts}
+use Rattle.server_core.proofs.ExampleLemmas.{stops_for_good, checks_the_last_run, refuses_a_misfit}
 use Rattle.server_core.proofs.law.examples.Goals as goal
 
 pub returns-clause-starts : goal.returns-clause-starts

@@ -4,4 +4,5 @@ use Rattle.server_core.proofs.run.stop_all.Goals as goal
 
 pub loop-job-preserved : goal.loop-job-preserved
 loop-job-preserved c =
-    part_step stopped_kept c.args.jobs.now c.loop-job.jobs c.loop-job.job-index c.job-item.result c.stop.new.self c.loop-job.invariant c.loop-job.auto.jobs c.loop-job-test.true c.job-item.is c.stop.ensures
+    part_step stopped_kept c.args.jobs.now c.loop-job.jobs c.loop-job.job-index c.job-item.result c.stop.new.self c.loop-job.invariant c.loop-job.auto.jobs
+    c.loop-job-test.true c.job-item.is c.stop.ensures

@@ -4,4 +4,5 @@ use Rattle.workers.proofs.server.issue.Goals as goal
 
 pub returns-in-Err-clause-seat : goal.returns-in-Err-clause-seat
 returns-in-Err-clause-seat g c =
-    seat_worked _ c.args.seat.now c.apply.new.seat (applied c.args.server.now c.args.seat.now (Issue c.args.job) c.apply.new.self c.apply.new.seat c.apply.result c.apply.ensures.ends)
+    seat_worked _ c.args.seat.now c.apply.new.seat (applied c.args.server.now c.args.seat.now
+    (Issue c.args.job) c.apply.new.self c.apply.new.seat c.apply.result c.apply.ensures.ends)

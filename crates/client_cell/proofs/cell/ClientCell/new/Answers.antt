@@ -10,11 +10,17 @@ invariant_of-result g c =
     let client = c.in_ok-client.client in
     let h = c.in_ok-client.ensures in
     let blank = c.is_blank-is_blank.ensures (opening_by c.args.servers h.said) first (opened_once note c.args.servers c.args.notes client h) in
-    let said = seen_said note c.args.servers c.args.notes client _ h c.of.ensures in
-    (new_cell note c.args.servers c.args.notes client _ h c.new.result.items _ c.requires.some c.requires.few c.of.ensures c.new.ensures, blank ∙ ap is_blank (sym said))
+    let said = seen_said note c.args.servers c.args.notes client _ h c.of.ensures in (
+      new_cell note c.args.servers c.args.notes client _ h c.new.result.items _ c.requires.some c.requires.few c.of.ensures c.new.ensures,
+      blank ∙ ap is_blank (sym said),
+    )
 
 pub returns-clause-opened : goal.returns-clause-opened
 returns-clause-opened g c =
     let note = g.N.Notes.note in
-    let h = c.in_ok-client.ensures in
-    (refl, rw (c.of.ensures, said_then note c.args.servers c.args.notes c.in_ok-client.client h) h.says, rw c.new.ensures refl, ap (λ (n : Note). n.failures) h.same)
+    let h = c.in_ok-client.ensures in (
+      refl,
+      rw (c.of.ensures, said_then note c.args.servers c.args.notes c.in_ok-client.client h) h.says,
+      rw c.new.ensures refl,
+      ap (λ (n : Note). n.failures) h.same,
+    )

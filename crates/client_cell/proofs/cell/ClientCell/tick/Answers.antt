@@ -18,7 +18,8 @@ use Rattle.client_cell.proofs.HearLemmas.{unready_why, sent_spelled, heard_cell,
 use Rattle.client_cell.proofs.cell.ClientCell.tick.Goals as goal
 
 pub returns-in_default-clause-ends : goal.returns-in_default-clause-ends
-returns-in_default-clause-ends g c = left_out_posts Client came.Tick None c.args.hub.now.net c.args.hub.now.net c.args.self.now.history c.args.self.now.history NoMemory refl refl refl
+returns-in_default-clause-ends g c =
+    left_out_posts Client came.Tick None c.args.hub.now.net c.args.hub.now.net c.args.self.now.history c.args.self.now.history NoMemory refl refl refl
 
 pub returns-in_err-make_room-clause-ends : goal.returns-in_err-make_room-clause-ends
 returns-in_err-make_room-clause-ends g c =
@@ -26,7 +27,8 @@ returns-in_err-make_room-clause-ends g c =
     let o = opening_of c.self.inside.servers c.self.inside.opened.value in
     let p = err_from_is_err_and c.from_residual.result c.from_residual.ensures.1 in
     rw (p.1, p.2)
-    (unready _ Client came.Tick None c.args.hub.now.net c.make_room.new.hub.net c.args.self.now.history _ c.in_err-make_room.field-0.0 (c.in_err-make_room.ensures.ready o cell.kept.past cell.kept.stands) c.make_room.ensures.net
+    (unready _ Client came.Tick None c.args.hub.now.net c.make_room.new.hub.net c.args.self.now.history _ c.in_err-make_room.field-0.0
+    (c.in_err-make_room.ensures.ready o cell.kept.past cell.kept.stands) c.make_room.ensures.net
     (rw c.make_room.ensures.items (ap (λ (log : ClientLog). log.history) c.self.view_is)))
 
 pub returns-in_err-make_room-clause-why : goal.returns-in_err-make_room-clause-why
@@ -34,7 +36,8 @@ returns-in_err-make_room-clause-why g c =
     let cell = c.self.invariant.0 in
     let o = opening_of c.self.inside.servers c.self.inside.opened.value in
     let p = err_from_is_err_and c.from_residual.result c.from_residual.ensures.1 in
-    rw (p.1, p.2) (unready_why g.N.Notes.note _ c.self.inside.power cell inputs.Tick c.in_err-make_room.field-0.0 c.args.self.now (c.in_err-make_room.ensures.ready o cell.kept.past cell.kept.stands) c.self.view_is)
+    rw (p.1, p.2) (unready_why g.N.Notes.note _ c.self.inside.power cell inputs.Tick c.in_err-make_room.field-0.0 c.args.self.now
+    (c.in_err-make_room.ensures.ready o cell.kept.past cell.kept.stands) c.self.view_is)
 
 pub returns-in_err-make_room-clause-failures : goal.returns-in_err-make_room-clause-failures
 returns-in_err-make_room-clause-failures g c =
@@ -42,7 +45,8 @@ returns-in_err-make_room-clause-failures g c =
     let o = opening_of c.self.inside.servers c.self.inside.opened.value in
     let p = err_from_is_err_and c.from_residual.result c.from_residual.ensures.1 in
     rw (p.1, p.2)
-    (unready_counts _ c.args.self.now.failures _ c.in_err-make_room.field-0.0 (c.in_err-make_room.ensures.ready o cell.kept.past cell.kept.stands) (ap (λ (log : ClientLog). log.failures) c.self.view_is))
+    (unready_counts _ c.args.self.now.failures _ c.in_err-make_room.field-0.0 (c.in_err-make_room.ensures.ready o cell.kept.past cell.kept.stands)
+    (ap (λ (log : ClientLog). log.failures) c.self.view_is))
 
 pub enter-requires-clause-spelled : goal.enter-requires-clause-spelled
 enter-requires-clause-spelled g c =
@@ -50,7 +54,8 @@ enter-requires-clause-spelled g c =
     let o = opening_of c.self.inside.servers c.self.inside.opened.value in
     let ends = c.tick.ensures.ends o cell.kept.past cell.kept.stands in
     subst (λ (r : Result Said Fault × List (List ℕ)). All IsSpelled r.1) (sym c.outcome-done.ensures)
-    (sent_spelled g.N.Notes.note _ c.self.inside.power cell inputs.Tick c.self.inside.power c.tick.result c.frames_are_spelled.ensures c.packets_are_in_range.ensures ends)
+    (sent_spelled g.N.Notes.note _ c.self.inside.power cell inputs.Tick c.self.inside.power c.tick.result c.frames_are_spelled.ensures
+    c.packets_are_in_range.ensures ends)
 
 pub invariant_of-self-2 : goal.invariant_of-self-2
 invariant_of-self-2 g c =
@@ -64,7 +69,8 @@ returns-clause-why g c =
     let cell = c.self.invariant.0 in
     let o = opening_of c.self.inside.servers c.self.inside.opened.value in
     let ends = c.tick.ensures.ends o cell.kept.past cell.kept.stands in
-    told_why g.N.Notes.note _ c.self.inside.power c.self.inside.power cell inputs.Tick c.tick.result _ _ c.enter.result c.args.self.now (c.in_ok-make_room.ensures.ready o cell.kept.past cell.kept.stands) ends (rw c.outcome-done.ensures at c.enter.ensures.told) c.self.view_is
+    told_why g.N.Notes.note _ c.self.inside.power c.self.inside.power cell inputs.Tick c.tick.result _ _ c.enter.result c.args.self.now
+    (c.in_ok-make_room.ensures.ready o cell.kept.past cell.kept.stands) ends (rw c.outcome-done.ensures at c.enter.ensures.told) c.self.view_is
 
 pub returns-clause-replay : goal.returns-clause-replay
 returns-clause-replay g c =
@@ -72,25 +78,34 @@ returns-clause-replay g c =
     let o = opening_of c.self.inside.servers c.self.inside.opened.value in
     let ends = c.tick.ensures.ends o cell.kept.past cell.kept.stands in
     replayed g.N.Notes.note _ c.self.inside.power
-    (heard_cell g.N.Notes.note _ c.self.inside.power c.self.inside.power cell inputs.Tick c.tick.result came.Tick None c.make_room.new.hub.net c.enter.new.hub.net _ (failures_of g.N.Notes.note c.self.inside.power) refl ends (rw (c.outcome-done.ensures, c.make_room.ensures.items) at c.enter.ensures.heard))
+    (heard_cell g.N.Notes.note _ c.self.inside.power c.self.inside.power cell inputs.Tick c.tick.result came.Tick None c.make_room.new.hub.net
+    c.enter.new.hub.net _ (failures_of g.N.Notes.note c.self.inside.power) refl ends
+    (rw (c.outcome-done.ensures, c.make_room.ensures.items) at c.enter.ensures.heard))
 
 pub returns-then-is_none-clause-ends : goal.returns-then-is_none-clause-ends
-returns-then-is_none-clause-ends g c = left_out_posts Client came.Tick None c.args.hub.now.net c.args.hub.now.net c.args.self.now.history c.args.self.now.history NodeOff refl refl refl
+returns-then-is_none-clause-ends g c =
+    left_out_posts Client came.Tick None c.args.hub.now.net c.args.hub.now.net c.args.self.now.history c.args.self.now.history NodeOff refl refl refl
 
 pub returns-then-is_none-clause-why : goal.returns-then-is_none-clause-why
 returns-then-is_none-clause-why g c =
     let cell = c.self.invariant.0 in
     let o = opening_of c.self.inside.servers c.self.inside.opened.value in
-    unready_why g.N.Notes.note _ c.self.inside.power cell inputs.Tick NodeOff c.args.self.now (hidden (client_kind g.N.Notes.note o) cell.kept.past c.self.inside.power c.core.result (c.core.ensures o cell.kept.past cell.kept.stands) c.if-is_none.ensures) c.self.view_is
+    unready_why g.N.Notes.note _ c.self.inside.power cell inputs.Tick NodeOff c.args.self.now
+    (hidden (client_kind g.N.Notes.note o) cell.kept.past c.self.inside.power c.core.result
+    (c.core.ensures o cell.kept.past cell.kept.stands) c.if-is_none.ensures) c.self.view_is
 
 pub returns-in_default-clause-why : goal.returns-in_default-clause-why
 returns-in_default-clause-why g c =
     let cell = c.self.invariant.0 in
     let o = opening_of c.self.inside.servers c.self.inside.opened.value in
-    unready_why g.N.Notes.note _ c.self.inside.power cell inputs.Tick NoMemory c.args.self.now (there (client_kind g.N.Notes.note o) cell.kept.past c.self.inside.power c.core.result (c.core.ensures o cell.kept.past cell.kept.stands) c.if-is_none.ensures) c.self.view_is
+    unready_why g.N.Notes.note _ c.self.inside.power cell inputs.Tick NoMemory c.args.self.now
+    (there (client_kind g.N.Notes.note o) cell.kept.past c.self.inside.power c.core.result
+    (c.core.ensures o cell.kept.past cell.kept.stands) c.if-is_none.ensures) c.self.view_is
 
 pub returns-clause-failures : goal.returns-clause-failures
 returns-clause-failures g c =
     let cell = c.self.invariant.0 in
     let o = opening_of c.self.inside.servers c.self.inside.opened.value in
-    hear_counts c.args.self.now.failures (failures_of g.N.Notes.note c.self.inside.power) (failures_of g.N.Notes.note c.self.inside.power) _ _ (reply_and_frames c.tick.result) c.enter.result (ap (λ (log : ClientLog). log.failures) c.self.view_is) (rw c.outcome-done.ensures at c.enter.ensures.told) (c.tick.ensures.count o cell.kept.past cell.kept.stands)
+    hear_counts c.args.self.now.failures (failures_of g.N.Notes.note c.self.inside.power) (failures_of g.N.Notes.note c.self.inside.power) _ _
+    (reply_and_frames c.tick.result) c.enter.result (ap (λ (log : ClientLog). log.failures) c.self.view_is)
+    (rw c.outcome-done.ensures at c.enter.ensures.told) (c.tick.ensures.count o cell.kept.past cell.kept.stands)

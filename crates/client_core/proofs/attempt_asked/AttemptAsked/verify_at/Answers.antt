@@ -7,4 +7,5 @@ use Rattle.client_core.proofs.attempt_asked.AttemptAsked.verify_at.Goals as goal
 pub returns : goal.returns
 returns c number deeds h =
     let at : c.args.server < length c.args.self.now.verifies = omega arith in
-    c.outcome.ensures ∙ outcome_kept _ (verify_at number c.args.server deeds) (h.verifies c.args.server _ (slice_get-get_or c.args.self.now.verifies c.args.server _ at))
+    c.outcome.ensures ∙ outcome_kept _ (verify_at number c.args.server deeds)
+    (h.verifies c.args.server _ (slice_get-get_or c.args.self.now.verifies c.args.server _ at))

@@ -21,15 +21,19 @@ returns-then-is_ok-clause-ends g c o past s =
     let q = c.args.piece.now in
     let p = c.in-Ok-Some.packet in
     let is = subst (IsSensed o past q) (c.in-Ok-Some.is ∙ ap Ok c.in-Ok-Some.field-0-is) (c.look.ensures o past s) in
-    subst (λ rows. Ends (steps note o) past (Deliver (Piece q)) old (record { alloc = old.alloc; core = c.deliver-sent.new.self; pieces = rows }) c.deliver-sent.result) (sym (c.drop.ensures ∙ ap (λ t. without_tag t old.pieces) c.tag.ensures))
-    (given_answers note old c.deliver-sent.new.self o past q p c.deliver-sent.result c.frames_are_short.ensures c.keeps_its_ranges.ensures s is (c.deliver-sent.ensures o (packets_heard o past) s.core) (sym c.is_ok.ensures.value ∙ c.if-is_ok.true))
+    subst (λ rows. Ends (steps note o) past (Deliver (Piece q)) old
+    (record { alloc = old.alloc; core = c.deliver-sent.new.self; pieces = rows }) c.deliver-sent.result)
+    (sym (c.drop.ensures ∙ ap (λ t. without_tag t old.pieces) c.tag.ensures))
+    (given_answers note old c.deliver-sent.new.self o past q p c.deliver-sent.result c.frames_are_short.ensures c.keeps_its_ranges.ensures s is
+    (c.deliver-sent.ensures o (packets_heard o past) s.core) (sym c.is_ok.ensures.value ∙ c.if-is_ok.true))
 
 pub returns-else-is_ok-clause-ends : goal.returns-else-is_ok-clause-ends
 returns-else-is_ok-clause-ends g c o past s =
     let q = c.args.piece.now in
     let p = c.in-Ok-Some.packet in
     let is = subst (IsSensed o past q) (c.in-Ok-Some.is ∙ ap Ok c.in-Ok-Some.field-0-is) (c.look.ensures o past s) in
-    given_refused g.N.Notes.note c.args.self.now c.deliver-sent.new.self o past q p c.deliver-sent.result s is (c.deliver-sent.ensures o (packets_heard o past) s.core) (sym c.is_ok.ensures.value ∙ c.if-is_ok.false)
+    given_refused g.N.Notes.note c.args.self.now c.deliver-sent.new.self o past q p c.deliver-sent.result s is
+    (c.deliver-sent.ensures o (packets_heard o past) s.core) (sym c.is_ok.ensures.value ∙ c.if-is_ok.false)
 
 pub returns-in-Ok-clause-ends : goal.returns-in-Ok-clause-ends
 returns-in-Ok-clause-ends g c o past s =
@@ -38,7 +42,8 @@ returns-in-Ok-clause-ends g c o past s =
     let q = c.args.piece.now in
     let is = subst (IsSensed o past q) (c.in-Ok-None.is ∙ ap Ok c.in-Ok-None.field-0-is) (c.look.ensures o past s) in
     subst (λ rows. Ends (steps note o) past (Deliver (Piece q)) old (record old { pieces = rows }) (Ok c.new.result)) (sym c.in-Ok.ensures.taken)
-    (subst (λ sent. Ends (steps note o) past (Deliver (Piece q)) old (record old { pieces = rows_after_piece old.pieces q }) (Ok sent)) (sym c.new.ensures) (kept_ends note o past q old is s))
+    (subst (λ sent. Ends (steps note o) past (Deliver (Piece q)) old (record old { pieces = rows_after_piece old.pieces q }) (Ok sent)) (sym c.new.ensures)
+    (kept_ends note o past q old is s))
 
 pub returns-in-Err-FrameBadField-clause-ends : goal.returns-in-Err-FrameBadField-clause-ends
 returns-in-Err-FrameBadField-clause-ends g c o past s =

@@ -10,7 +10,9 @@ use Rattle.client_core.proofs.client.Client.take.Goals as goal
 
 pub returns-clause-ends : goal.returns-clause-ends
 returns-clause-ends g c o past s =
-    whole_ends g.N.Notes.note o past (Deliver (Whole c.args.packet)) (calls.Deliver c.args.packet) c.args.self.now c.deliver.new.self c.deliver.result c.frames_are_short.ensures c.keeps_its_ranges.ensures refl refl s (c.deliver.ensures o (packets_heard o past) s.core)
+    whole_ends g.N.Notes.note o past (Deliver (Whole c.args.packet))
+    (calls.Deliver c.args.packet) c.args.self.now c.deliver.new.self c.deliver.result c.frames_are_short.ensures c.keeps_its_ranges.ensures refl refl s
+    (c.deliver.ensures o (packets_heard o past) s.core)
 
 pub returns-clause-ranges : goal.returns-clause-ranges
 returns-clause-ranges g c o past s =

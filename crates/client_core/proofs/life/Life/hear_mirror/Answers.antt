@@ -9,11 +9,13 @@ use Rattle.client_core.proofs.life.Life.hear_mirror.Goals as goal
 pub returns-in-CopyOk-clause-left : goal.returns-in-CopyOk-clause-left
 returns-in-CopyOk-clause-left c =
     ok_life c.add_copied.result _ _ (λ u deeds h. subst (λ (b : Body). LifeIs c.add_copied.new.self (Hears MIRROR_NUMBER b ∷ deeds)) (sym c.in-CopyOk.is)
-    (mirror_said c.args.self.now c.add_copied.new.self MIRROR_NUMBER _ deeds refl c.add_copied.ensures.runs c.add_copied.ensures.attempts c.add_copied.ensures.reports
+    (mirror_said c.args.self.now c.add_copied.new.self MIRROR_NUMBER _ deeds refl c.add_copied.ensures.runs c.add_copied.ensures.attempts
+    c.add_copied.ensures.reports
     (copied_more c.args.self.now c.add_copied.new.self _ _ _ deeds u h) h)) c.add_copied.ensures.copied
 
 pub returns-in_default : goal.returns-in_default
 returns-in_default c = record {
-  left = λ deeds h. mirror_said_nothing c.args.self.now MIRROR_NUMBER c.args.body.now deeds c.requires (says_none c.args.body.now c.requires c.in_default.not-CopyOk) h;
+  left = λ deeds h. mirror_said_nothing c.args.self.now MIRROR_NUMBER c.args.body.now deeds c.requires
+      (says_none c.args.body.now c.requires c.in_default.not-CopyOk) h;
   same = tt;
 }

@@ -12,10 +12,13 @@ pub returns-in-Some-clause-attempts : goal.returns-in-Some-clause-attempts
 returns-in-Some-clause-attempts c deeds h =
     let attempt = c.attempt_told-attempt.result in
     let deed = Hears c.args.server c.args.body.now in
-    set_at_key c.args.self.now.attempts (c.get_mut.follows.lender c.hear_at.new.place) _ attempt (Some c.hear_at.new.place) (λ q. AttemptFor q deeds) (λ q. AttemptFor q (deed ∷ deeds)) c.attempt.view_is
+    set_at_key c.args.self.now.attempts (c.get_mut.follows.lender c.hear_at.new.place) _ attempt (Some c.hear_at.new.place) (λ q. AttemptFor q deeds)
+    (λ q. AttemptFor q (deed ∷ deeds)) c.attempt.view_is
     (((c.get_mut.follows.holds c.hear_at.new.place).3 (search rules)).0)
-    (c.hear_at.ensures deeds (found_at c.args.self.now.attempts _ attempt (Some c.in-Some.place.now) (AttemptFor attempt deeds) c.attempt.view_is c.in-Some.ensures.value (h attempt)))
-    (λ q x n k. attempt_stays q deed deeds x (hears_other_attempt q c.args.server c.args.body.now deeds (subst (λ r. (r == q) ≡ false) c.attempt_told-attempt.ensures n)) k) h
+    (c.hear_at.ensures deeds (found_at c.args.self.now.attempts _ attempt (Some c.in-Some.place.now)
+    (AttemptFor attempt deeds) c.attempt.view_is c.in-Some.ensures.value (h attempt)))
+    (λ q x n k. attempt_stays q deed deeds x (hears_other_attempt q c.args.server c.args.body.now deeds
+    (subst (λ r. (r == q) ≡ false) c.attempt_told-attempt.ensures n)) k) h
 
 pub returns-in_default-clause-attempts : goal.returns-in_default-clause-attempts
 returns-in_default-clause-attempts c deeds h =
@@ -24,4 +27,5 @@ returns-in_default-clause-attempts c deeds h =
     subst (λ m. (q : ℕ) → AttemptFor q (deed ∷ deeds) (get nat_cmp m q)) (sym c.get_mut.follows.holds-at-none)
     (none_at_key c.args.self.now.attempts _ attempt (λ q. AttemptFor q deeds) (λ q. AttemptFor q (deed ∷ deeds)) c.attempt.view_is c.in_default.ensures.value
     (unmade_hears attempt c.args.server c.args.body.now deeds)
-    (λ q x n k. attempt_stays q deed deeds x (hears_other_attempt q c.args.server c.args.body.now deeds (subst (λ r. (r == q) ≡ false) c.attempt_told-attempt.ensures n)) k) h)
+    (λ q x n k. attempt_stays q deed deeds x (hears_other_attempt q c.args.server c.args.body.now deeds
+    (subst (λ r. (r == q) ≡ false) c.attempt_told-attempt.ensures n)) k) h)

@@ -12,7 +12,8 @@ pub returns-in-Some-clause-runs : goal.returns-in-Some-clause-runs
 returns-in-Some-clause-runs c deeds h =
     let run = c.run_told-run.result in
     let deed = Hears c.args.server c.args.body.now in
-    set_at_key c.args.self.now.runs (c.get_mut.follows.lender c.hear.new.self) _ run (Some c.hear.new.self) (λ q. RunFor q deeds) (λ q. RunFor q (deed ∷ deeds)) c.run.view_is
+    set_at_key c.args.self.now.runs (c.get_mut.follows.lender c.hear.new.self) _ run (Some c.hear.new.self) (λ q. RunFor q deeds)
+    (λ q. RunFor q (deed ∷ deeds)) c.run.view_is
     (((c.get_mut.follows.holds c.hear.new.self).3 (search rules)).0)
     (c.hear.ensures deeds (found_at c.args.self.now.runs _ run (Some c.in-Some.asked.now) (RunFor run deeds) c.run.view_is c.in-Some.ensures.value (h run)))
     (λ q x n k. run_stays q deed deeds x (hears_other q c.args.server c.args.body.now deeds (subst (λ r. (r == q) ≡ false) c.run_told-run.ensures n)) k) h

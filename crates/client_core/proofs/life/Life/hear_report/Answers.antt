@@ -21,8 +21,11 @@ returns-clause-left c deeds h =
       runs = subst (λ m. (q : ℕ) → RunFor q (deed ∷ deeds) (get nat_cmp m q)) (sym (c.tell_report.ensures.runs ∙ c.keep_report.ensures.runs))
           (λ q. run_stays q deed deeds _ (hears_report q r.server r.run r.attempt r.job c.args.jobs r.report deeds) (h.runs q));
       attempts = subst (λ s. (q : ℕ) → AttemptFor q (Hears s body ∷ deeds) (get nat_cmp c.tell_report.new.self.attempts q)) c.server.view_is
-          (subst (λ j. (q : ℕ) → AttemptFor q (Hears c.server.inside.0 (Report r.run r.attempt j c.args.jobs r.report) ∷ deeds) (get nat_cmp c.tell_report.new.self.attempts q)) c.job.view_is
-          (c.tell_report.ensures.attempts deeds r.report (subst (λ m. (q : ℕ) → AttemptFor q deeds (get nat_cmp m q)) (sym c.keep_report.ensures.attempts) h.attempts)));
+          (subst (λ j. (q : ℕ) → AttemptFor q (Hears c.server.inside.0 (Report r.run r.attempt j c.args.jobs r.report) ∷ deeds)
+          (get nat_cmp c.tell_report.new.self.attempts q)) c.job.view_is
+          (c.tell_report.ensures.attempts deeds r.report
+          (subst (λ m. (q : ℕ) → AttemptFor q deeds (get nat_cmp m q)) (sym c.keep_report.ensures.attempts) h.attempts)));
       reports_are = c.tell_report.ensures.reports ∙ (c.in_ok-keep_report.ensures.kept deeds h.attempts ∙ ap (reports_heard deeds r.server body) h.reports_are);
-      copied = λ key. ap (λ (m : HashSet Key _). contains is_same_key m key) (c.tell_report.ensures.copied ∙ c.keep_report.ensures.copied) ∙ h.copied key ∙ sym (server_keeps_none r.server body key deeds c.requires.server);
+      copied = λ key. ap (λ (m : HashSet Key _). contains is_same_key m key) (c.tell_report.ensures.copied ∙ c.keep_report.ensures.copied) ∙ h.copied key
+          ∙ sym (server_keeps_none r.server body key deeds c.requires.server);
     }

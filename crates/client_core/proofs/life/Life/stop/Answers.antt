@@ -10,7 +10,8 @@ returns-in-Some c deeds h =
     record {
       runs = set_at_key c.args.self.now.runs (c.get_mut.follows.lender c.stop.new.self) _ run (Some c.stop.new.self) (λ q. RunFor q deeds) _ c.run.view_is
           (((c.get_mut.follows.holds c.stop.new.self).3 (search rules)).0)
-          (c.stop.ensures run deeds (found_at c.args.self.now.runs _ run (Some c.in-Some.asked.now) (RunFor run deeds) c.run.view_is c.in-Some.ensures.value (h.runs run)))
+          (c.stop.ensures run deeds (found_at c.args.self.now.runs _ run (Some c.in-Some.asked.now) (RunFor run deeds) c.run.view_is c.in-Some.ensures.value
+          (h.runs run)))
           (λ q x n k. run_stays q _ deeds x (stops_other q run deeds n) k) h.runs;
       attempts = λ a. attempt_stays a _ deeds _ (stops_no_attempt a run deeds) (h.attempts a);
       reports_are = h.reports_are;

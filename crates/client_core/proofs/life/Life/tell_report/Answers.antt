@@ -14,9 +14,11 @@ returns-in-Some-clause-attempts c deeds report h =
     let attempt = c.args.attempt in
     let body = Report c.args.run attempt c.args.job c.args.jobs report in
     let deed = Hears c.args.server body in
-    set_at_key c.args.self.now.attempts (c.get_mut.follows.lender c.report_at.new.place) _ attempt (Some c.report_at.new.place) (λ q. AttemptFor q deeds) (λ q. AttemptFor q (deed ∷ deeds)) c.attempt.view_is
+    set_at_key c.args.self.now.attempts (c.get_mut.follows.lender c.report_at.new.place) _ attempt (Some c.report_at.new.place) (λ q. AttemptFor q deeds)
+    (λ q. AttemptFor q (deed ∷ deeds)) c.attempt.view_is
     (((c.get_mut.follows.holds c.report_at.new.place).3 (search rules)).0)
-    (c.report_at.ensures attempt deeds report (found_at c.args.self.now.attempts _ attempt (Some c.in-Some.place.now) (AttemptFor attempt deeds) c.attempt.view_is c.in-Some.ensures.value (h attempt)))
+    (c.report_at.ensures attempt deeds report (found_at c.args.self.now.attempts _ attempt (Some c.in-Some.place.now)
+    (AttemptFor attempt deeds) c.attempt.view_is c.in-Some.ensures.value (h attempt)))
     (λ q x n k. attempt_stays q deed deeds x (hears_other_attempt q c.args.server body deeds n) k) h
 
 pub returns-in_default-clause-attempts : goal.returns-in_default-clause-attempts

@@ -10,7 +10,8 @@ returns-in-Some c deeds h =
     let asked = c.args.asked in
     record {
       runs = λ q. run_stays q _ deeds _ (verifies_no_run q asked.run attempt asked.text deeds) (h.runs q);
-      attempts = set_at_key c.args.self.now.attempts (c.get_mut.follows.lender (Some asked)) _ attempt (Some (Some asked)) (λ q. AttemptFor q deeds) _ c.attempt.view_is
+      attempts = set_at_key c.args.self.now.attempts (c.get_mut.follows.lender (Some asked)) _ attempt (Some (Some asked))
+          (λ q. AttemptFor q deeds) _ c.attempt.view_is
           (((c.get_mut.follows.holds (Some asked)).3 (search rules)).0)
           (c.requires.asked deeds)
           (λ q x n k. attempt_stays q _ deeds x (verifies_other q asked.run attempt asked.text deeds n) k) h.attempts;

@@ -7,4 +7,5 @@ use Rattle.client_core.proofs.packet_client.PacketClient.begin_would_save.Goals 
 
 pub returns : goal.returns
 returns g c o past s =
-    not_some c.is_none.result c.begin_refusal.result (sym c.is_none.ensures) ∙ ap is_none c.begin_refusal.ensures ∙ call_would g.N.Notes.note c.args.self.now o past (Begin c.args.text.now) NextRun (λ n. refl) s
+    not_some c.is_none.result c.begin_refusal.result (sym c.is_none.ensures) ∙ ap is_none c.begin_refusal.ensures
+    ∙ call_would g.N.Notes.note c.args.self.now o past (Begin c.args.text.now) NextRun (λ n. refl) s

@@ -28,14 +28,17 @@ hear_mirror-requires-clause-mirror g c =
 pub hear_mirror-requires-clause-kind : goal.hear_mirror-requires-clause-kind
 hear_mirror-requires-clause-kind g c =
     let d = deliver_free c.args.self.now.down c.args.self.now.peers c.args.self.now.noted c.args.packet (sym c.refusal.ensures ∙ c.in_default.is) in
-    ap (λ (p : PacketParts). is_of_mirror (kind_of p.body)) c.into_parts-body.ensures.value ∙ (from_the_mirror c.args.self.now.peers c.args.packet (ap is_mirror (sym c.from.ensures) ∙ sym c.is_mirror-mirror.ensures ∙ c.if-mirror.true) d.1).1
+    ap (λ (p : PacketParts). is_of_mirror (kind_of p.body)) c.into_parts-body.ensures.value
+    ∙ (from_the_mirror c.args.self.now.peers c.args.packet (ap is_mirror (sym c.from.ensures) ∙ sym c.is_mirror-mirror.ensures ∙ c.if-mirror.true) d.1).1
 
 pub returns-then-mirror : goal.returns-then-mirror
 returns-then-mirror g c o past s =
     let d = deliver_free c.args.self.now.down c.args.self.now.peers c.args.self.now.noted c.args.packet (sym c.refusal.ensures ∙ c.in_default.is) in
     let from = ap is_mirror (sym c.from.ensures) ∙ sym c.is_mirror-mirror.ensures ∙ c.if-mirror.true in
-    c.hear_mirror.ensures o past c.args.packet (sym (ap (λ (p : PacketParts). p.body) c.into_parts-body.ensures.value)) from (from_the_mirror c.args.self.now.peers c.args.packet from d.1).2 (sym c.refusal.ensures ∙ c.in_default.is) s
+    c.hear_mirror.ensures o past c.args.packet (sym (ap (λ (p : PacketParts). p.body) c.into_parts-body.ensures.value)) from
+    (from_the_mirror c.args.self.now.peers c.args.packet from d.1).2 (sym c.refusal.ensures ∙ c.in_default.is) s
 
 pub returns : goal.returns
 returns g c o past s =
-    c.hear.ensures o past c.args.packet (sym (ap (λ (p : PacketParts). p.body) c.into_parts-body.ensures.value)) (sym (c.number-server.ensures ∙ ap node_number c.from-2.ensures)) (sym c.refusal.ensures ∙ c.in_default.is) s
+    c.hear.ensures o past c.args.packet (sym (ap (λ (p : PacketParts). p.body) c.into_parts-body.ensures.value))
+    (sym (c.number-server.ensures ∙ ap node_number c.from-2.ensures)) (sym c.refusal.ensures ∙ c.in_default.is) s

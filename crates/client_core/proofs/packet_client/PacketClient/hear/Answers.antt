@@ -29,7 +29,8 @@ returns-in-Some g c o past p e f r s =
     let note = g.N.Notes.note in
     fails_stored note old c.keep.new.self old.life (Keep c.in-Some.state) c.in-Err.fault o past (Deliver p) c.notes_are_read_back.ensures c.requires.up r
     (ap (addition_by old.noted) e ∙ c.in-Some.ensures)
-    (λ n. subst IsNoted (ap (λ d. noted_after true d old.noted) c.in-Some.ensures) (body_step c.found_after_a_push.ensures.apart true old.noted c.args.body c.requires.free c.requires.state n))
+    (λ n. subst IsNoted (ap (λ d. noted_after true d old.noted) c.in-Some.ensures)
+    (body_step c.found_after_a_push.ensures.apart true old.noted c.args.body c.requires.free c.requires.state n))
     (λ deeds h. h) (subst (Stores note (Keep c.in-Some.state) _ c.keep.new.self) c.in-Err.is c.keep.ensures) s
 
 pub returns-in-Ok-keep : goal.returns-in-Ok-keep
@@ -37,17 +38,22 @@ returns-in-Ok-keep g c o past p e f r s =
     let old = c.args.self.now in
     let note = g.N.Notes.note in
     let stored = subst (Stores note (Keep c.in-Some.state) _ c.keep.new.self) c.in-Ok-keep.is c.keep.ensures in
-    answers_stored note old c.keep.new.self old.life c.hear.new.self (Keep c.in-Some.state) o past (Deliver p) c.in-Ok.frames c.notes_are_read_back.ensures c.requires.up r
+    answers_stored note old c.keep.new.self old.life c.hear.new.self (Keep c.in-Some.state) o past
+    (Deliver p) c.in-Ok.frames c.notes_are_read_back.ensures c.requires.up r
     (ap (addition_by old.noted) e ∙ c.in-Some.ensures)
-    (λ n. subst IsNoted (ap (λ d. noted_after true d old.noted) c.in-Some.ensures) (body_step c.found_after_a_push.ensures.apart true old.noted c.args.body c.requires.free c.requires.state n)) _ stored
+    (λ n. subst IsNoted (ap (λ d. noted_after true d old.noted) c.in-Some.ensures)
+    (body_step c.found_after_a_push.ensures.apart true old.noted c.args.body c.requires.free c.requires.state n)) _ stored
     (λ deeds h. c.in-Ok.ensures deeds h ∙ ap frame_bytes (replied_to old.peers.mirror old.noted deeds p c.args.server c.args.body e f))
-    (λ deeds h. subst (λ b. LifeIs c.hear.new.self (Hears (node_number p.from) b ∷ deeds)) (sym e) (subst (λ n. LifeIs c.hear.new.self (Hears n c.args.body ∷ deeds)) (sym f)
-    (c.hear.ensures deeds (subst (λ l. LifeIs l deeds) (sym (ap (λ (m : PacketClient _). m.life) stored.1)) h)))) (from_server_grants_none p (no_mirror p.from c.args.server f c.requires.server)) s
+    (λ deeds h. subst (λ b. LifeIs c.hear.new.self (Hears (node_number p.from) b ∷ deeds)) (sym e)
+    (subst (λ n. LifeIs c.hear.new.self (Hears n c.args.body ∷ deeds)) (sym f)
+    (c.hear.ensures deeds (subst (λ l. LifeIs l deeds) (sym (ap (λ (m : PacketClient _). m.life) stored.1)) h))))
+    (from_server_grants_none p (no_mirror p.from c.args.server f c.requires.server)) s
 
 pub returns-in-Ok-hear_any : goal.returns-in-Ok-hear_any
 returns-in-Ok-hear_any g c o past p e f r s =
     let old = c.args.self.now in
     answers_plain g.N.Notes.note old c.hear_any.new.self o past (Deliver p) c.in-Ok.frames c.requires.up r (ap (addition_by old.noted) e ∙ c.in-None.ensures)
     (λ deeds h. c.in-Ok.ensures deeds h ∙ ap frame_bytes (replied_to old.peers.mirror old.noted deeds p c.args.server c.args.body e f))
-    (λ deeds h. subst (λ b. LifeIs c.hear_any.new.self (Hears (node_number p.from) b ∷ deeds)) (sym e) (subst (λ n. LifeIs c.hear_any.new.self (Hears n c.args.body ∷ deeds)) (sym f)
+    (λ deeds h. subst (λ b. LifeIs c.hear_any.new.self (Hears (node_number p.from) b ∷ deeds)) (sym e)
+    (subst (λ n. LifeIs c.hear_any.new.self (Hears n c.args.body ∷ deeds)) (sym f)
     (c.in-Ok-hear_any.ensures.left deeds h))) (from_server_grants_none p (no_mirror p.from c.args.server f c.requires.server)) s

@@ -11,9 +11,11 @@ returns-in-Ok-save g c =
     let old = g.N.Notes.note c.args.notes in
     let new = g.N.Notes.note c.save.new.self in
     let with = renewed_with c.args.generation c.in-Some.generation c.in-Some.ensures in
-    let none : old.bytes ≡ [] = sym loaded.1 ∙ no_bytes c.in-Ok.bytes.items (sym c.if-not-lost.false ∙ c.is_lost-lost.ensures ∙ ap (λ (l : List ℕ). length l == 0) c.deref.ensures.value) in
+    let none : old.bytes ≡ [] = sym loaded.1 ∙ no_bytes c.in-Ok.bytes.items
+    (sym c.if-not-lost.false ∙ c.is_lost-lost.ensures ∙ ap (λ (l : List ℕ). length l == 0) c.deref.ensures.value) in
     let is = c.renewed-noted.ensures ∙ ap new_note with.1 in
-    let bytes : new.bytes ≡ spelling (new_note c.args.generation) = ap (λ (n : Note). n.bytes) c.in-Ok-save.ensures ∙ c.deref-2.ensures.value ∙ c.in-Ok-encode.ensures ∙ ap spelling is in
+    let bytes : new.bytes ≡ spelling (new_note c.args.generation) =
+    ap (λ (n : Note). n.bytes) c.in-Ok-save.ensures ∙ c.deref-2.ensures.value ∙ c.in-Ok-encode.ensures ∙ ap spelling is in
     record {
       free = with.0;
       empty = none;
@@ -23,7 +25,9 @@ returns-in-Ok-save g c =
             on = refl;
             peers = λ i. record { servers = (c.new.ensures ∙ sym servers) i; mirror = true; granted = false };
             few = omega (arith, servers, c.requires.few);
-            durable = subst (Says new.bytes) (sym after) (subst (λ (l : List ℕ). Says l (new_note c.args.generation)) (sym bytes) (c.notes_are_read_back.ensures (new_note c.args.generation) (of_renewed c.args.generation with.0)));
+            durable = subst (Says new.bytes) (sym after)
+                (subst (λ (l : List ℕ). Says l (new_note c.args.generation)) (sym bytes)
+                (c.notes_are_read_back.ensures (new_note c.args.generation) (of_renewed c.args.generation with.0)));
             knows = is ∙ sym after;
             lives = c.new-in-Ok-save.ensures;
           };

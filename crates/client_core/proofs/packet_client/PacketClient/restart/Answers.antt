@@ -10,11 +10,13 @@ pub returns-in-Ok-Some : goal.returns-in-Ok-Some
 returns-in-Ok-Some g c =
     let loaded = c.in-Ok.ensures in
     let old = g.N.Notes.note c.args.notes in
-    let says = subst (λ (l : List ℕ). Says l c.in-Ok-Some.noted) (c.deref-2.ensures.value ∙ loaded.1) (subst (Reads c.deref-2.result.now) c.in-Ok-Some.field-0-is c.in-Ok-Some.ensures.said) in
+    let says = subst (λ (l : List ℕ). Says l c.in-Ok-Some.noted) (c.deref-2.ensures.value ∙ loaded.1)
+    (subst (Reads c.deref-2.result.now) c.in-Ok-Some.field-0-is c.in-Ok-Some.ensures.said) in
     record {
       same = loaded.0;
       some = λ m e. elim c.else-mirror.branch [
-        | else-mirror-via-then-mirror+else-is_lost w ↦ some_note old.bytes (ap (λ (l : List ℕ). length l == 0) (sym (w.deref.ensures.value ∙ loaded.1)) ∙ sym w.is_lost.ensures ∙ w.if-is_lost.false) e
+        | else-mirror-via-then-mirror+else-is_lost w ↦ some_note old.bytes
+            (ap (λ (l : List ℕ). length l == 0) (sym (w.deref.ensures.value ∙ loaded.1)) ∙ sym w.is_lost.ensures ∙ w.if-is_lost.false) e
         | else-mirror-via-else-mirror w ↦ no_mirror c.args.mirror w.if-mirror.false m
       ];
       said = c.in-Ok-Some.noted;

@@ -18,5 +18,6 @@ returns-in-Err g c o past s = lacks g.N.Notes.note c.args.self.now c.args.self.n
 pub returns-in-Ok : goal.returns-in-Ok
 returns-in-Ok g c o past s =
     let old = c.args.self.now in
-    answers_plain g.N.Notes.note old old.life o past Tick c.in-Ok.frames c.if-self.false (ap (λ d. refusal_by (not d) old.peers old.noted Tick) c.if-self.false) refl
+    answers_plain g.N.Notes.note old old.life o past Tick c.in-Ok.frames c.if-self.false
+    (ap (λ d. refusal_by (not d) old.peers old.noted Tick) c.if-self.false) refl
     (λ deeds h. c.in-Ok.ensures deeds h) (λ deeds h. h) refl s

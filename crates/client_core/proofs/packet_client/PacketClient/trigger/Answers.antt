@@ -9,7 +9,8 @@ use Rattle.client_core.proofs.RefusalLemmas.{run_free}
 use Rattle.client_core.proofs.packet_client.PacketClient.trigger.Goals as goal
 
 pub returns-in-Some : goal.returns-in-Some
-returns-in-Some g c o past s = refuses g.N.Notes.note c.args.self.now o past (Trigger c.args.run c.args.act) c.in-Some.fault (sym c.run_refusal.ensures.why ∙ c.in-Some.is) s
+returns-in-Some g c o past s =
+    refuses g.N.Notes.note c.args.self.now o past (Trigger c.args.run c.args.act) c.in-Some.fault (sym c.run_refusal.ensures.why ∙ c.in-Some.is) s
 
 pub to_all-requires-clause-body : goal.to_all-requires-clause-body
 to_all-requires-clause-body g c = c.run_refusal.ensures.range c.in_default.is

@@ -7,4 +7,5 @@ use Rattle.client_core.proofs.packet_client.PacketClient.verify_would_save.Goals
 
 pub returns : goal.returns
 returns g c o past s =
-    not_some c.is_none.result c.verify_refusal.result (sym c.is_none.ensures) ∙ ap is_none c.verify_refusal.ensures.why ∙ call_would g.N.Notes.note c.args.self.now o past (Verify c.args.run c.args.text.now) NextAttempt (λ n. refl) s
+    not_some c.is_none.result c.verify_refusal.result (sym c.is_none.ensures) ∙ ap is_none c.verify_refusal.ensures.why
+    ∙ call_would g.N.Notes.note c.args.self.now o past (Verify c.args.run c.args.text.now) NextAttempt (λ n. refl) s

@@ -17,9 +17,11 @@ returns c deeds h =
           (λ b. when_true _ (λ w. c.heard.result ≡ w) _ (begin_at run c.args.server deeds) here (c.heard.ensures ∙ ap (begin_heard run c.args.body.now) b))
           (λ s x n b. when_false _ (λ w. x ≡ w) _ _ n b) h.begins;
       triggers = each_set c.args.self.now.triggers _ _ c.args.server _ c.hear_trigger.new.self
-          (λ k. when_true _ (IsRequestKept c.hear_trigger.new.self) _ (trigger_at run c.args.server deeds) here (c.hear_trigger.ensures (trigger_at run c.args.server deeds) k))
+          (λ k. when_true _ (IsRequestKept c.hear_trigger.new.self) _ (trigger_at run c.args.server deeds) here
+          (c.hear_trigger.ensures (trigger_at run c.args.server deeds) k))
           (λ s x n k. when_false _ (IsRequestKept x) _ _ n k) h.triggers;
       stops = each_set c.args.self.now.stops _ _ c.args.server _ c.hear_stop.new.self
-          (λ k. when_true _ (IsRequestKept c.hear_stop.new.self) _ (stop_at run c.args.server deeds) here (c.hear_stop.ensures (stop_at run c.args.server deeds) k))
+          (λ k. when_true _ (IsRequestKept c.hear_stop.new.self) _ (stop_at run c.args.server deeds) here
+          (c.hear_stop.ensures (stop_at run c.args.server deeds) k))
           (λ s x n k. when_false _ (IsRequestKept x) _ _ n k) h.stops;
     }

@@ -8,4 +8,5 @@ use Rattle.client_core.proofs.standing.Standing.tell.Goals as goal
 pub returns-in-Open : goal.returns-in-Open
 returns-in-Open c =
     let t : Telling = record { job = c.args.job; jobs = c.args.jobs; misfit = c.args.misfit } in
-    λ q k. subst (λ (s : Standing). IsRequestKept s (when_one_tells t q)) (sym c.answer.ensures) (tells t c.args.self.now q c.requires.job (omega arith) c.in-Open.is k)
+    λ q k. subst (λ (s : Standing). IsRequestKept s (when_one_tells t q)) (sym c.answer.ensures)
+    (tells t c.args.self.now q c.requires.job (omega arith) c.in-Open.is k)

@@ -16,23 +16,30 @@ pub returns-then-has : goal.returns-then-has
 returns-then-has g c = λ o past f asked s.
     let old = c.args.self.now in
     let state = c.args.state.now in
-    answers_plain g.N.Notes.note old o past f (Copy state) c.in-Ok.frames c.requires.up c.requires.free asked (kept_already (kept_of state.key old.noted.kept) state (sym (c.if-has.ensures ∙ ap (λ k. is_some (kept_of k old.noted.kept)) c.key-2.ensures.value)))
+    answers_plain g.N.Notes.note old o past f (Copy state) c.in-Ok.frames c.requires.up c.requires.free asked
+    (kept_already (kept_of state.key old.noted.kept) state (sym (c.if-has.ensures ∙ ap (λ k. is_some (kept_of k old.noted.kept)) c.key-2.ensures.value)))
     (c.in-Ok.ensures ∙ ap (λ (k : Key). frame_bytes (to_client (CopyOk k.run k.server k.job) ∷ [])) c.key.ensures.value) s
 
 pub returns-in_err-keep : goal.returns-in_err-keep
 returns-in_err-keep g c = λ o past f asked s.
     let old = c.args.self.now in
     let state = c.args.state.now in
-    let new = kept_newly (kept_of state.key old.noted.kept) state (sym (c.if-has.ensures ∙ ap (λ k. is_some (kept_of k old.noted.kept)) c.key-2.ensures.value)) in
+    let new = kept_newly (kept_of state.key old.noted.kept) state
+    (sym (c.if-has.ensures ∙ ap (λ k. is_some (kept_of k old.noted.kept)) c.key-2.ensures.value)) in
     let p = err_from_is_err_and c.from_residual.result c.from_residual.ensures.1 in
-    rw (p.1, p.2) (fails_stored g.N.Notes.note old c.keep.new.self (Keep state) c.in_err-keep.field-0.0 o past f (Copy state) c.notes_are_read_back.ensures c.requires.up c.requires.free asked new.1
-    (kept_fits c.found_after_a_push.ensures.apart old.noted state new.0 (has_room old.noted.kept state new.0 c.requires.free) c.keeps_its_ranges.ensures) c.in_err-keep.ensures s)
+    rw (p.1, p.2) (fails_stored g.N.Notes.note old c.keep.new.self (Keep state) c.in_err-keep.field-0.0 o past f
+    (Copy state) c.notes_are_read_back.ensures c.requires.up c.requires.free asked new.1
+    (kept_fits c.found_after_a_push.ensures.apart old.noted state new.0 (has_room old.noted.kept state new.0 c.requires.free) c.keeps_its_ranges.ensures)
+    c.in_err-keep.ensures s)
 
 pub returns : goal.returns
 returns g c = λ o past f asked s.
     let old = c.args.self.now in
     let state = c.args.state.now in
-    let new = kept_newly (kept_of state.key old.noted.kept) state (sym (c.if-has.ensures ∙ ap (λ k. is_some (kept_of k old.noted.kept)) c.key-2.ensures.value)) in
-    answers_stored g.N.Notes.note old c.keep.new.self (Keep state) o past f (Copy state) c.in-Ok.frames c.notes_are_read_back.ensures c.requires.up c.requires.free asked new.1
-    (kept_fits c.found_after_a_push.ensures.apart old.noted state new.0 (has_room old.noted.kept state new.0 c.requires.free) c.keeps_its_ranges.ensures) c.in_ok-keep.field-0 c.in_ok-keep.ensures
+    let new = kept_newly (kept_of state.key old.noted.kept) state
+    (sym (c.if-has.ensures ∙ ap (λ k. is_some (kept_of k old.noted.kept)) c.key-2.ensures.value)) in
+    answers_stored g.N.Notes.note old c.keep.new.self (Keep state) o past f
+    (Copy state) c.in-Ok.frames c.notes_are_read_back.ensures c.requires.up c.requires.free asked new.1
+    (kept_fits c.found_after_a_push.ensures.apart old.noted state new.0 (has_room old.noted.kept state new.0 c.requires.free) c.keeps_its_ranges.ensures)
+    c.in_ok-keep.field-0 c.in_ok-keep.ensures
     (c.in-Ok.ensures ∙ ap (λ (k : Key). frame_bytes (to_client (CopyOk k.run k.server k.job) ∷ [])) c.key.ensures.value) s

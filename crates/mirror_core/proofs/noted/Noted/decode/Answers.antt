@@ -8,23 +8,27 @@ use Rattle.mirror_core.proofs.NoteLemmas.{some_bytes, no_magic, too_short, too_g
 use Rattle.mirror_core.proofs.noted.Noted.decode.Goals as goal
 
 pub returns-in_default : goal.returns-in_default
-returns-in_default c = λ n s. no_magic c.spelled_are_read.ensures c.args.bytes.now n (some_bytes c.args.bytes.now c.if-is_empty.ensures) c.in_default.ensures.cases s
+returns-in_default c =
+    λ n s. no_magic c.spelled_are_read.ensures c.args.bytes.now n (some_bytes c.args.bytes.now c.if-is_empty.ensures) c.in_default.ensures.cases s
 
 pub returns-then-rest-lt-NUMBERS : goal.returns-then-rest-lt-NUMBERS
 returns-then-rest-lt-NUMBERS c =
     let len = c.in-Some.ensures.cases.2 in
-    λ n s. too_short c.spelled_are_read.ensures c.args.bytes.now n (some_bytes c.args.bytes.now c.if-is_empty.ensures) (omega (arith, len, c.if-rest-lt-NUMBERS.true)) s
+    λ n s. too_short c.spelled_are_read.ensures c.args.bytes.now n (some_bytes c.args.bytes.now c.if-is_empty.ensures)
+    (omega (arith, len, c.if-rest-lt-NUMBERS.true)) s
 
 pub returns-then-generation-gt-MAX_GENERATION : goal.returns-then-generation-gt-MAX_GENERATION
 returns-then-generation-gt-MAX_GENERATION c =
     let generation = c.split_u64-generation.ensures.number ∙ ap (λ l. number_in w64 l) c.in-Some.ensures.cases.1 in
-    λ n s. too_great c.spelled_are_read.ensures c.args.bytes.now n c.split_u64-generation.result.0 (some_bytes c.args.bytes.now c.if-is_empty.ensures) generation c.if-generation-gt-MAX_GENERATION.true s
+    λ n s. too_great c.spelled_are_read.ensures c.args.bytes.now n c.split_u64-generation.result.0
+    (some_bytes c.args.bytes.now c.if-is_empty.ensures) generation c.if-generation-gt-MAX_GENERATION.true s
 
 pub returns-then-count-gt-KEPT_LIMIT : goal.returns-then-count-gt-KEPT_LIMIT
 returns-then-count-gt-KEPT_LIMIT c =
     let generation = c.split_u64-generation.ensures.rest ∙ ap (drop 8) c.in-Some.ensures.cases.1 in
     let count = c.split_u32-count.ensures.number ∙ ap (λ l. number_in w32 l) generation in
-    λ n s. too_many c.spelled_are_read.ensures c.args.bytes.now n c.split_u32-count.result.0 (some_bytes c.args.bytes.now c.if-is_empty.ensures) count (omega (arith, c.if-count-gt-KEPT_LIMIT.true)) s
+    λ n s. too_many c.spelled_are_read.ensures c.args.bytes.now n c.split_u32-count.result.0 (some_bytes c.args.bytes.now c.if-is_empty.ensures) count
+    (omega (arith, c.if-count-gt-KEPT_LIMIT.true)) s
 
 pub returns-in-Some-2 : goal.returns-in-Some-2
 returns-in-Some-2 c =
@@ -32,8 +36,10 @@ returns-in-Some-2 c =
     let after = c.in-Some.ensures.cases.1 in
     let generation = c.split_u64-generation.ensures.rest ∙ ap (drop 8) after in
     let states = c.split_u32-count.ensures.rest ∙ ap (drop 4) generation in
-    let read = subst (λ (l : List ℕ). ReadsStates c.split_u32-count.result.0 l (Some c.in-Some-2.kept)) states (subst (ReadsStates c.split_u32-count.result.0 c.split_u32-count.result.1.now) c.in-Some-2.is c.in_ok-kept.ensures.states) in
-    read_says c.spelled_are_read.ensures c.read_were_spelled.ensures c.args.bytes.now c.split_u64-generation.result.0 c.split_u32-count.result.0 c.in-Some-2.kept (λ i. omega (arith, c.type_inv.bytes i)) mark
+    let read = subst (λ (l : List ℕ). ReadsStates c.split_u32-count.result.0 l (Some c.in-Some-2.kept)) states
+    (subst (ReadsStates c.split_u32-count.result.0 c.split_u32-count.result.1.now) c.in-Some-2.is c.in_ok-kept.ensures.states) in
+    read_says c.spelled_are_read.ensures c.read_were_spelled.ensures c.args.bytes.now c.split_u64-generation.result.0 c.split_u32-count.result.0
+    c.in-Some-2.kept (λ i. omega (arith, c.type_inv.bytes i)) mark
     (omega (arith, c.in-Some.ensures.cases.2, c.if-rest-lt-NUMBERS.false))
     (c.split_u64-generation.ensures.number ∙ ap (λ l. number_in w64 l) after)
     (c.split_u32-count.ensures.number ∙ ap (λ l. number_in w32 l) generation)
@@ -44,5 +50,6 @@ returns-in-None c =
     let generation = c.split_u64-generation.ensures.rest ∙ ap (drop 8) c.in-Some.ensures.cases.1 in
     let count = c.split_u32-count.ensures.number ∙ ap (λ l. number_in w32 l) generation in
     let states = c.split_u32-count.ensures.rest ∙ ap (drop 4) generation in
-    let read = subst (λ (l : List ℕ). ReadsStates c.split_u32-count.result.0 l None) states (subst (ReadsStates c.split_u32-count.result.0 c.split_u32-count.result.1.now) c.in-None.is c.in_ok-kept.ensures.states) in
+    let read = subst (λ (l : List ℕ). ReadsStates c.split_u32-count.result.0 l None) states
+    (subst (ReadsStates c.split_u32-count.result.0 c.split_u32-count.result.1.now) c.in-None.is c.in_ok-kept.ensures.states) in
     λ n s. no_states c.spelled_are_read.ensures c.args.bytes.now n c.split_u32-count.result.0 (some_bytes c.args.bytes.now c.if-is_empty.ensures) count read s

@@ -13,9 +13,12 @@ returns-in-Err c o past s = c.in-Err.ensures.fails o past s c.args.landed
 pub returns-then-landed : goal.returns-then-landed
 returns-then-landed c o past s =
     let due = c.in_default.ensures.saves o past s in
-    subst (λ landed. CutsIn (client_nodes o) past landed (inputs.Deliver c.args.frame) c.cut_behind_delivery.new.self c.cut_behind_delivery.result) (sym c.if-landed.true) (c.cut_behind_delivery.ensures o past s due)
+    subst (λ landed. CutsIn (client_nodes o) past landed (inputs.Deliver c.args.frame) c.cut_behind_delivery.new.self c.cut_behind_delivery.result)
+    (sym c.if-landed.true) (c.cut_behind_delivery.ensures o past s due)
 
 pub returns : goal.returns
 returns c o past s =
     let due = c.in_default.ensures.saves o past s in
-    subst (λ landed. CutsIn (client_nodes o) past landed (inputs.Deliver c.args.frame) c.cut.new.self (Ok tt)) (sym c.if-landed.false) (cut_old (client_nodes o) Cut past (inputs.Deliver c.args.frame) c.cut.new.self (saves o past (inputs.Deliver c.args.frame) due) (c.cut.ensures o past s))
+    subst (λ landed. CutsIn (client_nodes o) past landed (inputs.Deliver c.args.frame) c.cut.new.self (Ok tt)) (sym c.if-landed.false)
+    (cut_old (client_nodes o) Cut past (inputs.Deliver c.args.frame) c.cut.new.self (saves o past (inputs.Deliver c.args.frame) due)
+    (c.cut.ensures o past s))

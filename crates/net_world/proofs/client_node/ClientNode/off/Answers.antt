@@ -11,14 +11,16 @@ returns-then-is_blank c o past stands =
     let h = subst (Stands o past) c.in-On.is stands in
     let list = packets_heard o past in
     let none = ap (λ m. m.bytes) c.new-then-is_blank.ensures ∙ c.new.ensures.items in
-    let blank = ap (λ l. is_blank (words_noted o l)) (sym (c.looks_at_all.ensures list h.1)) ∙ sym (c.is_blank-is_blank.ensures o past h.0) ∙ c.if-is_blank.true in
+    let blank = ap (λ l. is_blank (words_noted o l)) (sym (c.looks_at_all.ensures list h.1)) ∙ sym (c.is_blank-is_blank.ensures o past h.0)
+    ∙ c.if-is_blank.true in
     (says_nothing _ (words_noted o list) none blank, refl, inl none)
 
 pub returns-else-is_blank : goal.returns-else-is_blank
 returns-else-is_blank c o past stands =
     let h = subst (Stands o past) c.in-On.is stands in
     let list = packets_heard o past in
-    let written = ap (λ l. is_blank (words_noted o l)) (sym (c.looks_at_all.ensures list h.1)) ∙ sym (c.is_blank-is_blank.ensures o past h.0) ∙ c.if-is_blank.false in
+    let written =
+    ap (λ l. is_blank (words_noted o l)) (sym (c.looks_at_all.ensures list h.1)) ∙ sym (c.is_blank-is_blank.ensures o past h.0) ∙ c.if-is_blank.false in
     (c.off-notes.ensures.says o past h.0, refl, inr written)
 
 pub returns-in-Off : goal.returns-in-Off

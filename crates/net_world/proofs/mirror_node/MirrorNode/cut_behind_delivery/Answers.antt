@@ -7,8 +7,10 @@ use Rattle.net_world.proofs.mirror_node.MirrorNode.cut_behind_delivery.Goals as 
 
 pub returns-in-Err : goal.returns-in-Err
 returns-in-Err c o past stands up due =
-    cut_fails (mirror_nodes o) Cut past true c.args.frame.now c.in-Err.fault c.deliver.new.self (saves o past c.args.frame.now up due) (c.in-Err.ensures o past stands)
+    cut_fails (mirror_nodes o) Cut past true c.args.frame.now c.in-Err.fault c.deliver.new.self (saves o past c.args.frame.now up due)
+    (c.in-Err.ensures o past stands)
 
 pub returns : goal.returns
 returns c o past stands up due =
-    cut_new (mirror_nodes o) Cut past c.args.frame.now c.cut.new.self (saves o past c.args.frame.now up due) (c.cut.ensures o _ (c.in_default.ensures o past stands).stands)
+    cut_new (mirror_nodes o) Cut past c.args.frame.now c.cut.new.self (saves o past c.args.frame.now up due)
+    (c.cut.ensures o _ (c.in_default.ensures o past stands).stands)

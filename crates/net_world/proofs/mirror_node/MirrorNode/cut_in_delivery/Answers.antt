@@ -10,10 +10,12 @@ pub returns-then-landed : goal.returns-then-landed
 returns-then-landed c o past s =
     let h = subst (Stands o past) c.in-On.is s in
     let due = sym (c.would_save.ensures o past h.0) ∙ c.if-not-would_save.false in
-    subst (λ landed. CutsIn (mirror_nodes o) past landed c.args.frame.now c.cut_behind_delivery.new.self c.cut_behind_delivery.result) (sym c.if-landed.true) (c.cut_behind_delivery.ensures o past h h.1 due)
+    subst (λ landed. CutsIn (mirror_nodes o) past landed c.args.frame.now c.cut_behind_delivery.new.self c.cut_behind_delivery.result) (sym c.if-landed.true)
+    (c.cut_behind_delivery.ensures o past h h.1 due)
 
 pub returns : goal.returns
 returns c o past s =
     let h = subst (Stands o past) c.in-On.is s in
     let due = sym (c.would_save.ensures o past h.0) ∙ c.if-not-would_save.false in
-    subst (λ landed. CutsIn (mirror_nodes o) past landed c.args.frame.now c.cut.new.self (Ok tt)) (sym c.if-landed.false) (cut_old (mirror_nodes o) Cut past c.args.frame.now c.cut.new.self (saves o past c.args.frame.now h.1 due) (c.cut.ensures o past h))
+    subst (λ landed. CutsIn (mirror_nodes o) past landed c.args.frame.now c.cut.new.self (Ok tt)) (sym c.if-landed.false)
+    (cut_old (mirror_nodes o) Cut past c.args.frame.now c.cut.new.self (saves o past c.args.frame.now h.1 due) (c.cut.ensures o past h))

@@ -10,8 +10,10 @@ returns-then-not-landed c o past me stands =
 pub returns-in-Ok : goal.returns-in-Ok
 returns-in-Ok c o past me stands =
     let h = c.in-Ok.ensures o past me stands in
-    subst (λ (b : Bool). CutsInRestart o past b c.cut.new.self (Ok tt)) (sym c.if-not-landed.false) (restart_new o past c.cut.new.self h.0 h.1 (c.cut.ensures o _ h.2))
+    subst (λ (b : Bool). CutsInRestart o past b c.cut.new.self (Ok tt)) (sym c.if-not-landed.false)
+    (restart_new o past c.cut.new.self h.0 h.1 (c.cut.ensures o _ h.2))
 
 pub returns-in-Err : goal.returns-in-Err
 returns-in-Err c o past me stands =
-    subst (λ f. CutsInRestart o past c.args.landed c.restart.new.self (Err f)) (sym c.no_save.ensures) (restart_fails o past c.args.landed c.restart.new.self c.in-Err.fault (c.in-Err.ensures o past me stands))
+    subst (λ f. CutsInRestart o past c.args.landed c.restart.new.self (Err f)) (sym c.no_save.ensures)
+    (restart_fails o past c.args.landed c.restart.new.self c.in-Err.fault (c.in-Err.ensures o past me stands))

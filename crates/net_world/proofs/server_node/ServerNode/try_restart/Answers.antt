@@ -9,4 +9,5 @@ pub returns-in-Ok : goal.returns-in-Ok
 returns-in-Ok c o past stands =
     let h = subst (Stands o past) c.in-Off.is stands in
     tried o past c.in-Off.notes c.load.new.self c.try_boot.result h c.load.ensures.left
-    (c.try_boot.ensures (words_noted o (packets_heard o past)) (subst (λ (bs : List ℕ). Says bs (words_noted o (packets_heard o past))) (sym (c.deref.ensures.value ∙ c.in-Ok.ensures.law.1)) h.0))
+    (c.try_boot.ensures (words_noted o (packets_heard o past))
+    (subst (λ (bs : List ℕ). Says bs (words_noted o (packets_heard o past))) (sym (c.deref.ensures.value ∙ c.in-Ok.ensures.law.1)) h.0))

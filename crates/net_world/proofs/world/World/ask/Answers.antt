@@ -17,7 +17,12 @@ returns-in_err-asked c w past stands =
     (unanswered w past (input_of c.args.ask) c.in_err-asked.field-0.0 c.args.self.now _ stands
     (record {
       asks = λ o es h. c.in_err-asked.ensures o es h;
-      moved = record { sent_is = c.settle.ensures.same ∙ sym (append-nil (sent_in c.args.self.now.sent)); servers_are = refl; files_are = refl; mirror_is = refl };
+      moved = record {
+        sent_is = c.settle.ensures.same ∙ sym (append-nil (sent_in c.args.self.now.sent));
+        servers_are = refl;
+        files_are = refl;
+        mirror_is = refl;
+      };
     }))
 
 pub returns : goal.returns
@@ -27,7 +32,13 @@ returns c w past stands =
     answered w past e asked c.in-Ok.first c.send.result c.args.self.now c.send.new.self stands
     (record {
       asks = λ o es h. subst (λ x. Asks o es e x (Ok asked)) (sym (ap (λ x. x.client) c.send.ensures.rest)) (c.in_ok-asked.ensures o es h);
-      moved = record { sent_is = c.send.ensures.sent ∙ ap (λ fs. fs ++ asked.frames) c.settle.ensures.same; servers_are = ap (λ x. x.servers) c.send.ensures.rest; files_are = ap (λ x. x.files) c.send.ensures.rest; mirror_is = ap (λ x. x.mirror) c.send.ensures.rest };
+      moved = record {
+        sent_is = c.send.ensures.sent ∙ ap (λ fs. fs ++ asked.frames) c.settle.ensures.same;
+        servers_are =
+            ap (λ x. x.servers) c.send.ensures.rest;
+        files_are = ap (λ x. x.files) c.send.ensures.rest;
+        mirror_is = ap (λ x. x.mirror) c.send.ensures.rest;
+      };
     })
     (c.in-Ok.ensures.first ∙ ap (λ (fs : List (List ℕ)). length fs) c.settle.ensures.same)
     c.send.ensures.told

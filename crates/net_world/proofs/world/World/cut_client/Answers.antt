@@ -12,7 +12,8 @@ use Rattle.net_world.proofs.world.World.cut_client.Goals as goal
 
 pub returns-then-not-on : goal.returns-then-not-on
 returns-then-not-on c w past stands =
-    refuses w past (Cut Client) _ c.args.self.now refl (cut_off w past (sym (c.on.ensures (client_opening w) (entries w past) stands.client_is) ∙ c.if-not-on.true)) stands
+    refuses w past (Cut Client) _ c.args.self.now refl (cut_off w past
+    (sym (c.on.ensures (client_opening w) (entries w past) stands.client_is) ∙ c.if-not-on.true)) stands
 
 pub returns-in_default : goal.returns-in_default
 returns-in_default c w past stands = (refl, settled w past c.args.self.now _ stands c.settle.ensures.same refl refl refl refl)

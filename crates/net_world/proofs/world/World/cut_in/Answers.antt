@@ -8,4 +8,5 @@ use Rattle.net_world.proofs.world.World.cut_in.Goals as goal
 
 pub returns-in-Cut : goal.returns-in-Cut
 returns-in-Cut c w events stands =
-    subst (λ (e : PlainEvent). Ends w (world w events) (CutIn c.args.landed (plain_happening e)) c.args.self.now c.cut_in_cut.result) (sym c.in-Cut.is) (c.cut_in_cut.ensures c.args.landed w (world w events) stands)
+    subst (λ (e : PlainEvent). Ends w (world w events) (CutIn c.args.landed (plain_happening e)) c.args.self.now c.cut_in_cut.result) (sym c.in-Cut.is)
+    (c.cut_in_cut.ensures c.args.landed w (world w events) stands)

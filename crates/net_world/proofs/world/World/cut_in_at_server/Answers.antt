@@ -19,7 +19,8 @@ returns-then-not-has_server c w past number stands is goes =
     let l = ltb-false c.args.server (length c.args.self.now.servers.items) (sym c.has_server.ensures ∙ c.if-not-has_server.true) in
     let e = CutIn c.args.landed (Deliver number) in
     refuses w past e _ c.args.self.now refl
-    (stops w past e _ (cut_bar w past number c.args.landed c.args.frame c.args.server (record { is_sent = is; goes_to = goes }) ∙ none_there w past c.args.server (omega (arith, stands.number, l)))) stands
+    (stops w past e _ (cut_bar w past number c.args.landed c.args.frame c.args.server (record { is_sent = is; goes_to = goes })
+    ∙ none_there w past c.args.server (omega (arith, stands.number, l)))) stands
 
 pub returns-in_default : goal.returns-in_default
 returns-in_default c w past number stands is goes = (refl, settled w past c.args.self.now _ stands c.settle.ensures.same refl refl refl refl)
@@ -31,8 +32,18 @@ returns c w past number stands is goes =
     let below : s < w.servers = omega (arith, stands.number, l) in
     let at = node_at c.args.self.now.servers.items s c.server.inside.0 c.index_mut.result.now c.server.view_is l c.index_mut.ensures.value in
     let h = c.in_ok-cut_in_delivery.ensures (opening_of s) (entries past s) (stands.servers_are s c.index_mut.result.now at) in
-    plain_ends w past s (CutIn c.args.landed (Deliver number)) (hearing.Met (inputs.Deliver c.args.frame) (lost_by c.args.landed)) c.cut_in_delivery.new.self c.in-Ok.first c.plain.result c.args.self.now _ stands
-    (record { there = l; place = c.server.inside.0; place_is = c.server.view_is; set_is = refl; sent_is = c.settle.ensures.same ∙ sym (append-nil (sent_in c.args.self.now.sent)); client_is = refl; files_are = refl; mirror_is = refl })
+    plain_ends w past s (CutIn c.args.landed (Deliver number))
+    (hearing.Met (inputs.Deliver c.args.frame) (lost_by c.args.landed)) c.cut_in_delivery.new.self c.in-Ok.first c.plain.result c.args.self.now _ stands
+    (record {
+      there = l;
+      place = c.server.inside.0;
+      place_is = c.server.view_is;
+      set_is = refl;
+      sent_is = c.settle.ensures.same ∙ sym (append-nil (sent_in c.args.self.now.sent));
+      client_is = refl;
+      files_are = refl;
+      mirror_is = refl;
+    })
     h.2
     (frame_cut_plain w past number c.args.landed c.args.frame s (record { is_sent = is; goes_to = goes }) (is_there w past s below h.0) h.1)
     (c.in-Ok.ensures.first ∙ ap (λ (fs : List (List ℕ)). length fs) c.settle.ensures.same)
@@ -46,6 +57,15 @@ returns-in_err-cut_in_delivery c w past number stands is goes =
     let p = err_from_is_err_and c.from_residual.result c.from_residual.ensures.1 in
     rw (p.1, p.2)
     (frame_cut_ends w past number c.args.landed c.args.frame s c.cut_in_delivery.new.self c.in_err-cut_in_delivery.field-0.0 c.args.self.now _ stands
-    (record { there = l; place = c.server.inside.0; place_is = c.server.view_is; set_is = refl; sent_is = c.settle.ensures.same ∙ sym (append-nil (sent_in c.args.self.now.sent)); client_is = refl; files_are = refl; mirror_is = refl })
+    (record {
+      there = l;
+      place = c.server.inside.0;
+      place_is = c.server.view_is;
+      set_is = refl;
+      sent_is = c.settle.ensures.same ∙ sym (append-nil (sent_in c.args.self.now.sent));
+      client_is = refl;
+      files_are = refl;
+      mirror_is = refl;
+    })
     (omega (arith, stands.number, l)) (record { is_sent = is; goes_to = goes })
     (c.in_err-cut_in_delivery.ensures (opening_of s) (entries past s) (stands.servers_are s c.index_mut.result.now at)))

@@ -25,7 +25,8 @@ pub returns-in_err-cut_in_delivery : goal.returns-in_err-cut_in_delivery
 returns-in_err-cut_in_delivery c w past number stands is goes =
     let p = err_from_is_err_and c.from_residual.result c.from_residual.ensures.1 in
     rw (p.1, p.2)
-    (uncut_ends w past c.args.landed (CutIn c.args.landed (Deliver number)) (inputs.Deliver c.args.frame) c.in_err-cut_in_delivery.field-0.0 c.args.self.now _ stands
+    (uncut_ends w past c.args.landed (CutIn c.args.landed (Deliver number))
+    (inputs.Deliver c.args.frame) c.in_err-cut_in_delivery.field-0.0 c.args.self.now _ stands
     (record { sent_is = c.settle.ensures.same ∙ sym (append-nil (sent_in c.args.self.now.sent)); servers_are = refl; files_are = refl; mirror_is = refl })
     (cuts_delivery w past c.args.landed number c.args.frame (record { is_sent = is; goes_to = goes }))
     (c.in_err-cut_in_delivery.ensures (client_opening w) (entries w past) stands.client_is))

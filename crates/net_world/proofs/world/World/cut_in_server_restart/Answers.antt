@@ -30,8 +30,18 @@ returns c w past stands =
     let below : s < w.servers = omega (arith, stands.number, l) in
     let at = node_at c.args.self.now.servers.items s c.server.inside.0 c.index_mut.result.now c.server.view_is l c.index_mut.ensures.value in
     let h = c.in_ok-cut_in_restart.ensures (opening_of s) (entries past s) refl (stands.servers_are s c.index_mut.result.now at) in
-    plain_ends w past s (CutIn c.args.landed (Restart (nodes.Server s))) (hearing.Restart (lost_by c.args.landed)) c.cut_in_restart.new.self c.in-Ok.first c.plain.result c.args.self.now _ stands
-    (record { there = l; place = c.server.inside.0; place_is = c.server.view_is; set_is = refl; sent_is = c.settle.ensures.same ∙ sym (append-nil (sent_in c.args.self.now.sent)); client_is = refl; files_are = refl; mirror_is = refl })
+    plain_ends w past s (CutIn c.args.landed (Restart (nodes.Server s)))
+    (hearing.Restart (lost_by c.args.landed)) c.cut_in_restart.new.self c.in-Ok.first c.plain.result c.args.self.now _ stands
+    (record {
+      there = l;
+      place = c.server.inside.0;
+      place_is = c.server.view_is;
+      set_is = refl;
+      sent_is = c.settle.ensures.same ∙ sym (append-nil (sent_in c.args.self.now.sent));
+      client_is = refl;
+      files_are = refl;
+      mirror_is = refl;
+    })
     h.2
     (restart_cut_plain w past s c.args.landed (may_restart w past s below h.0) h.1)
     (c.in-Ok.ensures.first ∙ ap (λ (fs : List (List ℕ)). length fs) c.settle.ensures.same)
@@ -45,6 +55,15 @@ returns-in_err-cut_in_restart c w past stands =
     let p = err_from_is_err_and c.from_residual.result c.from_residual.ensures.1 in
     rw (p.1, p.2)
     (restart_cut_ends w past s c.args.landed c.cut_in_restart.new.self c.in_err-cut_in_restart.field-0.0 c.args.self.now _ stands
-    (record { there = l; place = c.server.inside.0; place_is = c.server.view_is; set_is = refl; sent_is = c.settle.ensures.same ∙ sym (append-nil (sent_in c.args.self.now.sent)); client_is = refl; files_are = refl; mirror_is = refl })
+    (record {
+      there = l;
+      place = c.server.inside.0;
+      place_is = c.server.view_is;
+      set_is = refl;
+      sent_is = c.settle.ensures.same ∙ sym (append-nil (sent_in c.args.self.now.sent));
+      client_is = refl;
+      files_are = refl;
+      mirror_is = refl;
+    })
     (omega (arith, stands.number, l))
     (c.in_err-cut_in_restart.ensures (opening_of s) (entries past s) refl (stands.servers_are s c.index_mut.result.now at)))

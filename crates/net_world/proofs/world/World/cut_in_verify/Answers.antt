@@ -14,7 +14,8 @@ returns-in_default c w past stands = (refl, settled w past c.args.self.now _ sta
 
 pub returns : goal.returns
 returns c w past stands =
-    cut_ends w past c.args.landed (CutIn c.args.landed (Verify c.args.run c.args.text.now)) (inputs.Verify c.args.run c.args.text.now) c.in-Ok.first c.plain.result c.args.self.now _ stands
+    cut_ends w past c.args.landed (CutIn c.args.landed (Verify c.args.run c.args.text.now))
+    (inputs.Verify c.args.run c.args.text.now) c.in-Ok.first c.plain.result c.args.self.now _ stands
     (record { sent_is = c.settle.ensures.same ∙ sym (append-nil (sent_in c.args.self.now.sent)); servers_are = refl; files_are = refl; mirror_is = refl })
     (cuts_verify w past c.args.landed c.args.run c.args.text.now)
     (c.in_ok-cut_in_verify.ensures (client_opening w) (entries w past) stands.client_is)
@@ -25,7 +26,8 @@ pub returns-in_err-cut_in_verify : goal.returns-in_err-cut_in_verify
 returns-in_err-cut_in_verify c w past stands =
     let p = err_from_is_err_and c.from_residual.result c.from_residual.ensures.1 in
     rw (p.1, p.2)
-    (uncut_ends w past c.args.landed (CutIn c.args.landed (Verify c.args.run c.args.text.now)) (inputs.Verify c.args.run c.args.text.now) c.in_err-cut_in_verify.field-0.0 c.args.self.now _ stands
+    (uncut_ends w past c.args.landed (CutIn c.args.landed (Verify c.args.run c.args.text.now))
+    (inputs.Verify c.args.run c.args.text.now) c.in_err-cut_in_verify.field-0.0 c.args.self.now _ stands
     (record { sent_is = c.settle.ensures.same ∙ sym (append-nil (sent_in c.args.self.now.sent)); servers_are = refl; files_are = refl; mirror_is = refl })
     (cuts_verify w past c.args.landed c.args.run c.args.text.now)
     (c.in_err-cut_in_verify.ensures (client_opening w) (entries w past) stands.client_is))

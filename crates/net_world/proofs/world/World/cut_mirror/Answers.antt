@@ -13,15 +13,32 @@ use Rattle.net_world.proofs.world.World.cut_mirror.Goals as goal
 pub returns-then-not-on : goal.returns-then-not-on
 returns-then-not-on c w past stands =
     let has = there w past c.args.self.now.mirror.node _ c.in-Some.is stands.mirror_is in
-    refuses w past (Cut Mirror) _ _ refl (stops w past (Cut Mirror) _ (is_off w past has.0 (sym (c.on.ensures mirror_opening (of_mirror (steps past)) has.1) ∙ c.if-not-on.true)))
+    refuses w past (Cut Mirror) _ _ refl (stops w past (Cut Mirror) _
+    (is_off w past has.0 (sym (c.on.ensures mirror_opening (of_mirror (steps past)) has.1) ∙ c.if-not-on.true)))
     (mirror_kept w past _ c.args.self.now _ stands
-    (record { has = is_had _ c.args.self.now c.in-Some.is; node_is = refl; greatest_is = refl; sent_is = sym (append-nil (sent_in c.args.self.now.sent)); servers_are = refl; client_is = refl; files_are = refl }) has.1)
+    (record {
+      has = is_had _ c.args.self.now c.in-Some.is;
+      node_is = refl;
+      greatest_is = refl;
+      sent_is = sym (append-nil (sent_in c.args.self.now.sent));
+      servers_are = refl;
+      client_is = refl;
+      files_are = refl;
+    }) has.1)
 
 pub returns : goal.returns
 returns c w past stands =
     let has = there w past c.args.self.now.mirror.node _ c.in-Some.is stands.mirror_is in
     plain_ends w past (Cut Mirror) mirror.Cut c.cut.new.self c.in-Ok.first c.plain.result c.args.self.now _ stands
-    (record { has = is_had _ c.args.self.now c.in-Some.is; node_is = refl; greatest_is = refl; sent_is = c.settle.ensures.same ∙ sym (append-nil (sent_in c.args.self.now.sent)); servers_are = refl; client_is = refl; files_are = refl })
+    (record {
+      has = is_had _ c.args.self.now c.in-Some.is;
+      node_is = refl;
+      greatest_is = refl;
+      sent_is = c.settle.ensures.same ∙ sym (append-nil (sent_in c.args.self.now.sent));
+      servers_are = refl;
+      client_is = refl;
+      files_are = refl;
+    })
     (c.cut.ensures mirror_opening (of_mirror (steps past)) has.1)
     (cut_plain w past (is_there w past has.0 (sym (c.on.ensures mirror_opening (of_mirror (steps past)) has.1) ∙ c.if-not-on.false)))
     (c.in-Ok.ensures.first ∙ ap (λ (fs : List (List ℕ)). length fs) c.settle.ensures.same)

@@ -37,7 +37,16 @@ returns c w past stands =
     let up = c.on.ensures (opening_of s) (entries past s) (stands.servers_are s c.index.result.now at) in
     let again = node_at c.args.self.now.servers.items s c.server.inside.0 c.index_mut.result.now c.server.view_is l c.index_mut.ensures.value in
     plain_ends w past s (Cut (nodes.Server s)) hearing.Cut c.cut.new.self c.in-Ok.first c.plain.result c.args.self.now _ stands
-    (record { there = l; place = c.server.inside.0; place_is = c.server.view_is; set_is = refl; sent_is = c.settle.ensures.same ∙ sym (append-nil (sent_in c.args.self.now.sent)); client_is = refl; files_are = refl; mirror_is = refl })
+    (record {
+      there = l;
+      place = c.server.inside.0;
+      place_is = c.server.view_is;
+      set_is = refl;
+      sent_is = c.settle.ensures.same ∙ sym (append-nil (sent_in c.args.self.now.sent));
+      client_is = refl;
+      files_are = refl;
+      mirror_is = refl;
+    })
     (c.cut.ensures (opening_of s) (entries past s) (stands.servers_are s c.index_mut.result.now again))
     (cut_plain w past s (is_there w past s (omega (arith, stands.number, l)) (sym up ∙ c.if-not-on.false)))
     (c.in-Ok.ensures.first ∙ ap (λ (fs : List (List ℕ)). length fs) c.settle.ensures.same)

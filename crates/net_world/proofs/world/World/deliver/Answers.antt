@@ -17,7 +17,8 @@ returns-in-Server c w events stands =
 
 pub returns-in-Client : goal.returns-in-Client
 returns-in-Client c w events stands =
-    comes_as w (world w events) c.args.number c.in_ok-frame.frame c.ask.result c.ask.new.self (record { is_sent = c.in_ok-frame.ensures w events stands; goes_to = sym c.to_of.ensures ∙ c.in-Client.is }) (c.ask.ensures w (world w events) stands)
+    comes_as w (world w events) c.args.number c.in_ok-frame.frame c.ask.result c.ask.new.self
+    (record { is_sent = c.in_ok-frame.ensures w events stands; goes_to = sym c.to_of.ensures ∙ c.in-Client.is }) (c.ask.ensures w (world w events) stands)
 
 pub returns-in-Mirror : goal.returns-in-Mirror
 returns-in-Mirror c w events stands =

@@ -29,6 +29,14 @@ returns-in_err-frames c w past number stands is goes =
     let p = err_from_is_err_and c.from_residual.result c.from_residual.ensures.1 in
     rw (p.1, p.2)
     (unheard_ends w past number c.args.frame.now c.deliver.new.self c.in_err-frames.field-0.0 c.args.self.now _ stands
-    (record { has = is_had _ c.args.self.now c.in-Some.is; node_is = refl; greatest_is = refl; sent_is = c.settle.ensures.same ∙ sym (append-nil (sent_in c.args.self.now.sent)); servers_are = refl; client_is = refl; files_are = refl })
+    (record {
+      has = is_had _ c.args.self.now c.in-Some.is;
+      node_is = refl;
+      greatest_is = refl;
+      sent_is = c.settle.ensures.same ∙ sym (append-nil (sent_in c.args.self.now.sent));
+      servers_are = refl;
+      client_is = refl;
+      files_are = refl;
+    })
     (record { is_sent = is; goes_to = goes })
     (c.in_err-frames.ensures mirror_opening (of_mirror (steps past)) (there w past c.args.self.now.mirror.node _ c.in-Some.is stands.mirror_is).1))

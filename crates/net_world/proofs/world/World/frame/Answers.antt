@@ -7,4 +7,5 @@ returns-in_default c w events stands = no_frame w (world w events) c.args.self.n
 
 pub returns-in-Ok : goal.returns-in-Ok
 returns-in-Ok c w events stands =
-    frame_found c.sent_frames_are_read.ensures w events c.args.self.now c.args.number c.in-Some.bytes.now c.in-Ok.frame stands c.in-Some.ensures c.in-Ok.ensures.answer.1
+    frame_found c.sent_frames_are_read.ensures w events c.args.self.now c.args.number c.in-Some.bytes.now c.in-Ok.frame stands c.in-Some.ensures
+    c.in-Ok.ensures.answer.1

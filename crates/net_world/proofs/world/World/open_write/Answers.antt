@@ -9,8 +9,11 @@ use Rattle.net_world.proofs.FindLemmas.{not_there, found_off, found_on, off_firs
 use Rattle.net_world.proofs.world.World.open_write.Goals as goal
 
 pub returns-then-not-has_server : goal.returns-then-not-has_server
-returns-then-not-has_server c w past stands =
-    (off_first w past c.args.server c.args.job c.args.write _ (not_there w past c.args.server c.args.self.now stands (ltb-false c.args.server (length c.args.self.now.servers.items) (sym c.has_server.ensures ∙ c.if-not-has_server.true))), refl)
+returns-then-not-has_server c w past stands = (
+  off_first w past c.args.server c.args.job c.args.write _ (not_there w past c.args.server c.args.self.now stands
+      (ltb-false c.args.server (length c.args.self.now.servers.items) (sym c.has_server.ensures ∙ c.if-not-has_server.true))),
+  refl,
+)
 
 pub returns-in_default : goal.returns-in_default
 returns-in_default c w past stands =
@@ -34,7 +37,8 @@ returns-in_default-open_write c w past stands =
     }) in
     let all = shown c.looks_at_all.ensures w past c.args.server runs.up in (
       no_open c.tickets_tell_origins.ensures w past c.args.server c.args.job c.args.write runs.on
-          (inl (ap (λ list. open_write (opening_of c.args.server) list c.args.job c.args.write) (sym all) ∙ sym (c.in_default-open_write.ensures (opening_of c.args.server) (entries past c.args.server) runs.stands))),
+          (inl (ap (λ list. open_write (opening_of c.args.server) list c.args.job c.args.write) (sym all)
+          ∙ sym (c.in_default-open_write.ensures (opening_of c.args.server) (entries past c.args.server) runs.stands))),
       refl,
     )
 
@@ -49,7 +53,8 @@ returns-in-None c w past stands =
     }) in
     let all = shown c.looks_at_all.ensures w past c.args.server runs.up in (
       no_open c.tickets_tell_origins.ensures w past c.args.server c.args.job c.args.write runs.on
-          (inr (ap (λ list. run_job (opening_of c.args.server) list c.args.job) (sym all) ∙ sym (c.in-None.ensures (opening_of c.args.server) (entries past c.args.server) runs.stands))),
+          (inr (ap (λ list. run_job (opening_of c.args.server) list c.args.job) (sym all)
+          ∙ sym (c.in-None.ensures (opening_of c.args.server) (entries past c.args.server) runs.stands))),
       refl,
     )
 
@@ -63,6 +68,9 @@ returns-in-Some-run_job c w past stands =
       shows = λ o es h. c.in-Some.ensures o es h;
     }) in
     let all = shown c.looks_at_all.ensures w past c.args.server runs.up in
-    is_open c.tickets_tell_origins.ensures c.legal_histories.ensures.runs w past c.args.server c.args.job c.args.write c.in-Some-open_write.ticket c.in-Some-run_job.job.now runs.on
-    (ap (λ list. open_write (opening_of c.args.server) list c.args.job c.args.write) (sym all) ∙ sym (c.in-Some-open_write.ensures (opening_of c.args.server) (entries past c.args.server) runs.stands))
-    (ap (λ list. run_job (opening_of c.args.server) list c.args.job) (sym all) ∙ sym (c.in-Some-run_job.ensures (opening_of c.args.server) (entries past c.args.server) runs.stands))
+    is_open c.tickets_tell_origins.ensures c.legal_histories.ensures.runs w past c.args.server c.args.job c.args.write c.in-Some-open_write.ticket
+    c.in-Some-run_job.job.now runs.on
+    (ap (λ list. open_write (opening_of c.args.server) list c.args.job c.args.write) (sym all)
+    ∙ sym (c.in-Some-open_write.ensures (opening_of c.args.server) (entries past c.args.server) runs.stands))
+    (ap (λ list. run_job (opening_of c.args.server) list c.args.job) (sym all)
+    ∙ sym (c.in-Some-run_job.ensures (opening_of c.args.server) (entries past c.args.server) runs.stands))

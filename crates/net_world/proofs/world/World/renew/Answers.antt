@@ -12,7 +12,8 @@ use Rattle.net_world.proofs.world.World.renew.Goals as goal
 pub returns : goal.returns
 returns c w past stands =
     let h = c.in_ok-renew.ensures (client_opening w) (entries w past) (sym (c.count-servers.ensures.value ∙ stands.number)) stands.client_is in
-    renewal_ends w past c.args.generation Saved (Renew c.args.generation) c.in-Ok.first c.plain.result c.args.self.now _ (renewed w past c.args.generation) stands
+    renewal_ends w past c.args.generation Saved (Renew c.args.generation) c.in-Ok.first c.plain.result c.args.self.now _
+    (renewed w past c.args.generation) stands
     (record { sent_is = c.settle.ensures.same ∙ sym (append-nil (sent_in c.args.self.now.sent)); servers_are = refl; files_are = refl; node_is = refl })
     c.generation.view_is
     (sym (c.unrenewable.ensures.why w past stands) ∙ c.in_default.is)

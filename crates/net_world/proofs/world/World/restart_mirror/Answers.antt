@@ -15,7 +15,15 @@ returns c w past stands =
     let has = there w past c.args.self.now.mirror.node _ c.in-Some.is stands.mirror_is in
     let h = c.in_ok-restart.ensures mirror_opening (of_mirror (steps past)) has.1 in
     plain_ends w past (Restart Mirror) mirror.Restart c.restart.new.self c.in-Ok.first c.plain.result c.args.self.now _ stands
-    (record { has = is_had _ c.args.self.now c.in-Some.is; node_is = refl; greatest_is = refl; sent_is = c.settle.ensures.same ∙ sym (append-nil (sent_in c.args.self.now.sent)); servers_are = refl; client_is = refl; files_are = refl })
+    (record {
+      has = is_had _ c.args.self.now c.in-Some.is;
+      node_is = refl;
+      greatest_is = refl;
+      sent_is = c.settle.ensures.same ∙ sym (append-nil (sent_in c.args.self.now.sent));
+      servers_are = refl;
+      client_is = refl;
+      files_are = refl;
+    })
     h.1
     (restart_plain w past (may_restart w past has.0 h.0))
     (c.in-Ok.ensures.first ∙ ap (λ (fs : List (List ℕ)). length fs) c.settle.ensures.same)
@@ -26,5 +34,13 @@ returns-in_err-restart c w past stands =
     let p = err_from_is_err_and c.from_residual.result c.from_residual.ensures.1 in
     rw (p.1, p.2)
     (restart_ends w past c.restart.new.self c.in_err-restart.field-0.0 c.args.self.now _ stands
-    (record { has = is_had _ c.args.self.now c.in-Some.is; node_is = refl; greatest_is = refl; sent_is = c.settle.ensures.same ∙ sym (append-nil (sent_in c.args.self.now.sent)); servers_are = refl; client_is = refl; files_are = refl })
+    (record {
+      has = is_had _ c.args.self.now c.in-Some.is;
+      node_is = refl;
+      greatest_is = refl;
+      sent_is = c.settle.ensures.same ∙ sym (append-nil (sent_in c.args.self.now.sent));
+      servers_are = refl;
+      client_is = refl;
+      files_are = refl;
+    })
     (c.in_err-restart.ensures mirror_opening (of_mirror (steps past)) (there w past c.args.self.now.mirror.node _ c.in-Some.is stands.mirror_is).1))

@@ -6,7 +6,8 @@ use Rattle.net_world.specs.Changes.{Rotted}
 use Rattle.net_world.specs.Contents.{content}
 use Rattle.net_world.proofs.ServeLemmas.{settled}
 use Rattle.net_world.proofs.EndsLemmas.{refuses, stops, goes}
-use Rattle.net_world.proofs.FileStepLemmas.{quiet_ends, file_kept, rots, is_read, written, no_slot, rot_none, rot_past, rot_free}
+use Rattle.net_world.proofs.FileStepLemmas.{quiet_ends, file_kept, rots, no_slot, rot_none, rot_past, rot_free}
+use Rattle.net_world.proofs.FilePlaceLemmas.{is_read, written}
 use Rattle.net_world.proofs.world.World.rot.Goals as goal
 
 pub returns-then-not-has_server : goal.returns-then-not-has_server
@@ -34,9 +35,11 @@ returns-in-Ok-rot c w past stands =
     let j = c.args.job in
     let l = ltb-true s (length c.args.self.now.servers.items) (sym c.has_server.ensures ∙ c.if-not-has_server.false) in
     let below : s < w.servers = omega (arith, stands.number, l) in
-    let read = is_read w past s j c.place_of.result c.index_mut.result.now c.args.self.now stands (sym c.has_file.ensures ∙ c.if-not-has_file.false) c.place_of.ensures c.index_mut.ensures.value in
+    let read = is_read w past s j c.place_of.result c.index_mut.result.now c.args.self.now stands
+    (sym c.has_file.ensures ∙ c.if-not-has_file.false) c.place_of.ensures c.index_mut.ensures.value in
     let e = Rot s j c.args.sector c.args.bytes.now in
-    quiet_ends w past s j e (Rotted s j c.args.sector c.args.bytes.now) (put c.args.sector c.args.bytes.now (content w past s j)) c.rot.new.self c.in-Ok.first c.plain.result c.args.self.now _ stands
+    quiet_ends w past s j e (Rotted s j c.args.sector c.args.bytes.now)
+    (put c.args.sector c.args.bytes.now (content w past s j)) c.rot.new.self c.in-Ok.first c.plain.result c.args.self.now _ stands
     (written w past s j _ _ _ _ _ read refl c.settle.ensures.same refl refl refl)
     (rots w past s j c.args.sector c.args.bytes.now)
     (c.in-Ok-rot.ensures.ok ∙ ap (with_sector c.args.sector c.args.bytes.now) read.held)
@@ -49,5 +52,9 @@ pub returns-in-Err : goal.returns-in-Err
 returns-in-Err c w past stands =
     let s = c.args.server in
     let j = c.args.job in
-    let read = is_read w past s j c.place_of.result c.index_mut.result.now c.args.self.now stands (sym c.has_file.ensures ∙ c.if-not-has_file.false) c.place_of.ensures c.index_mut.ensures.value in
-    (refl, file_kept w past s j c.rot.new.self c.args.self.now _ stands (written w past s j _ _ _ _ _ read refl c.settle.ensures.same refl refl refl) (c.in-Err.ensures.err ∙ read.held))
+    let read = is_read w past s j c.place_of.result c.index_mut.result.now c.args.self.now stands
+    (sym c.has_file.ensures ∙ c.if-not-has_file.false) c.place_of.ensures c.index_mut.ensures.value in (
+      refl,
+      file_kept w past s j c.rot.new.self c.args.self.now _ stands (written w past s j _ _ _ _ _ read refl c.settle.ensures.same refl refl
+          refl) (c.in-Err.ensures.err ∙ read.held),
+    )

@@ -13,7 +13,8 @@ returns-in-On c w past stands =
     let o = client_opening w in
     let es = entries w past in
     let h = subst (Stands o es) c.in-On.is stands.client_is in
-    c.saved.ensures o es h.0 ∙ ap (λ list. kept_state o list c.args.key) (c.looks_at_all.ensures (packets_heard o es) h.1 ∙ heard_is w past) ∙ sym (on_saved w past c.args.key h.1)
+    c.saved.ensures o es h.0 ∙ ap (λ list. kept_state o list c.args.key) (c.looks_at_all.ensures (packets_heard o es) h.1 ∙ heard_is w past)
+    ∙ sym (on_saved w past c.args.key h.1)
 
 pub returns-in-Off : goal.returns-in-Off
 returns-in-Off c w past stands =

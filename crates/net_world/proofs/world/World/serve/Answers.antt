@@ -21,7 +21,16 @@ returns-in-Err c w past stands =
       node = c.step.new.self;
       was_is = node_at c.args.self.now.servers.items c.args.server c.server.inside.0 c.index_mut.result.now c.server.view_is l c.index_mut.ensures.value;
       stepped = λ o es h. c.in-Err.ensures o es h;
-      moved = record { there = l; place = c.server.inside.0; place_is = c.server.view_is; set_is = refl; sent_is = c.settle.ensures.same ∙ sym (append-nil (sent_in c.args.self.now.sent)); client_is = refl; files_are = refl; mirror_is = refl };
+      moved = record {
+        there = l;
+        place = c.server.inside.0;
+        place_is = c.server.view_is;
+        set_is = refl;
+        sent_is = c.settle.ensures.same ∙ sym (append-nil (sent_in c.args.self.now.sent));
+        client_is = refl;
+        files_are = refl;
+        mirror_is = refl;
+      };
     })
 
 pub returns : goal.returns
@@ -34,6 +43,20 @@ returns c w past stands =
       node = c.step.new.self;
       was_is = node_at c.args.self.now.servers.items c.args.server c.server.inside.0 c.index_mut.result.now c.server.view_is l c.index_mut.ensures.value;
       stepped = λ o es h. c.in-Ok-step.ensures o es h;
-      moved = record { there = l; place = c.server.inside.0; place_is = c.server.view_is; set_is = refl; sent_is = c.add.ensures ∙ ap (λ fs. fs ++ outs.frames) c.settle.ensures.same; client_is = refl; files_are = refl; mirror_is = refl };
+      moved = record {
+        there = l;
+        place = c.server.inside.0;
+        place_is = c.server.view_is;
+        set_is = refl;
+        sent_is = c.add.ensures ∙ ap (λ fs. fs ++ outs.frames) c.settle.ensures.same;
+        client_is = refl;
+        files_are = refl;
+        mirror_is = refl;
+      };
     })
-    (record { first = c.in-Ok.ensures.first ∙ ap (λ (fs : List (List ℕ)). length fs) c.settle.ensures.same; sent_is = c.len-sent.ensures; issue = refl; act = refl })
+    (record {
+      first = c.in-Ok.ensures.first ∙ ap (λ (fs : List (List ℕ)). length fs) c.settle.ensures.same;
+      sent_is = c.len-sent.ensures;
+      issue = refl;
+      act = refl;
+    })

@@ -15,11 +15,13 @@ returns-then-on-clause-why c w past stands =
     let s = c.args.server in
     let l = ltb-true s (length c.args.self.now.servers.items) (sym c.has_server.ensures ∙ c.if-not-has_server.false) in
     let at = node_at c.args.self.now.servers.items s c.server.inside.0 c.index.result.now c.server.view_is l c.index.ensures in
-    sym (is_there w past s (omega (arith, stands.number, l)) (sym (c.on.ensures (opening_of s) (entries past s) (stands.servers_are s c.index.result.now at)) ∙ c.if-on.true))
+    sym (is_there w past s (omega (arith, stands.number, l))
+    (sym (c.on.ensures (opening_of s) (entries past s) (stands.servers_are s c.index.result.now at)) ∙ c.if-on.true))
 
 pub returns-else-on-clause-why : goal.returns-else-on-clause-why
 returns-else-on-clause-why c w past stands =
     let s = c.args.server in
     let l = ltb-true s (length c.args.self.now.servers.items) (sym c.has_server.ensures ∙ c.if-not-has_server.false) in
     let at = node_at c.args.self.now.servers.items s c.server.inside.0 c.index.result.now c.server.view_is l c.index.ensures in
-    sym (is_off w past s (omega (arith, stands.number, l)) (sym (c.on.ensures (opening_of s) (entries past s) (stands.servers_are s c.index.result.now at)) ∙ c.if-on.false))
+    sym (is_off w past s (omega (arith, stands.number, l))
+    (sym (c.on.ensures (opening_of s) (entries past s) (stands.servers_are s c.index.result.now at)) ∙ c.if-on.false))

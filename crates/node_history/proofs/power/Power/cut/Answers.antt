@@ -15,7 +15,8 @@ pub returns-in-Some-clause-ends : goal.returns-in-Some-clause-ends
 returns-in-Some-clause-ends g c o past s =
     let k = g.C.NodeCore.kind o in
     subst (λ said. TaskEnds (ways k) past Cuts (Off c.in-Some.notes) (Ok said)) (sym c.plain.ensures)
-    (cut_ends k past c.in-Some.notes (g.met.C.NodeCore.is_cut o past) (there k past c.args.self.now c.core.result (c.core.ensures o past s) c.if-is_none.ensures) (c.in-Some.ensures.some o past s))
+    (cut_ends k past c.in-Some.notes (g.met.C.NodeCore.is_cut o past)
+    (there k past c.args.self.now c.core.result (c.core.ensures o past s) c.if-is_none.ensures) (c.in-Some.ensures.some o past s))
 
 pub returns-in-None-clause-ends : goal.returns-in-None-clause-ends
 returns-in-None-clause-ends g c o past s = absurd (c.in-None.ensures.none o past s)

@@ -11,14 +11,16 @@ returns-then-not-is_none-clause-ends g c o past of s =
 
 pub returns-in-Some-clause-ends : goal.returns-in-Some-clause-ends
 returns-in-Some-clause-ends g c o past of s =
-    c.start.ensures.ends o past of (hidden (g.C.NodeCore.kind o) past c.args.self.now c.core.result (c.core.ensures o past s) c.if-not-is_none.ensures) (c.in-Some.ensures.some o past s)
+    c.start.ensures.ends o past of (hidden (g.C.NodeCore.kind o) past c.args.self.now c.core.result (c.core.ensures o past s) c.if-not-is_none.ensures)
+    (c.in-Some.ensures.some o past s)
 
 pub returns-in-None-clause-ends : goal.returns-in-None-clause-ends
 returns-in-None-clause-ends g c o past of s = absurd (c.in-None.ensures.none o past s)
 
 pub returns-in-Some-clause-count : goal.returns-in-Some-clause-count
 returns-in-Some-clause-count g c o past of s =
-    subst (λ n. Counts true n (failures_of g.C.NodeCore.failures g.C.NodeCore.notes_failures c.start.new.self) c.start.result) c.in-Some.ensures.count c.start.ensures.count
+    subst (λ n. Counts true n (failures_of g.C.NodeCore.failures g.C.NodeCore.notes_failures c.start.new.self) c.start.result) c.in-Some.ensures.count
+    c.start.ensures.count
 
 pub returns-in-None-clause-count : goal.returns-in-None-clause-count
 returns-in-None-clause-count g c o past of s = absurd (c.in-None.ensures.none o past s)

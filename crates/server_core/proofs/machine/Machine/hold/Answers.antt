@@ -14,7 +14,8 @@ use Rattle.server_core.proofs.machine.Machine.hold.Goals as goal
 pub returns-in_default-clause-sent : goal.returns-in_default-clause-sent
 returns-in_default-clause-sent c now h =
     let none = ap (λ n. judgement_now n c.args.self.now.check c.args.attempt c.args.state.now) (sym h.me) ∙ sym c.in_default.ensures.value in
-    c.new.ensures ∙ ap (frames_to_client now.server) (sym (reply_unheld now.server now.boot c.args.self.now.check now.check c.args.attempt c.args.state.now h.check_is none))
+    c.new.ensures ∙ ap (frames_to_client now.server) (sym
+    (reply_unheld now.server now.boot c.args.self.now.check now.check c.args.attempt c.args.state.now h.check_is none))
 
 pub returns-in_default-clause-left : goal.returns-in_default-clause-left
 returns-in_default-clause-left c now h =
@@ -31,8 +32,17 @@ returns-in_default-clause-left c now h =
 pub returns-clause-sent : goal.returns-clause-sent
 returns-clause-sent c now h =
     let some = ap (λ n. judgement_now n c.args.self.now.check c.args.attempt c.args.state.now) (sym h.me) ∙ sym c.in-Some.ensures.value in
-    c.in_ok-frames.ensures.sent now (record { me = h.me; boot_is = h.boot_is; last_is = h.last_is; staged_is = h.staged_is; run_is = h.run_is; check_is = h.check_is })
-    ∙ ap (λ (k : Key). frames_to_client now.server (frame_now k.job (progress_of c.in-Some.progress) now.check)) c.key-job.ensures.value ∙ ap (frames_to_client now.server) (sym (reply_held now.server now.boot c.args.self.now.check now.check c.args.attempt c.args.state.now (progress_of c.in-Some.progress) h.check_is some))
+    c.in_ok-frames.ensures.sent now (record {
+      me = h.me;
+      boot_is = h.boot_is;
+      last_is = h.last_is;
+      staged_is = h.staged_is;
+      run_is = h.run_is;
+      check_is = h.check_is;
+    })
+    ∙ ap (λ (k : Key). frames_to_client now.server (frame_now k.job (progress_of c.in-Some.progress) now.check)) c.key-job.ensures.value
+    ∙ ap (frames_to_client now.server) (sym (reply_held now.server now.boot c.args.self.now.check now.check c.args.attempt c.args.state.now
+    (progress_of c.in-Some.progress) h.check_is some))
 
 pub returns-clause-left : goal.returns-clause-left
 returns-clause-left c now h =
@@ -43,6 +53,8 @@ returns-clause-left c now h =
       last_is = h.last_is;
       staged_is = h.staged_is;
       run_is = work_elsewhere now.server now.boot c.args.self.now.run now.run (ToHold c.args.attempt c.args.state.now) h.run_is tt;
-      check_is = subst (λ k. OpenIs now.server now.boot k (check_goes_on (ToHold c.args.attempt c.args.state.now) now.check)) (sym (c.note.ensures ∙ ap (λ (k : Key). option_map (with_progress k.job (progress_of c.in-Some.progress)) c.args.self.now.check) c.key-job.ensures.value))
+      check_is = subst (λ k. OpenIs now.server now.boot k (check_goes_on (ToHold c.args.attempt c.args.state.now) now.check))
+          (sym (c.note.ensures ∙ ap (λ (k : Key). option_map (with_progress k.job (progress_of c.in-Some.progress)) c.args.self.now.check)
+          c.key-job.ensures.value))
           (hold_kept now.server now.boot c.args.self.now.check now.check c.args.attempt c.args.state.now (progress_of c.in-Some.progress) h.check_is some);
     }

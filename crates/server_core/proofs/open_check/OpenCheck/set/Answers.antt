@@ -8,4 +8,5 @@ returns c =
     let put : CheckKept → CheckKept = λ k. record k { progress = set k.progress c.args.job (progress_of c.args.progress) } in
     rw (← c.self.view_is)
     (ap (λ ps. record { run = c.self.inside.run; attempt = c.self.inside.attempt; jobs = c.self.inside.jobs; progress = ps })
-    (map-set progress_of c.self.inside.progress.items c.index_of.result c.args.progress ∙ ap (λ i. set (map progress_of c.self.inside.progress.items) i (progress_of c.args.progress)) c.index_of.ensures))
+    (map-set progress_of c.self.inside.progress.items c.index_of.result c.args.progress
+    ∙ ap (λ i. set (map progress_of c.self.inside.progress.items) i (progress_of c.args.progress)) c.index_of.ensures))

@@ -13,11 +13,14 @@ use Rattle.server_core.proofs.run.Run.end_write.Goals as goal
 
 step : (c : goal.After-self-1) (w : Work) → RunIs (kept_in c.self.inside) w
     → (w.boot ≡ c.args.ticket.boot → c.end.result ≡ open_answer (names_open_of w c.args.ticket (slice_get w.jobs c.args.ticket.key.job)))
-    × RunIs (record (kept_in c.self.inside) { kept = set c.self.inside.kept.items c.index_in-index.result c.end.new.self }) (and_then w (ToEnd c.args.ticket c.args.end))
+    × RunIs (record (kept_in c.self.inside) { kept = set c.self.inside.kept.items c.index_in-index.result c.end.new.self })
+    (and_then w (ToEnd c.args.ticket c.args.end))
 step c w h =
-    let at = slice_get_read c.self.inside.kept.items (length c.as_slice.result.now) c.index_in-index.result c.index_mut.result.now (ap length c.as_slice.ensures.value) c.if-index-as_slice.true c.index_mut.ensures.value in
+    let at = slice_get_read c.self.inside.kept.items (length c.as_slice.result.now) c.index_in-index.result c.index_mut.result.now
+    (ap length c.as_slice.ensures.value) c.if-index-as_slice.true c.index_mut.ensures.value in
     rw c.index_in-index.ensures
-    (end_step c.legal_histories.ensures.histories (kept_in c.self.inside) w c.args.ticket c.args.end c.index_mut.result.now c.end.new.self c.end.result h (rw (← c.index_in-index.ensures) at) c.end.ensures.answer c.end.ensures.history c.end.ensures.origin c.end.ensures.stopped c.end.ensures.rest)
+    (end_step c.legal_histories.ensures.histories (kept_in c.self.inside) w c.args.ticket c.args.end c.index_mut.result.now c.end.new.self c.end.result h
+    (rw (← c.index_in-index.ensures) at) c.end.ensures.answer c.end.ensures.history c.end.ensures.origin c.end.ensures.stopped c.end.ensures.rest)
 
 pub invariant_of-self : goal.invariant_of-self
 invariant_of-self c = ∥∥₁_map c.self.invariant (λ p. (and_then p.0 (ToEnd c.args.ticket c.args.end), (step c p.0 p.1).1))

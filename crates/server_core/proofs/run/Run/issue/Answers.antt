@@ -13,10 +13,15 @@ use Rattle.server_core.proofs.run.Run.issue.Goals as goal
 
 step : (c : goal.After-self-1) (w : Work) → RunIs (kept_in c.self.inside) w
     → (c.issue.result ≡ issue_of_job w c.index_of-index.result (slice_get w.jobs c.index_of-index.result))
-    × RunIs (record (kept_in c.self.inside) { kept = set c.self.inside.kept.items c.index_of-index.result (record c.index_mut.result.now { engine = c.issue.new.self }) }) (and_then w (ToIssue c.index_of-index.result))
+    × RunIs (record (kept_in c.self.inside) {
+      kept = set c.self.inside.kept.items c.index_of-index.result
+          (record c.index_mut.result.now { engine = c.issue.new.self });
+    }) (and_then w (ToIssue c.index_of-index.result))
 step c w h =
-    let at = slice_get_read c.self.inside.kept.items (length c.as_slice.result.now) c.index_of-index.result c.index_mut.result.now (ap length c.as_slice.ensures.value) c.if-index-as_slice.true c.index_mut.ensures.value in
-    issue_step c.legal_histories.ensures.histories (kept_in c.self.inside) w c.index_of-index.result c.index_mut.result.now c.issue.new.self c.issue.result h at c.issue.ensures.answer c.issue.ensures.left c.issue.ensures.added
+    let at = slice_get_read c.self.inside.kept.items (length c.as_slice.result.now) c.index_of-index.result c.index_mut.result.now
+    (ap length c.as_slice.ensures.value) c.if-index-as_slice.true c.index_mut.ensures.value in
+    issue_step c.legal_histories.ensures.histories (kept_in c.self.inside) w c.index_of-index.result c.index_mut.result.now c.issue.new.self c.issue.result h at
+    c.issue.ensures.answer c.issue.ensures.left c.issue.ensures.added
 
 pub invariant_of-self : goal.invariant_of-self
 invariant_of-self c = ∥∥₁_map c.self.invariant (λ p. (and_then p.0 (ToIssue c.index_of-index.result), (step c p.0 p.1).1))

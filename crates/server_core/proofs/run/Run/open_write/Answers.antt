@@ -7,8 +7,10 @@ use Rattle.server_core.proofs.run.Run.open_write.Goals as goal
 
 pub returns-then-index-as_slice : goal.returns-then-index-as_slice
 returns-then-index-as_slice c w h =
-    c.open_write.ensures.value ∙ (rw (← c.index_of-index.ensures) (open_here (kept_in c.self.inside) w c.index_of-index.result c.args.write c.index.result.now (subst (λ k. RunIs k w) (sym c.self.view_is) h)
-    (slice_get_read c.self.inside.kept.items (length c.as_slice.result.now) c.index_of-index.result c.index.result.now (ap length c.as_slice.ensures.value) c.if-index-as_slice.true c.index.ensures)))
+    c.open_write.ensures.value ∙ (rw (← c.index_of-index.ensures)
+    (open_here (kept_in c.self.inside) w c.index_of-index.result c.args.write c.index.result.now (subst (λ k. RunIs k w) (sym c.self.view_is) h)
+    (slice_get_read c.self.inside.kept.items (length c.as_slice.result.now) c.index_of-index.result c.index.result.now
+    (ap length c.as_slice.ensures.value) c.if-index-as_slice.true c.index.ensures)))
 
 none : (c : goal.Else-index-as_slice) → length c.args.self.now.kept ≤ c.index_of-index.result
 none c = omega (arith, c.if-index-as_slice.false, ap length c.as_slice.ensures.value, ap (λ (k : Kept). length k.kept) c.self.view_is)

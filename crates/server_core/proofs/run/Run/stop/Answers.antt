@@ -12,10 +12,12 @@ use Rattle.server_core.proofs.HaltLemmas.{stop_step}
 use Rattle.server_core.proofs.run.Run.stop.Goals as goal
 
 rows : (c : goal.After-self-2-1) → (with_items c.self.inside.kept c.stop_all.new.jobs).items ≡ map stopped_kept c.self.inside.kept.items
-rows c = with_items_is c.self.inside.kept c.stop_all.new.jobs (c.stop_all.auto.jobs ∙ c.deref_mut.ensures.len) ∙ c.stop_all.ensures ∙ ap (map stopped_kept) c.deref_mut.ensures.value
+rows c = with_items_is c.self.inside.kept c.stop_all.new.jobs (c.stop_all.auto.jobs ∙ c.deref_mut.ensures.len) ∙ c.stop_all.ensures
+    ∙ ap (map stopped_kept) c.deref_mut.ensures.value
 
 step : (c : goal.After-self-2-1) (w : Work) → RunIs (kept_in c.self.inside) w
-    → RunIs (kept_by c.self.inside.number (Some ends.Stopped) c.self.inside.jobs (with_items c.self.inside.kept c.stop_all.new.jobs).items) (and_then w (ToStop w.run))
+    → RunIs (kept_by c.self.inside.number (Some ends.Stopped) c.self.inside.jobs (with_items c.self.inside.kept c.stop_all.new.jobs).items)
+    (and_then w (ToStop w.run))
 step c w h =
     subst (λ ks. RunIs (kept_by c.self.inside.number (Some ends.Stopped) c.self.inside.jobs ks) (and_then w (ToStop w.run))) (sym (rows c))
     (stop_step (kept_in c.self.inside) w h (ap (λ (k : Kept). k.end) c.self.view_is ∙ c.requires))

@@ -12,12 +12,15 @@ use Rattle.server_core.proofs.HaltLemmas.{take_step}
 use Rattle.server_core.proofs.run.Run.take.Goals as goal
 
 rows : (c : goal.After-self-2-1) → (with_items c.self.inside.kept c.take_all.new.jobs).items ≡ map taken_kept c.self.inside.kept.items
-rows c = with_items_is c.self.inside.kept c.take_all.new.jobs (c.take_all.auto.jobs ∙ c.deref_mut.ensures.len) ∙ c.take_all.ensures ∙ ap (map taken_kept) c.deref_mut.ensures.value
+rows c = with_items_is c.self.inside.kept c.take_all.new.jobs (c.take_all.auto.jobs ∙ c.deref_mut.ensures.len) ∙ c.take_all.ensures
+    ∙ ap (map taken_kept) c.deref_mut.ensures.value
 
 step : (c : goal.After-self-2-1) (w : Work) → RunIs (kept_in c.self.inside) w
-    → RunIs (kept_by c.self.inside.number (Some (ends.Taken c.args.act)) c.self.inside.jobs (with_items c.self.inside.kept c.take_all.new.jobs).items) (and_then w (ToTrigger w.run c.args.act))
+    → RunIs (kept_by c.self.inside.number (Some (ends.Taken c.args.act)) c.self.inside.jobs (with_items c.self.inside.kept c.take_all.new.jobs).items)
+    (and_then w (ToTrigger w.run c.args.act))
 step c w h =
-    subst (λ ks. RunIs (kept_by c.self.inside.number (Some (ends.Taken c.args.act)) c.self.inside.jobs ks) (and_then w (ToTrigger w.run c.args.act))) (sym (rows c))
+    subst (λ ks. RunIs (kept_by c.self.inside.number (Some (ends.Taken c.args.act)) c.self.inside.jobs ks) (and_then w (ToTrigger w.run c.args.act)))
+    (sym (rows c))
     (take_step (kept_in c.self.inside) w c.args.act h (ap (λ (k : Kept). k.end) c.self.view_is ∙ c.requires))
 
 pub invariant_of-self : goal.invariant_of-self

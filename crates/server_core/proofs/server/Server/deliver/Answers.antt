@@ -16,4 +16,5 @@ returns-in-Whole-clause-ends g c o past s =
     let new = record old { core = c.step.new.self } in
     let packet = c.in-Whole.packet in
     subst (λ f. Ends (steps note o) past (Deliver f) old new c.step.result) (sym c.in-Whole.is)
-    (whole_ends note o past (Deliver (Whole packet)) (events.Deliver packet) old c.step.new.self c.step.result refl refl s (c.step.ensures o (packets_heard o past) s.core))
+    (whole_ends note o past (Deliver (Whole packet)) (events.Deliver packet) old c.step.new.self c.step.result refl refl s
+    (c.step.ensures o (packets_heard o past) s.core))

@@ -9,4 +9,5 @@ use Rattle.server_core.proofs.server.Server.issue.Goals as goal
 
 pub returns-clause-ends : goal.returns-clause-ends
 returns-clause-ends g c o past s =
-    whole_ends g.N.Notes.note o past (Issue c.args.job) (events.Issue c.args.job) c.args.self.now c.issue.new.self (outs_of_issue c.issue.result) refl refl s (c.issue.ensures.ends o (packets_heard o past) s.core)
+    whole_ends g.N.Notes.note o past (Issue c.args.job) (events.Issue c.args.job) c.args.self.now c.issue.new.self (outs_of_issue c.issue.result) refl refl s
+    (c.issue.ensures.ends o (packets_heard o past) s.core)

@@ -25,9 +25,13 @@ returns-then-is_ok-clause-ends g c o past s =
     let q = c.args.piece.now in
     let p = c.in-Ok-Some.packet in
     let gives = gave c.look.result (look_at_piece old.pieces q) p c.look.ensures (c.in-Ok-Some.is ∙ ap Ok c.in-Ok-Some.field-0-is) in
-    let is = arrives note old o past q c.me.result s (c.on.ensures o (packets_heard o past) s.core) c.if-not-on.false (c.me.ensures o (packets_heard o past) s.core) c.is_piece_for.ensures c.if-not-is_piece_for.false (Gives p) gives in
-    subst (λ rows. Ends (steps note o) past (Deliver (Piece q)) old (record { alloc = old.alloc; core = c.step-outs.new.self; pieces = rows }) c.step-outs.result) (sym (c.drop.ensures ∙ ap (λ t. without_tag t old.pieces) c.tag.ensures))
-    (given_ends note old c.step-outs.new.self o past q p c.step-outs.result s is gives (c.step-outs.ensures o (packets_heard o past) s.core) (sym c.is_ok.ensures.value ∙ c.if-is_ok.true))
+    let is = arrives note old o past q c.me.result s (c.on.ensures o (packets_heard o past) s.core) c.if-not-on.false
+    (c.me.ensures o (packets_heard o past) s.core) c.is_piece_for.ensures c.if-not-is_piece_for.false (Gives p) gives in
+    subst (λ rows. Ends (steps note o) past (Deliver (Piece q)) old
+    (record { alloc = old.alloc; core = c.step-outs.new.self; pieces = rows }) c.step-outs.result)
+    (sym (c.drop.ensures ∙ ap (λ t. without_tag t old.pieces) c.tag.ensures))
+    (given_ends note old c.step-outs.new.self o past q p c.step-outs.result s is gives (c.step-outs.ensures o (packets_heard o past) s.core)
+    (sym c.is_ok.ensures.value ∙ c.if-is_ok.true))
 
 pub returns-else-is_ok-clause-ends : goal.returns-else-is_ok-clause-ends
 returns-else-is_ok-clause-ends g c o past s =
@@ -36,8 +40,10 @@ returns-else-is_ok-clause-ends g c o past s =
     let q = c.args.piece.now in
     let p = c.in-Ok-Some.packet in
     let gives = gave c.look.result (look_at_piece old.pieces q) p c.look.ensures (c.in-Ok-Some.is ∙ ap Ok c.in-Ok-Some.field-0-is) in
-    let is = arrives note old o past q c.me.result s (c.on.ensures o (packets_heard o past) s.core) c.if-not-on.false (c.me.ensures o (packets_heard o past) s.core) c.is_piece_for.ensures c.if-not-is_piece_for.false (Gives p) gives in
-    refused_ends note old c.step-outs.new.self o past q p c.step-outs.result s is (c.step-outs.ensures o (packets_heard o past) s.core) (sym c.is_ok.ensures.value ∙ c.if-is_ok.false)
+    let is = arrives note old o past q c.me.result s (c.on.ensures o (packets_heard o past) s.core) c.if-not-on.false
+    (c.me.ensures o (packets_heard o past) s.core) c.is_piece_for.ensures c.if-not-is_piece_for.false (Gives p) gives in
+    refused_ends note old c.step-outs.new.self o past q p c.step-outs.result s is (c.step-outs.ensures o (packets_heard o past) s.core)
+    (sym c.is_ok.ensures.value ∙ c.if-is_ok.false)
 
 pub returns-in-Ok-clause-ends : goal.returns-in-Ok-clause-ends
 returns-in-Ok-clause-ends g c o past s =
@@ -45,9 +51,11 @@ returns-in-Ok-clause-ends g c o past s =
     let old = c.args.self.now in
     let q = c.args.piece.now in
     let waits = waited c.look.result (look_at_piece old.pieces q) c.look.ensures (c.in-Ok-None.is ∙ ap Ok c.in-Ok-None.field-0-is) in
-    let is = arrives note old o past q c.me.result s (c.on.ensures o (packets_heard o past) s.core) c.if-not-on.false (c.me.ensures o (packets_heard o past) s.core) c.is_piece_for.ensures c.if-not-is_piece_for.false looks.Waits waits in
+    let is = arrives note old o past q c.me.result s (c.on.ensures o (packets_heard o past) s.core) c.if-not-on.false
+    (c.me.ensures o (packets_heard o past) s.core) c.is_piece_for.ensures c.if-not-is_piece_for.false looks.Waits waits in
     subst (λ rows. Ends (steps note o) past (Deliver (Piece q)) old (record old { pieces = rows }) (Ok c.sent.result)) (sym c.in-Ok.ensures.taken)
-    (subst (λ outs. Ends (steps note o) past (Deliver (Piece q)) old (record old { pieces = rows_after_piece old.pieces q }) (Ok outs)) (sym (c.sent.ensures ∙ ap sent_alone c.new.ensures)) (kept_ends note o past (Deliver (Piece q)) q old is s))
+    (subst (λ outs. Ends (steps note o) past (Deliver (Piece q)) old (record old { pieces = rows_after_piece old.pieces q }) (Ok outs))
+    (sym (c.sent.ensures ∙ ap sent_alone c.new.ensures)) (kept_ends note o past (Deliver (Piece q)) q old is s))
 
 pub returns-in-Err-FrameBadField-clause-ends : goal.returns-in-Err-FrameBadField-clause-ends
 returns-in-Err-FrameBadField-clause-ends g c o past s =
@@ -55,7 +63,8 @@ returns-in-Err-FrameBadField-clause-ends g c o past s =
     let old = c.args.self.now in
     let q = c.args.piece.now in
     let spoils = spoiled c.look.result (look_at_piece old.pieces q) c.look.ensures (c.in-Err-FrameBadField.is ∙ ap Err c.in-Err-FrameBadField.field-0-is) in
-    let is = arrives note old o past q c.me.result s (c.on.ensures o (packets_heard o past) s.core) c.if-not-on.false (c.me.ensures o (packets_heard o past) s.core) c.is_piece_for.ensures c.if-not-is_piece_for.false looks.NoPacket spoils in
+    let is = arrives note old o past q c.me.result s (c.on.ensures o (packets_heard o past) s.core) c.if-not-on.false
+    (c.me.ensures o (packets_heard o past) s.core) c.is_piece_for.ensures c.if-not-is_piece_for.false looks.NoPacket spoils in
     subst (λ rows. Ends (steps note o) past (Deliver (Piece q)) old (record old { pieces = rows }) (Err FrameBadField))
     (sym (c.drop-in-Err-FrameBadField.ensures ∙ ap (λ t. without_tag t old.pieces) c.tag-in-Err-FrameBadField.ensures ∙ sym (spoiled_gone old.pieces q spoils)))
     (dropped_ends note o past (Deliver (Piece q)) q old is s)
@@ -67,7 +76,8 @@ returns-then-is_ok-clause-ranges g c o past s =
     let q = c.args.piece.now in
     let p = c.in-Ok-Some.packet in
     let gives = gave c.look.result (look_at_piece old.pieces q) p c.look.ensures (c.in-Ok-Some.is ∙ ap Ok c.in-Ok-Some.field-0-is) in
-    let is = arrives note old o past q c.me.result s (c.on.ensures o (packets_heard o past) s.core) c.if-not-on.false (c.me.ensures o (packets_heard o past) s.core) c.is_piece_for.ensures c.if-not-is_piece_for.false (Gives p) gives in
+    let is = arrives note old o past q c.me.result s (c.on.ensures o (packets_heard o past) s.core) c.if-not-on.false
+    (c.me.ensures o (packets_heard o past) s.core) c.is_piece_for.ensures c.if-not-is_piece_for.false (Gives p) gives in
     hears_in_range o past (Deliver (Piece q)) (Hears (events.Deliver p)) c.step-outs.result is c.keeps_its_ranges.ensures
 
 pub returns-else-is_ok-clause-ranges : goal.returns-else-is_ok-clause-ranges
@@ -77,7 +87,8 @@ returns-else-is_ok-clause-ranges g c o past s =
     let q = c.args.piece.now in
     let p = c.in-Ok-Some.packet in
     let gives = gave c.look.result (look_at_piece old.pieces q) p c.look.ensures (c.in-Ok-Some.is ∙ ap Ok c.in-Ok-Some.field-0-is) in
-    let is = arrives note old o past q c.me.result s (c.on.ensures o (packets_heard o past) s.core) c.if-not-on.false (c.me.ensures o (packets_heard o past) s.core) c.is_piece_for.ensures c.if-not-is_piece_for.false (Gives p) gives in
+    let is = arrives note old o past q c.me.result s (c.on.ensures o (packets_heard o past) s.core) c.if-not-on.false
+    (c.me.ensures o (packets_heard o past) s.core) c.is_piece_for.ensures c.if-not-is_piece_for.false (Gives p) gives in
     hears_in_range o past (Deliver (Piece q)) (Hears (events.Deliver p)) c.step-outs.result is c.keeps_its_ranges.ensures
 
 pub returns-in-Ok-clause-ranges : goal.returns-in-Ok-clause-ranges
@@ -86,7 +97,8 @@ returns-in-Ok-clause-ranges g c o past s =
     let old = c.args.self.now in
     let q = c.args.piece.now in
     let waits = waited c.look.result (look_at_piece old.pieces q) c.look.ensures (c.in-Ok-None.is ∙ ap Ok c.in-Ok-None.field-0-is) in
-    let is = arrives note old o past q c.me.result s (c.on.ensures o (packets_heard o past) s.core) c.if-not-on.false (c.me.ensures o (packets_heard o past) s.core) c.is_piece_for.ensures c.if-not-is_piece_for.false looks.Waits waits in
+    let is = arrives note old o past q c.me.result s (c.on.ensures o (packets_heard o past) s.core) c.if-not-on.false
+    (c.me.ensures o (packets_heard o past) s.core) c.is_piece_for.ensures c.if-not-is_piece_for.false looks.Waits waits in
     hears_in_range o past (Deliver (Piece q)) (Keeps q) (Ok c.sent.result) is tt
 
 pub returns-in-Err-FrameBadField-clause-ranges : goal.returns-in-Err-FrameBadField-clause-ranges
@@ -95,5 +107,6 @@ returns-in-Err-FrameBadField-clause-ranges g c o past s =
     let old = c.args.self.now in
     let q = c.args.piece.now in
     let spoils = spoiled c.look.result (look_at_piece old.pieces q) c.look.ensures (c.in-Err-FrameBadField.is ∙ ap Err c.in-Err-FrameBadField.field-0-is) in
-    let is = arrives note old o past q c.me.result s (c.on.ensures o (packets_heard o past) s.core) c.if-not-on.false (c.me.ensures o (packets_heard o past) s.core) c.is_piece_for.ensures c.if-not-is_piece_for.false looks.NoPacket spoils in
+    let is = arrives note old o past q c.me.result s (c.on.ensures o (packets_heard o past) s.core) c.if-not-on.false
+    (c.me.ensures o (packets_heard o past) s.core) c.is_piece_for.ensures c.if-not-is_piece_for.false looks.NoPacket spoils in
     subst SenseInRange (sym is) tt

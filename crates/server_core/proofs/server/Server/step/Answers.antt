@@ -8,9 +8,11 @@ use Rattle.server_core.proofs.server.Server.step.Goals as goal
 pub returns-in-Issue-clause-ends : goal.returns-in-Issue-clause-ends
 returns-in-Issue-clause-ends g c o past s =
     subst (λ e. Ends (steps g.N.Notes.note o) past e c.args.self.now c.issue.new.self c.issued.result) (sym c.in-Issue.is)
-    (subst (λ r. Ends (steps g.N.Notes.note o) past (Issue c.in-Issue.job) c.args.self.now c.issue.new.self r) (sym c.issued.ensures) (c.issue.ensures.ends o past s))
+    (subst (λ r. Ends (steps g.N.Notes.note o) past (Issue c.in-Issue.job) c.args.self.now c.issue.new.self r) (sym c.issued.ensures)
+    (c.issue.ensures.ends o past s))
 
 pub returns-in-WriteDone-clause-ends : goal.returns-in-WriteDone-clause-ends
 returns-in-WriteDone-clause-ends g c o past s =
     subst (λ e. Ends (steps g.N.Notes.note o) past e c.args.self.now c.end_write.new.self c.ended.result) (sym c.in-WriteDone.is)
-    (subst (λ r. Ends (steps g.N.Notes.note o) past (WriteDone c.in-WriteDone.ticket c.in-WriteDone.end) c.args.self.now c.end_write.new.self r) (sym c.ended.ensures) (c.end_write.ensures.ends o past s))
+    (subst (λ r. Ends (steps g.N.Notes.note o) past (WriteDone c.in-WriteDone.ticket c.in-WriteDone.end) c.args.self.now c.end_write.new.self r)
+    (sym c.ended.ensures) (c.end_write.ensures.ends o past s))

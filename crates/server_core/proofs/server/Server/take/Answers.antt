@@ -14,7 +14,8 @@ returns-in-Issue-clause-ends g c o past s =
     let old = c.args.self.now in
     let new = record old { core = c.step.new.self } in
     subst (λ e. Ends (steps note o) past e old new c.step.result) (sym c.in-Issue.is)
-    (whole_ends note o past (Issue c.in-Issue.job) (events.Issue c.in-Issue.job) old c.step.new.self c.step.result refl refl s (c.step.ensures o (packets_heard o past) s.core))
+    (whole_ends note o past (Issue c.in-Issue.job) (events.Issue c.in-Issue.job) old c.step.new.self c.step.result refl refl s
+    (c.step.ensures o (packets_heard o past) s.core))
 
 pub returns-in-WriteDone-clause-ends : goal.returns-in-WriteDone-clause-ends
 returns-in-WriteDone-clause-ends g c o past s =
@@ -25,7 +26,8 @@ returns-in-WriteDone-clause-ends g c o past s =
     let end = c.in-WriteDone.end in
     let result = c.step-in-WriteDone.result in
     subst (λ e. Ends (steps note o) past e old new result) (sym c.in-WriteDone.is)
-    (whole_ends note o past (WriteDone ticket end) (events.WriteDone ticket end) old c.step-in-WriteDone.new.self result refl refl s (c.step-in-WriteDone.ensures o (packets_heard o past) s.core))
+    (whole_ends note o past (WriteDone ticket end) (events.WriteDone ticket end) old c.step-in-WriteDone.new.self result refl refl s
+    (c.step-in-WriteDone.ensures o (packets_heard o past) s.core))
 
 pub returns-in-CheckDone-clause-ends : goal.returns-in-CheckDone-clause-ends
 returns-in-CheckDone-clause-ends g c o past s =
@@ -35,5 +37,6 @@ returns-in-CheckDone-clause-ends g c o past s =
     let done = c.in-CheckDone in
     let result = c.step-in-CheckDone.result in
     subst (λ e. Ends (steps note o) past e old new result) (sym c.in-CheckDone.is)
-    (whole_ends note o past (CheckDone done.boot done.attempt done.job done.report) (events.CheckDone done.boot done.attempt done.job done.report) old c.step-in-CheckDone.new.self result refl refl s
+    (whole_ends note o past (CheckDone done.boot done.attempt done.job done.report)
+    (events.CheckDone done.boot done.attempt done.job done.report) old c.step-in-CheckDone.new.self result refl refl s
     (c.step-in-CheckDone.ensures o (packets_heard o past) s.core))

@@ -22,4 +22,5 @@ returns-in_err-came-clause-ends g c =
 pub returns-in_err-came-clause-why : goal.returns-in_err-came-clause-why
 returns-in_err-came-clause-why g c =
     let p = err_from_is_err_and c.from_residual.result c.from_residual.ensures.1 in
-    rw (p.1, p.2) (deliver_none c.args.self.now c.args.hub.now.net c.args.position c.in_err-came.field-0.0 (is_there g.N.Notes.note c.args.self.now c.client.result c.client.ensures.on c.if-is_none.ensures) c.in_err-came.ensures)
+    rw (p.1, p.2) (deliver_none c.args.self.now c.args.hub.now.net c.args.position c.in_err-came.field-0.0
+    (is_there g.N.Notes.note c.args.self.now c.client.result c.client.ensures.on c.if-is_none.ensures) c.in_err-came.ensures)
