@@ -89,34 +89,22 @@ pub fn ask(client: &mut Client<FaultNotes>, asked: Asked, text: &[u8]) -> Result
 }
 
 fn begin(client: &mut Client<FaultNotes>, text: &[u8]) -> Result<Given, Fault> {
-    match client.begin(text) {
-        Ok((run, frames)) => Ok(Given {
-            number: Some(run.0),
-            frames,
-        }),
-        Err(fault) => Err(fault),
-    }
+    let (run, frames) = client.begin(text)?;
+    let number = Some(run.0);
+    Ok(Given { number, frames })
 }
 
 fn verify(client: &mut Client<FaultNotes>, run: RunNo, text: &[u8]) -> Result<Given, Fault> {
-    match client.verify(run, text) {
-        Ok((attempt, frames)) => Ok(Given {
-            number: Some(attempt.0),
-            frames,
-        }),
-        Err(fault) => Err(fault),
-    }
+    let (attempt, frames) = client.verify(run, text)?;
+    let number = Some(attempt.0);
+    Ok(Given { number, frames })
 }
 
 /// Frames without a number.
 pub fn plain(answer: Result<Frames, Fault>) -> Result<Given, Fault> {
-    match answer {
-        Ok(frames) => Ok(Given {
-            number: None,
-            frames,
-        }),
-        Err(fault) => Err(fault),
-    }
+    let frames = answer?;
+    let number = None;
+    Ok(Given { number, frames })
 }
 
 /// Whether the delivery of a frame would make a save; where memory runs out, asked once more.

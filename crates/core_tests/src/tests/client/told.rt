@@ -49,14 +49,12 @@ impl Node for Told {
         opening: &Opening,
         notes: FaultNotes,
     ) -> Result<Told, (FaultNotes, Fault)> {
-        match opened(alloc, servers, notes, opening) {
-            Ok(client) => Ok(Told {
-                client,
-                given: None,
-                text: Draft::new(alloc),
-            }),
-            Err(refused) => Err(refused),
-        }
+        let client = opened(alloc, servers, notes, opening)?;
+        Ok(Told {
+            client,
+            given: None,
+            text: Draft::new(alloc),
+        })
     }
 
     fn off(self) -> FaultNotes {

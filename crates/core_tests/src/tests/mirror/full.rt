@@ -45,10 +45,8 @@ pub fn sends_all(alloc: Global, note: &str, count: u32) -> Result<bool, Trouble>
 }
 
 fn sends_all_once(alloc: Global, note: &str, count: u32) -> Result<bool, Trouble> {
-    match bytes_in(alloc, note) {
-        Ok(bytes) => sends_all_over(alloc, bytes, count),
-        Err(trouble) => Err(trouble),
-    }
+    let bytes = bytes_in(alloc, note)?;
+    sends_all_over(alloc, bytes, count)
 }
 
 fn bytes_in(alloc: Global, note: &str) -> Result<Vec<u8>, Trouble> {

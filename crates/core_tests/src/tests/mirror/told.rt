@@ -27,10 +27,8 @@ impl Node for Told {
         _opening: &(),
         notes: FaultNotes,
     ) -> Result<Told, (FaultNotes, Fault)> {
-        match Mirror::restart(alloc, notes) {
-            Ok(mirror) => Ok(Told { mirror, sent: None }),
-            Err(refused) => Err(refused),
-        }
+        let mirror = Mirror::restart(alloc, notes)?;
+        Ok(Told { mirror, sent: None })
     }
 
     fn off(self) -> FaultNotes {

@@ -33,10 +33,8 @@ fn note(alloc: Global) -> Result<Draft, Trouble> {
         note.clear();
         note.put_hex(NOTE);
     }
-    match note.told() {
-        Ok(()) => Ok(note),
-        Err(trouble) => Err(trouble),
-    }
+    note.told()?;
+    Ok(note)
 }
 
 /// Whether the note is one, and nothing shorter.

@@ -44,10 +44,8 @@ impl Node for Told {
         _opening: &(),
         notes: FaultNotes,
     ) -> Result<Told, (FaultNotes, Fault)> {
-        match Server::restart(alloc, ServerNo(0), notes) {
-            Ok(server) => Ok(Told { server, outs: None }),
-            Err(refused) => Err(refused),
-        }
+        let server = Server::restart(alloc, ServerNo(0), notes)?;
+        Ok(Told { server, outs: None })
     }
 
     fn off(self) -> FaultNotes {
