@@ -19,13 +19,13 @@ use Rattle.engine.specs.Inside.{running_in, IsConsistent}
 use Rattle.engine.proofs.AnswerLemmas.{open_answer}
 use Rattle.engine.proofs.WriteLemmas.{any_block}
 
--- at most 64 writes are in flight
-pub depth_limit : (job : JobParts) → IsTrue (is_within_limits job) → job.depth ≤ 64
+-- at most MAX_DEPTH writes are in flight
+pub depth_limit : (job : JobParts) → IsTrue (is_within_limits job) → job.depth ≤ MAX_DEPTH
 depth_limit job within =
     let most = and_parts (has_block_size job && has_region job && has_queue job) (has_pattern job) within in
     let queue = and_parts (has_block_size job && has_region job) (has_queue job) most.0 in
     let depth = and_parts (leb 1 job.depth && leb job.depth MAX_DEPTH) _ queue.1 in
-    leb-true job.depth 64 (and_parts (leb 1 job.depth) (leb job.depth MAX_DEPTH) depth.0).1
+    leb-true job.depth MAX_DEPTH (and_parts (leb 1 job.depth) (leb job.depth MAX_DEPTH) depth.0).1
 
 -- the widest window has MAX_WINDOW writes
 pub window_limit : (job : JobParts) → IsTrue (is_within_limits job) → job.window ≤ MAX_WINDOW
