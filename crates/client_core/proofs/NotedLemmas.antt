@@ -24,7 +24,7 @@ use Rattle.client_core.specs.Note.{IsNoted, blank, is_blank, new_note}
 use Rattle.client_core.specs.History.{Entry, Met, Cut, Restart, Renew, Lose}
 use Rattle.client_core.specs.Refusals.{is_begun, has_next, faults_of_state, faults_of_body, refusal_by}
 use Rattle.client_core.specs.Saves.{NextRun, NextAttempt, unless_kept, addition_by, addition_of, unless_refused, noted_after}
-use Rattle.client_core.specs.Words.{is_on, words_noted, kept_state, peers, may_renew}
+use Rattle.client_core.specs.Words.{is_on, words_noted, peers, may_renew}
 use Rattle.client_core.specs.Ranges.{packet_in, packets_come}
 use Rattle.client_core.specs.Laws.{NotesKeepRanges}
 use Rattle.state_table.proofs.RefusalLemmas.{has_room}

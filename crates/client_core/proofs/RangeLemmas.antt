@@ -26,7 +26,7 @@ use Rattle.client_core.specs.Note.{IsNoted}
 use Rattle.client_core.specs.History.{Opening, Entry, Met, Cut, Restart, Renew, Lose}
 use Rattle.client_core.specs.Refusals.{is_begun, has_next, refusal_by}
 use Rattle.client_core.specs.Saves.{is_answer}
-use Rattle.client_core.specs.Words.{is_on, words_noted, refusal, due, is_answered, kept_state, peers}
+use Rattle.client_core.specs.Words.{is_on, words_noted, refusal, due, is_answered, peers}
 use Rattle.client_core.specs.Life.{Deed, Begins, Triggers, Stops, Verifies, Hears, deeds_of, life, deeds_done, text_of}
 use Rattle.client_core.specs.Packets.{to_mirror, to_server, packets}
 use Rattle.client_core.specs.Ranges.{packet_in, CameInRange}

@@ -1,8 +1,7 @@
 -- Where each state in the note came from.
-use Rattle.std.proofs.Common.{◌≡◌, refl, ap, ◌⊎◌, inl, inr, ℕ, Bool, true, false, List, [], ◌∷◌, ◌++◌, Option, None, Some}
+use Rattle.std.proofs.Common.{◌≡◌, refl, ap, ◌⊎◌, inl, inr, ℕ, Bool, true, false, List, [], ◌∷◌, Option, None, Some}
 use Rattle.std.specs.Prelude.{Contains, ◌&&◌, if◌then◌else◌}
-use Rattle.std.proofs.lemmas.List.Elements.{Contains-append_left, Contains-append_right, Contains-push_cases}
-use Rattle.fc_base.specs.declared.numbers.Key.{Key}
+use Rattle.std.proofs.lemmas.List.Elements.{Contains-push_cases}
 use Rattle.fc_base.specs.declared.fault.Fault.{Fault}
 use Rattle.verify_state.specs.State.{State}
 use Rattle.messages.specs.declared.packet.PacketParts.{PacketParts}
@@ -18,7 +17,7 @@ use Rattle.client_core.specs.declared.noted.Noted.{Noted}
 use Rattle.client_core.specs.declared.peers.Peers.{Peers}
 use Rattle.client_core.specs.History.{Opening, Entry, Met, Cut, Restart, Renew, Lose}
 use Rattle.client_core.specs.Refusals.{is_for_client, refusal_by}
-use Rattle.client_core.specs.Saves.{Addition, NextRun, NextAttempt, Keep, unless_kept, addition_by, unless_refused, due_by, noted_after}
+use Rattle.client_core.specs.Saves.{NextRun, NextAttempt, unless_kept, addition_by, unless_refused, due_by, noted_after}
 use Rattle.client_core.specs.Words.{is_on, words_noted, peers, may_renew}
 use Rattle.client_core.specs.Note.{new_note}
 use Rattle.client_core.specs.Ranges.{packet_in, packets_come}

@@ -10,7 +10,6 @@ use Rattle.messages.specs.declared.refusal.Asked.{Asked}
 use Rattle.messages.specs.declared.refusal.Reason.{Reason}
 use Rattle.messages.specs.declared.refusal.Reason.TheVariants as reasons
 use Rattle.messages.specs.Ranges.{is_word, is_run, is_jobs, is_job_of, is_body, is_job_refused, is_attempt_refused, KeepsState}
-use Rattle.server_core.specs.Request.{request_of}
 use Rattle.server_core.specs.Run.{Work}
 use Rattle.server_core.specs.Check.{Check}
 use Rattle.server_core.specs.Replies.{refuse, gone_or_unknown}

@@ -1,5 +1,5 @@
 -- The bytes behind the magic, cut in two, are the two numbers of a note.
-use Rattle.std.proofs.Common.{◌≡◌, sym, ◌∙◌, ap, subst, inl, ℕ, ◌+◌, ◌^◌, ◌<◌, arith, true, List, ◌++◌, length, take, drop}
+use Rattle.std.proofs.Common.{◌≡◌, sym, ◌∙◌, ap, subst, inl, ℕ, ◌^◌, ◌<◌, arith, true, List, ◌++◌, length, take, drop}
 use Rattle.std.specs.Prelude.{bytes_eq, codes}
 use Rattle.std.specs.Int.{w64, to_be_bytes, from_be_bytes}
 use Rattle.std.proofs.lemmas.List.{take-append-drop, length-take, length-drop, take_all}
