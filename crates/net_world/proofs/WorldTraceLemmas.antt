@@ -23,7 +23,8 @@ use Rattle.net_world.specs.Outcomes.{brings, unless_barred, outcome}
 use Rattle.net_world.specs.World.{and_outcome, world}
 use Rattle.net_world.specs.WorldLaws.{EachWorldIsAFrameTrace}
 use Rattle.net_world.proofs.StartedLemmas.{loss_fits}
-use Rattle.net_world.proofs.WorldLemmas.{Goes, MayBe, MayCome, may_step, may_server, may_client, may_end, may_check, may_cut, may_restart, may_renew, sent_at, may_deliver, may_cut_in}
+use Rattle.net_world.proofs.WorldLemmas.{Goes, MayBe, MayCome, may_step, may_server, may_client, may_end, may_check}
+use Rattle.net_world.proofs.WorldLemmas.{may_cut, may_restart, may_renew, sent_at, may_deliver, may_cut_in}
 
 may_bring : (w : Setup) (past : List Change) (e : Happening) → IsFrameTrace w (steps past)
     → barring_fault w (trace w past) (frames_sent w (steps past)) e ≡ None → MayCome w (steps past) (brings w past e)
