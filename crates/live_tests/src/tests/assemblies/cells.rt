@@ -40,10 +40,8 @@ impl Cells {
             servers: Vec::new(alloc),
             seats: Vec::new(alloc),
         };
-        match cells.open_all(alloc, play) {
-            Ok(()) => Ok(cells),
-            Err(fault) => Err(fault),
-        }
+        cells.open_all(alloc, play)?;
+        Ok(cells)
     }
 
     fn open_all(&mut self, alloc: Global, play: &Play) -> Result<(), Fault> {
