@@ -143,21 +143,13 @@ no_packet_conflicts laws w t trace p was h =
 
 -- ---- the mirror
 
-mirror_differs : (x : State) (o : Option State) → differs x o ≡ true → (y : State) × (o ≡ Some y) × (is_same y x ≡ false)
-mirror_differs x None h = absurd cc
-mirror_differs x (Some y) h = (y, refl, not_true (is_same y x) h)
-  where
-    not_true : (b : Bool) → not b ≡ true → b ≡ false
-    not_true true e = absurd cc
-    not_true false e = refl
-
 old_or_not : (b : Bool) → slice_get (when b Old) 0 ≡ Some Conflict → ⊥
 old_or_not true h = absurd cc
 old_or_not false h = absurd cc
 
 asked_differs : (n : mirror_noted.Noted) (body : Body) → slice_get (mirror_refusals.faults_of n (asked_by body)) 0 ≡ Some Conflict → Differing n.kept body
 asked_differs n (bodies.Copy x) h =
-    let k = mirror_differs x (kept_of x.key n.kept)
+    let k = kept_differs x (kept_of x.key n.kept)
     (conflict_differs (differs x (kept_of x.key n.kept)) (lacks_room n.kept (kept_of x.key n.kept)) h) in
     record { new = x; old = k.0; carries = refl; found = k.1; other = k.2 }
 asked_differs n (bodies.Fetch g) h = absurd (old_or_not (nat_lt g n.generation) h)
