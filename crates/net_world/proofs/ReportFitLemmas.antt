@@ -59,7 +59,7 @@ few_blocks job limits =
     le : (a b : ℕ) → nat_le a b ≡ true → a ≤ b
     le a b h = grind (arith, nat_tests)
 
-pub SomeEnd : Option Event → Type 0
+unfoldable pub SomeEnd : Option Event → Type 0
 SomeEnd None = Unit {0}
 SomeEnd (Some e) = ReportFits e
 

@@ -49,15 +49,15 @@ use Rattle.net_world.specs.World.{world}
 use Rattle.net_world.proofs.StartedLemmas.{has_mirror_of, restart_fits, renewal_fits}
 
 -- A step may come behind these: what it takes was sent, and it is one of the setup.
-pub Goes : Setup → List FrameStep → FrameStep → Type 0
+unfoldable pub Goes : Setup → List FrameStep → FrameStep → Type 0
 Goes w ps step = MayHappen (frames_sent w ps) step × (is_allowed w ps step ≡ true)
 
-pub MayBe : Setup → List FrameStep → Result FrameStep Fault → Type 0
+unfoldable pub MayBe : Setup → List FrameStep → Result FrameStep Fault → Type 0
 MayBe w ps (Ok step) = Goes w ps step
 MayBe w ps (Err fault) = Unit {0}
 
 -- What comes of something is no step, or one that may come.
-pub MayCome : Setup → List FrameStep → Outcome → Type 0
+unfoldable pub MayCome : Setup → List FrameStep → Outcome → Type 0
 MayCome w ps (Does (Met step)) = Goes w ps step
 MayCome w ps (Does (Landed s j k mask)) = Unit {0}
 MayCome w ps (Does (Rotted s j sector bytes)) = Unit {0}
