@@ -1,4 +1,5 @@
 pub mod CameLemmas
+pub mod GivenLemmas
 pub mod KeptLemmas
 pub mod Losses
 pub mod OneByOne
