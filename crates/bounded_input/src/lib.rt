@@ -9,8 +9,6 @@
 
 mod input;
 mod law;
-#[cfg(test)]
-mod tests;
 
 pub use input::{InputFault, fill, read_input};
 pub use law::read_law;

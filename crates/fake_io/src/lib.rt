@@ -4,8 +4,6 @@
 mod held;
 mod page;
 mod source;
-#[cfg(test)]
-mod tests;
 
 pub use held::{Held, held_output};
 pub use page::{Page, page_with};

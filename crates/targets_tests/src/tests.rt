@@ -1,7 +1,9 @@
-//! What no clause shows of `targets`.
+//! What no clause shows of `targets`, of the inputs that it reads, and of those that its tests read.
 
 mod checks;
+mod fakes;
 mod inputs;
+mod reads;
 mod runs;
 mod stamps;
 mod words;

@@ -1,6 +1,6 @@
-//! What the inputs give, and what the outputs take.
+//! What the inputs of `fake_io` give, and what its outputs take.
 
-use crate::{
+use fake_io::{
     Page, Source, failing, failing_at, held_output, in_steps, interrupted, page_with, source_of,
 };
 use std::io::{ErrorKind, Read, Write};

@@ -1,7 +1,7 @@
-//! What no clause shows: the bounds of reading, which inputs are read at all, and that want of memory is
+//! The bounds of reading by `bounded_input`, which inputs are read at all, and that want of memory is
 //! told as such.
 
-use crate::{InputFault, read_input};
+use bounded_input::{InputFault, read_input};
 use fake_io::{Source, failing, failing_at, in_steps, interrupted, source_of};
 use std::alloc::Global;
 use std::process::Abort;
