@@ -256,7 +256,7 @@ static REFUSED: [(&[u8], State, u64, &str); 8] = [
 ];
 
 /// A state, whole or changed.
-#[derive(Clone, Copy, Debug)]
+#[derive(Clone, Copy)]
 enum State {
     Whole,
     /// Its last byte is not there.

@@ -3,7 +3,7 @@
 use std::alloc::{AllocError, Global};
 
 /// What is told: that a write is done or has failed, that the state is to be taken, or other bytes.
-#[derive(Clone, Copy, Debug)]
+#[derive(Clone, Copy)]
 pub(super) enum Tell {
     Done(u64),
     Failed(u64),

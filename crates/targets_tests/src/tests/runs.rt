@@ -15,7 +15,7 @@ use verify_state::VerifyState;
 const TWO_BLOCKS: &[u8] = b"[a]\nrw=write\nbs=512\nsize=1k\nio_size=2k\niodepth=2\n";
 
 /// What stands behind the orders.
-#[derive(Clone, Copy, Debug)]
+#[derive(Clone, Copy)]
 enum End {
     /// A state with so many writes issued, of which these were done.
     State(u64, &'static [u64]),

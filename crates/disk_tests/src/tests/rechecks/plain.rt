@@ -10,7 +10,7 @@ use verify_state::VerifyState;
 use write_order::{Order, holds_write};
 
 /// A write, its block, and whether it counts as completed.
-#[derive(Clone, Copy, Debug)]
+#[derive(Clone, Copy)]
 struct Issued {
     seq: Seq,
     block: u32,

@@ -12,7 +12,7 @@ use std::test::Fail;
 pub(super) type Counts = [u32; 7];
 
 /// What reads the bytes.
-#[derive(Clone, Copy, Debug)]
+#[derive(Clone, Copy)]
 enum Reader {
     /// `decode`, of packets alone.
     Packets,
