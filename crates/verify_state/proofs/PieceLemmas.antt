@@ -8,6 +8,7 @@ use Rattle.std.specs.Int.{w8, w32, w64, from_be_bytes}
 use Rattle.fc_base.specs.Layouts.{bytes_of, number_in}
 use Rattle.std.proofs.lemmas.Bool.{and_parts, and_from, cases_Bool, ltb-true, eqb-true, false≢true}
 use Rattle.std.proofs.lemmas.List.{take-append-drop, drop_all, length-drop, append-nil, drop-append-le, take-append-le, length-append}
+use Rattle.fc_base.specs.declared.limits.TheConstants.{MAX_WINDOW}
 use Rattle.fc_base.specs.declared.record.JobParts.{JobParts}
 use Rattle.fc_base.specs.JobParts.{is_within_limits}
 use Rattle.fc_base.specs.Counted.{has, counted, is_possible}
@@ -202,7 +203,7 @@ keeps_marked bytes fits sound m =
     kept_by bytes (marks_at bytes) fits sound (state_marked bytes) refl (marks_same bytes fits m) (are_marks bytes m.marks).come
 
 -- the list of layout 1 counts what its marks count
-pub listed_come : (job : JobParts) (issued : ℕ) (xs : List ℕ) → job.window ≤ 256 → has_come job issued xs ≡ true
+pub listed_come : (job : JobParts) (issued : ℕ) (xs : List ℕ) → job.window ≤ MAX_WINDOW → has_come job issued xs ≡ true
     → has_come_by job issued (marks_of (has (counted job.window issued xs)) (floor_of job.window issued)) ≡ true
 unfolding has_come has_come_by
 listed_come job issued xs small e =

@@ -2,6 +2,7 @@
 use Rattle.std.proofs.Common.{◌≡◌, ℕ, ◌≤◌, Bool, true, false, ◌&&◌, List, Some, None, refl, sym, ap, ◌∙◌}
 use Rattle.std.specs.Prelude.{if◌then◌else◌}
 use Rattle.std.proofs.lemmas.Bool.{and_parts}
+use Rattle.fc_base.specs.declared.limits.TheConstants.{MAX_WINDOW}
 use Rattle.fc_base.specs.declared.record.JobParts.{JobParts}
 use Rattle.fc_base.specs.JobParts.{is_within_limits}
 use Rattle.fc_base.specs.Keys.{is_key}
@@ -33,7 +34,7 @@ has_key bytes e =
     let fields = and_parts (is_within_limits (job_in bytes)) (has_fields bytes) e in
     (and_parts (has_codes bytes) (is_key (key_in bytes)) (and_parts (has_codes bytes && is_key (key_in bytes)) _ fields.1).0).1
 
--- and a window of at most 256 numbers
-pub narrow : (bytes : List ℕ) → has_ranges bytes ≡ true → (job_in bytes).window ≤ 256
+-- and a window of at most MAX_WINDOW numbers
+pub narrow : (bytes : List ℕ) → has_ranges bytes ≡ true → (job_in bytes).window ≤ MAX_WINDOW
 unfolding has_ranges
 narrow bytes e = window_limit (job_in bytes) (and_parts (is_within_limits (job_in bytes)) (has_fields bytes) e).0

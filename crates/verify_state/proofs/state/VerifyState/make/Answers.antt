@@ -1,4 +1,5 @@
 use Rattle.std.proofs.Common.{◌≡◌, ◌∙◌, ◌≤◌, true, ap, sym, subst, List, ℕ}
+use Rattle.fc_base.specs.declared.limits.TheConstants.{MAX_WINDOW}
 use Rattle.fc_base.specs.Counted.{has, counted}
 use Rattle.fc_base.specs.Marks.{floor_of, marks_of}
 use Rattle.fc_base.specs.CountLaws.{counted_as_listed}
@@ -15,7 +16,7 @@ pub with_marks-requires-clause-come : goal.with_marks-requires-clause-come
 with_marks-requires-clause-come c =
     let job = c.args.rec.now in
     let xs = c.args.completions.items in
-    let narrow : job.window ≤ 256 = subst (λ n. n ≤ 256) c.window-window.ensures.value c.window-window.ensures.range.1 in
+    let narrow : job.window ≤ MAX_WINDOW = subst (λ n. n ≤ MAX_WINDOW) c.window-window.ensures.value c.window-window.ensures.range.1 in
     let held : true ≡ has_come job c.args.issued c.deref.result.now = c.if-not-has_come.ensures in
     let come : has_come job c.args.issued xs ≡ true = sym (held ∙ ap (has_come job c.args.issued) c.deref.ensures.value) in
     rw (marks_are c.window-window.result job.window c.args.issued c.deref-2.result.now xs c.marks_of-marks.result c.window-window.ensures.value
@@ -26,7 +27,7 @@ pub returns-clause-made : goal.returns-clause-made
 returns-clause-made c =
     let job = c.args.rec.now in
     let xs = c.args.completions.items in
-    let narrow : job.window ≤ 256 = subst (λ n. n ≤ 256) c.window-window.ensures.value c.window-window.ensures.range.1 in
+    let narrow : job.window ≤ MAX_WINDOW = subst (λ n. n ≤ MAX_WINDOW) c.window-window.ensures.value c.window-window.ensures.range.1 in
     c.with_marks.ensures
     ∙ ap (state_by c.args.key job c.args.issued c.args.place)
     (marks_are c.window-window.result job.window c.args.issued c.deref-2.result.now xs c.marks_of-marks.result c.window-window.ensures.value
