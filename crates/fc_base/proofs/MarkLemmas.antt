@@ -1,6 +1,7 @@
 -- Marks: a bit that is written, and where the bits of the words end.
 use Rattle.std.proofs.Common.{◌≡◌, ◌↔◌, ℕ, ◌+◌, ◌-◌, ◌*◌, ◌/◌, ◌%◌, ◌^◌, ◌<◌, ◌≤◌, Bool, true, false, cond, eqb, ◌&&◌, List, length}
 use Rattle.std.proofs.Common.{get_or, refl, ap, sym, ◌∙◌, inl, inr, arith, set, bit_and, bit_or, w64, get_or-set_same, get_or-set_other}
+use Rattle.std.specs.Cmp.{both_ways}
 use Rattle.std.specs.Int.{bit_at, bit_not}
 use Rattle.std.proofs.lemmas.Bool.{eqb-true, eq-eqb, ne_eqb, and_parts, and_from, cases_eq, cases_lt}
 use Rattle.std.proofs.lemmas.Nat.Bits.{bit_at-lt, bit_at-zero, bit_at_above, same_from_bits, bit_at_set_same}
@@ -98,15 +99,10 @@ each_ends : (n : ℕ) (marks : List ℕ) (j : ℕ) → j < 4 → ends_by n marks
 each_ends n marks j few ends i low high =
     clear_bit _ (bit_at-lt _ i) (sym (marked_at marks j i (64 * j + i) high refl) ∙ bits_end n marks ends (64 * j + i) (omega arith) (omega arith))
 
-same_test : (x y : Bool) → (x ≡ true → y ≡ true) → (y ≡ true → x ≡ true) → x ≡ y
-same_test true y f g = sym (f refl)
-same_test false true f g = g refl
-same_test false false f g = refl
-
 pub ends_as_tested : (n : ℕ) (marks : List ℕ) (a b c d : Bool) → ((a ≡ true) ↔ WordEnds (get_or marks 0 0) n)
     → ((b ≡ true) ↔ WordEnds (get_or marks 1 0) (n - 64)) → ((c ≡ true) ↔ WordEnds (get_or marks 2 0) (n - 128))
     → ((d ≡ true) ↔ WordEnds (get_or marks 3 0) (n - 192)) → (a && b && c && d) ≡ ends_by n marks
-ends_as_tested n marks a b c d da db dc dd = same_test _ _
+ends_as_tested n marks a b c d da db dc dd = both_ways _ _
     (λ all.
     let three = and_parts (a && b && c) d all in
     let two = and_parts (a && b) c three.0 in

@@ -2,6 +2,7 @@
 use Rattle.std.proofs.Common.{◌≡◌, ◌↔◌, ℕ, ◌+◌, ◌<◌, ◌≤◌, zero, suc, Bool, true, false, not, cond, eqb}
 use Rattle.std.proofs.Common.{◌||◌, List, [], ◌∷◌, length, get_or, refl, ap, sym, ◌∙◌, inl, inr, arith}
 use Rattle.std.specs.Prelude.{sum_by}
+use Rattle.std.specs.Cmp.{both_ways}
 use Rattle.std.specs.List.Sorted.{IsPermutation, IsNonDecreasing, IsStrictlyIncreasing}
 use Rattle.std.proofs.lemmas.Bool.{cases_Bool, cases_eq, and_parts, and_from, eq-eqb, ne_eqb, eqb-true, not-true}
 use Rattle.std.proofs.lemmas.List.Sums.{sum_by-cons}
@@ -114,13 +115,8 @@ distinct_rises xs sorted d k lt =
     let ne = apart xs k d lt in
     omega (arith, le, ne)
 
-same_test : (x y : Bool) → (x ≡ true → y ≡ true) → (y ≡ true → x ≡ true) → x ≡ y
-same_test true y f g = sym (f refl)
-same_test false true f g = g refl
-same_test false false f g = refl
-
 -- whether the sorted numbers rise tells whether one stands twice
 pub sorted_tells : (xs ys : List ℕ) (rise : Bool) → IsPermutation xs ys → IsNonDecreasing ys → ((rise ≡ true) ↔ IsStrictlyIncreasing ys) → rise ≡ is_distinct xs
-sorted_tells xs ys rise moved sorted d = same_test rise (is_distinct xs)
+sorted_tells xs ys rise moved sorted d = both_ways rise (is_distinct xs)
     (λ r. none_twice xs (λ k. omega (arith, times_sorted k xs ys moved, once ys k (rising_distinct ys (d.0 r)))))
     (λ e. d.1 (distinct_rises ys sorted (none_twice ys (λ k. omega (arith, times_sorted k xs ys moved, once xs k e)))))
