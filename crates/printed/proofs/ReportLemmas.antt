@@ -1,15 +1,10 @@
 -- The words of a report as they are written, part by part.
-use Rattle.std.proofs.Common.{◌≡◌, ℕ, List, [], ◌∷◌, ◌++◌, Result, Ok, Err, OnOk, codes, decimal, append_assoc, append-nil, sym, ◌∙◌, ap}
+use Rattle.std.proofs.Common.{◌≡◌, ℕ, List, [], ◌∷◌, ◌++◌, codes, decimal, append_assoc, append-nil, sym, ◌∙◌, ap}
 use Rattle.std.specs.List.{flat_map}
 use Rattle.fc_base.specs.declared.report.ReportEnd.{ReportEnd}
 use Rattle.fc_base.specs.declared.report.ReportEnd.TheVariants.{Whole, AtFault, ReadFault}
 use Rattle.printed.specs.Words.{with_blanks_between, blank_before}
 use Rattle.printed.specs.Reports.{end_words}
-
--- What holds where there is an answer.
-pub on_ok : {T E P Q : Type 0} (r : Result T E) → (P → Q) → OnOk r P → OnOk r Q
-on_ok (Ok x) f p = f p
-on_ok (Err e) f p = tt
 
 -- Words are the first, and each of the others with a blank before it.
 words_text : (word : List ℕ) (words : List (List ℕ)) → with_blanks_between (word ∷ words) ≡ word ++ flat_map blank_before words

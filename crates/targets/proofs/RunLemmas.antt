@@ -1,6 +1,6 @@
 -- A job that is written elsewhere, notice by notice.
 use Rattle.std.proofs.Common.{◌≡◌, ◌<◌, ◌≤◌, ℕ, Bool, true, false, ◌==◌, List, [], ◌∷◌, ◌++◌, length, length-append, take, Option}
-use Rattle.std.proofs.Common.{Some, None, Result, Ok, Err, IfOk, IfSome, OnOk, append-nil, refl, sym, ap, ◌∙◌, subst, inl, inr, arith}
+use Rattle.std.proofs.Common.{Some, None, Err, IfSome, append-nil, refl, sym, ap, ◌∙◌, subst, inl, inr, arith}
 use Rattle.std.specs.Prelude.{if◌then◌else◌}
 use Rattle.std.specs.Int.{w64}
 use Rattle.std.specs.Io.KnownBytes.{Appends, Consumes, IsAtEnd, Keeps}
@@ -29,15 +29,6 @@ use Rattle.targets.specs.Notices.{notice_bytes, told_bytes}
 use Rattle.targets.specs.Orders.{order_bytes, orders}
 use Rattle.targets.specs.Runs.{IsHistory, HasRun, TakesNext, EndsNone, IsNoNotice, Runs}
 use Rattle.targets.specs.Writing.{ReadsNotice, EndsNothing, GoesOn, FollowsBy, Steps, SoFar, steps_left}
-
--- What holds where there is an answer.
-pub on_ok : {T E P Q : Type 0} (r : Result T E) → (P → Q) → OnOk r P → OnOk r Q
-on_ok (Ok x) f p = f p
-on_ok (Err e) f p = tt
-
-pub if_ok : {T E : Type 0} (P Q : T → Type 0) (r : Result T E) → ((x : T) → P x → Q x) → IfOk r P → IfOk r Q
-if_ok P Q (Ok x) f p = f x p
-if_ok P Q (Err e) f p = tt
 
 -- What is appended behind a flush is appended.
 kept_appends : (first mid text : Option (List ℕ)) (bytes : List ℕ) → Keeps first mid → Appends mid text bytes → Appends first text bytes

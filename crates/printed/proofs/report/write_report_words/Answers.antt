@@ -2,15 +2,16 @@ use Rattle.std.proofs.Common.{◌++◌, ap, ◌∙◌, subst, codes, decimal}
 use Rattle.std.specs.List.{flat_map}
 use Rattle.std.specs.Io.KnownBytes.{Appends}
 use Rattle.std.proofs.KnownBytes.{Appends-trans}
+use Rattle.std.proofs.lemmas.Result.{on_ok_weaker}
 use Rattle.printed.specs.Reports.{end_words, block_words}
 use Rattle.printed.specs.Words.{blank_before, with_blanks_between}
-use Rattle.printed.proofs.ReportLemmas.{on_ok, report_text}
+use Rattle.printed.proofs.ReportLemmas.{report_text}
 use Rattle.printed.proofs.report.write_report_words.Goals as goal
 
 pub returns : goal.returns
 returns g c =
     let report = c.args.report.now in
-    on_ok c.write_blocks.result
+    on_ok_weaker c.write_blocks.result
     (λ wrote. subst (Appends _ _)
     (ap (λ l. l ++ flat_map blank_before (block_words c.first.result.now))
     (ap (λ n. codes "checked " ++ (decimal n ++ (codes " faults "

@@ -1,8 +1,9 @@
 use Rattle.std.proofs.Common.{inl}
 use Rattle.std.specs.Io.KnownBytes.{Keeps}
 use Rattle.std.proofs.KnownBytes.{Keeps-refl}
+use Rattle.std.proofs.lemmas.Result.{IfOk-weaker}
 use Rattle.targets.specs.Writing.{FollowsBy}
-use Rattle.targets.proofs.RunLemmas.{flushed, if_ok}
+use Rattle.targets.proofs.RunLemmas.{flushed}
 use Rattle.targets.proofs.writing.Writes.step.Goals as goal
 use Rattle.targets.proofs.writing.Writes.step.Goals.{then-buffer-lt-NOTICE+in_ok-flush, else-buffer-lt-NOTICE}
 
@@ -14,7 +15,7 @@ returns-in-Ok-clause-step g c h stands =
       | then-buffer-lt-NOTICE+in_ok-flush w ↦ rw (w.writer-is) w.in_ok-flush.ensures.bytes
       | else-buffer-lt-NOTICE w ↦ rw (w.writer-is) (Keeps-refl first)
     ] in
-    if_ok (FollowsBy c.in-Ok.notice h c.args.self.now.engine c.follow.new.self.engine mid (g.W.Write.contents c.follow.new.writer)) _ c.follow.result
+    IfOk-weaker c.follow.result (FollowsBy c.in-Ok.notice h c.args.self.now.engine c.follow.new.self.engine mid (g.W.Write.contents c.follow.new.writer)) _
     (λ end follows. inl (
       c.in-Ok.notice,
       c.in-Ok.ensures,
