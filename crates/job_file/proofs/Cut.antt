@@ -1,8 +1,9 @@
 -- The first line of a text, and the lines behind it.
-use Rattle.std.proofs.Common.{◌≡◌, ◌==◌, ℕ, ◌+◌, ◌<◌, Bool, true, false, cond, ◌||◌, List, [], ◌∷◌}
+use Rattle.std.proofs.Common.{◌≡◌, ◌==◌, ℕ, ◌+◌, ◌<◌, Bool, false, cond, List, [], ◌∷◌}
 use Rattle.std.proofs.Common.{length, take, drop, Some, None, position, refl, ◌∙◌, ap, ltb, arith}
 use Rattle.std.specs.List.{list_any, slice_split, onto_first, position_or_len}
 use Rattle.std.specs.Str.Lines.{lines, lines_of_parts, strip_carriage_return}
+use Rattle.std.proofs.lemmas.Bool.{or_parts}
 use Rattle.std.proofs.lemmas.Bool.Decides.{nat_tests}
 use Rattle.std.proofs.lemmas.List.Splits.{slice_split_first, length-slice_split}
 use Rattle.job_file.proofs.Texts.{list_any_is, found_at, found_nowhere}
@@ -14,10 +15,6 @@ is_line_feed b = b == 10
 lines_of_parts_more : (x : List ℕ) (parts : List (List ℕ)) → 0 < length parts → lines_of_parts (x ∷ parts) ≡ strip_carriage_return x ∷ lines_of_parts parts
 lines_of_parts_more x [] some = absurd (omega arith)
 lines_of_parts_more x (y ∷ more) some = refl
-
-or_parts : (a b : Bool) → (a || b) ≡ false → (a ≡ false) × (b ≡ false)
-or_parts false b none = (refl, none)
-or_parts true b none = absurd cc
 
 -- What is not cut is one part.
 split_whole : (xs : List ℕ) → list_any is_line_feed xs ≡ false → slice_split is_line_feed xs ≡ xs ∷ []
@@ -37,7 +34,7 @@ first_of_lines text end is =
     slice_split_first is_line_feed text 0 within ∙ ap (λ n. take n text ∷ slice_split is_line_feed (drop (n + 1) text)) found.1 in
     ap lines_of_parts parts ∙ lines_of_parts_more (take end text) rest (omega (arith, length-slice_split is_line_feed (drop (end + 1) text)))
 
-whole_line : (n : ℕ) (xs : List ℕ) → 0 < n → cond (n == 0) [] (xs ∷ []) ≡ xs ∷ []
+pub whole_line : (n : ℕ) (xs : List ℕ) → 0 < n → cond (n == 0) [] (xs ∷ []) ≡ xs ∷ []
 whole_line n xs some = grind (arith, nat_tests)
 
 -- Without a line feed the text is one line.

@@ -3,15 +3,11 @@ use Rattle.std.proofs.Common.{◌≡◌, ℕ, ◌+◌, ◌<◌, Bool, true, fals
 use Rattle.std.proofs.Common.{◌∷◌, length, drop, Some, None, position, refl, sym, ◌∙◌, ap, ltb, arith, lit<}
 use Rattle.std.specs.List.{list_all, list_any, position_or_len}
 use Rattle.std.specs.Str.{IsAscii, IsUtf8}
+use Rattle.std.proofs.lemmas.Bool.{and_parts}
 use Rattle.std.proofs.lemmas.Bool.Decides.{nat_tests}
 use Rattle.std.proofs.lemmas.Str.{IsUtf8-from_ascii}
 use Rattle.job_file.specs.Bytes.{is_text_byte, trimmed}
 use Rattle.job_file.specs.Line.{is_section_byte, is_equals, value_in}
-
-pub and_parts : (a b : Bool) → (a && b) ≡ true → (a ≡ true) × (b ≡ true)
-and_parts true true both = (refl, refl)
-and_parts true false both = absurd cc
-and_parts false b both = absurd cc
 
 text_byte_is_ascii : (b : ℕ) → is_text_byte b ≡ true → b < 128
 text_byte_is_ascii b is = grind (arith, nat_tests)

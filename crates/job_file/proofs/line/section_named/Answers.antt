@@ -1,5 +1,6 @@
 use Rattle.std.proofs.Common.{sym}
-use Rattle.job_file.proofs.Texts.{and_parts, section_bytes_are_text}
+use Rattle.std.proofs.lemmas.Bool.{and_parts}
+use Rattle.job_file.proofs.Texts.{section_bytes_are_text}
 use Rattle.job_file.proofs.line.section_named.Goals as goal
 
 pub new-requires : goal.new-requires
