@@ -1,2 +1,3 @@
 pub mod AscendingLemmas
+pub mod ListLemmas
 pub mod MarkLemmas

@@ -1,14 +1,15 @@
 -- The seeds and patterns of a text's jobs fit into their widths.
 use Rattle.std.proofs.Common.{◌≡◌, refl, ℕ, zero, suc, ◌+◌, ◌^◌, ◌<◌, ◌≤◌, arith, mod-lt, Bool, true}
 use Rattle.std.proofs.Common.{false, ◌&&◌, List, [], ◌∷◌, ◌++◌, length, drop, Option, None, Some}
-use Rattle.std.specs.Prelude.{if◌then◌else◌, not, nat_lt, nat_le, nat_eq, map, replicate, option_map, bytes_eq, codes, take, ◌-◌}
+use Rattle.std.specs.Prelude.{if◌then◌else◌, not, nat_lt, nat_le, nat_eq, replicate, option_map, bytes_eq, codes, take, ◌-◌}
 use Rattle.std.specs.Option.{option_or}
-use Rattle.std.specs.List.{AllByRecursion, flat_map, list_all, starts_with, ends_with}
+use Rattle.std.specs.List.{AllByRecursion, list_all, starts_with, ends_with}
 use Rattle.std.specs.Char.{is_digit, digit_value}
 use Rattle.std.specs.Str.Lines.{lines}
 use Rattle.std.specs.Str.Parse.{digits_value, AllDigits}
 use Rattle.std.proofs.lemmas.Bool.{and_parts, ltb-true, leb-true}
 use Rattle.std.proofs.lemmas.Int.Digits.{digits_value-lt}
+use Rattle.fc_base.proofs.ListLemmas.{all_append, all_map, flat_of}
 use Rattle.fc_base.specs.declared.record.Verify.{Verify}
 use Rattle.fc_base.specs.declared.record.Verify.TheVariants as verifies
 use Rattle.job_file.specs.declared.draft.Draft.{Draft}
@@ -32,19 +33,6 @@ use Rattle.job_file.specs.Draft.{pattern_under, job_of, with_copies, jobs_from}
 use Rattle.job_file.specs.Laws.{FitsItsWidths, JobsFit}
 
 -- ---- lists
-
-all_append : {X : Type 0} (P : X → Type 0) (xs ys : List X) → AllByRecursion P xs → AllByRecursion P ys → AllByRecursion P (xs ++ ys)
-all_append P [] ys a b = b
-all_append P (x ∷ xs) ys a b = (a.0, all_append P xs ys a.1 b)
-
-all_flat : {X Y : Type 0} (Q : X → Type 0) (P : Y → Type 0) (f : X → List Y) (xs : List X) → ((x : X) → Q x → AllByRecursion P (f x)) → AllByRecursion Q xs
-    → AllByRecursion P (flat_map f xs)
-all_flat Q P f [] h a = tt
-all_flat Q P f (x ∷ xs) h a = all_append P (f x) (flat_map f xs) (h x a.0) (all_flat Q P f xs h a.1)
-
-all_map : {X Y : Type 0} (P : Y → Type 0) (f : X → Y) (xs : List X) → ((x : X) → P (f x)) → AllByRecursion P (map f xs)
-all_map P f [] h = tt
-all_map P f (x ∷ xs) h = (h x, all_map P f xs h)
 
 all_same : {X : Type 0} (P : X → Type 0) (n : ℕ) (x : X) → P x → AllByRecursion P (replicate n x)
 all_same P zero x h = tt
@@ -191,7 +179,7 @@ defaults_fit None options h = h
 defaults_fit (Some name) options h = tt
 
 globals_fit : (ss : List Section) → AllByRecursion SectionFits ss → AllByRecursion SettingFits (global_options ss)
-globals_fit ss h = all_flat SectionFits SettingFits (λ (s : Section). defaults_in s.job s.options) ss (λ s k. defaults_fit s.job s.options k) h
+globals_fit ss h = flat_of SectionFits SettingFits (λ (s : Section). defaults_in s.job s.options) ss h (λ s k. defaults_fit s.job s.options k)
 
 or_fits : (a b : Option ℕ) → PatternFits a → PatternFits b → PatternFits (option_or a b)
 or_fits None b h k = k
@@ -222,7 +210,7 @@ drafts_fit above (Ignored name ∷ ls) a h = drafts_fit above ls a h.1
 drafts_fit above (Faulty fault ∷ ls) a h = drafts_fit above ls a h.1
 
 copies_fit : (ds : List Draft) → AllByRecursion DraftFits ds → AllByRecursion DraftFits (with_copies ds)
-copies_fit ds h = all_flat DraftFits DraftFits (λ d. replicate (drafts.copies_of d) d) ds (λ d k. all_same DraftFits (drafts.copies_of d) d k) h
+copies_fit ds h = flat_of DraftFits DraftFits (λ d. replicate (drafts.copies_of d) d) ds h (λ d k. all_same DraftFits (drafts.copies_of d) d k)
 
 -- ---- the jobs
 

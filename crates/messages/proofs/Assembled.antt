@@ -1,9 +1,8 @@
 -- What comes together of pieces of sent packets.
-use Rattle.std.proofs.Common.{◌≡◌, refl, sym, ◌∙◌, ap, subst, ◌⊎◌, inl, inr, ℕ, zero, suc, ◌-◌, arith, Bool}
+use Rattle.std.proofs.Common.{◌≡◌, refl, sym, ◌∙◌, ap, subst, ◌⊎◌, inl, inr, ℕ, zero, suc, ◌-◌, Bool}
 use Rattle.std.proofs.Common.{true, false, ◌&&◌, ◌==◌, List, [], ◌∷◌, ◌++◌, length, drop, Option, Some, None}
-use Rattle.std.specs.Prelude.{if◌then◌else◌, Contains, map}
-use Rattle.std.proofs.lemmas.Bool.{eqb-true}
-use Rattle.std.proofs.lemmas.List.Elements.{Contains-append_cases, Contains-push_cases}
+use Rattle.std.specs.Prelude.{if◌then◌else◌, Contains}
+use Rattle.std.proofs.lemmas.Bool.{eqb-true, and_parts}
 use Rattle.messages.specs.declared.limits.TheConstants.{MAX_TAGS}
 use Rattle.messages.specs.declared.body.Body.{Body}
 use Rattle.messages.specs.declared.packet.PacketParts.{PacketParts}
@@ -12,7 +11,7 @@ use Rattle.messages.specs.Nodes.{is_node}
 use Rattle.messages.specs.Bodies.{length_of, spelled_body, body_at}
 use Rattle.messages.specs.Laws.{IsPacket}
 use Rattle.verify_state.specs.Laws.{ReadsBack}
-use Rattle.messages.proofs.TestLemmas.{both}
+use Rattle.fc_base.proofs.ListLemmas.{of_map}
 use Rattle.messages.proofs.FitLemmas.{body_at-spelled}
 use Rattle.messages.proofs.BodyLemmas.{length-spelled_body}
 use Rattle.messages.specs.declared.piece.Tag.{Tag}
@@ -26,20 +25,6 @@ use Rattle.messages.specs.Assemblies.{of_tag, look_by_body, look_at_piece, witho
 use Rattle.messages.specs.PieceLaws.{OneBodyOfEachTag, ArePackets, WasCut, AreCut, WasSent, OnlySentComesTogether, GivesThis, OnlyWholeBodiesAreGiven}
 use Rattle.messages.proofs.Cutting.{slices, slices_all, AreOf, joined_slices}
 use Rattle.messages.proofs.TagLemmas.{is_tag_self, same_tag}
-
-none_in : {X : Type 0} (x : X) → Contains [] x → ⊥
-none_in x h = omega (arith, h.1)
-
-pub only_in : {X : Type 0} (y x : X) → Contains (y ∷ []) x → y ≡ x
-only_in y x h = elim (Contains-push_cases [] y x h) [ inl i ↦ absurd (none_in x i) | inr e ↦ e ]
-
--- An element of a mapped list.
-pub of_map : {X Y : Type 0} (f : X → Y) (xs : List X) (y : Y) → Contains (map f xs) y → (x : X) × Contains xs x × (f x ≡ y)
-of_map f [] y h = absurd (none_in y h)
-of_map f (x ∷ xs) y h = elim (Contains-append_cases (f x ∷ []) (map f xs) y h) [
-  | inl i ↦ (x, (zero, omega arith, refl), only_in (f x) y i)
-  | inr i ↦ let s = of_map f xs y i in (s.0, (suc (s.1).0, omega (arith, (s.1).1), (s.1).2), s.2)
-]
 
 -- The piece is the packet's at its place.
 pub at_its_place : (p : PacketParts) (q : PieceParts) → Contains (pieces_of p) q → piece_at p q.at ≡ q
@@ -136,7 +121,7 @@ pub record InRange (p : PacketParts) : Type 0 where
   pub keeps : KeepsState p.body
 
 pub in_range : (p : PacketParts) → IsPacket p → InRange p
-in_range p h = record { body = (both (is_node p.from && is_node p.to) (is_body p.body) h.in_range).1; keeps = h.state }
+in_range p h = record { body = (and_parts (is_node p.from && is_node p.to) (is_body p.body) h.in_range).1; keeps = h.state }
 
 are_of : (sent : List PacketParts) → OneBodyOfEachTag sent → (p : PacketParts) → Contains sent p → is_cut p.body ≡ true → (fs : List Filled)
     → AreCut sent (tag_of p.body) fs → AreOf (spelled_body p.body) fs

@@ -12,7 +12,8 @@ use Rattle.messages.specs.Pieces.{is_cut, pieces_of, frames_of}
 use Rattle.messages.specs.Assemblies.{Waits, Gives, look_at_piece, look_at_frame}
 use Rattle.messages.specs.PieceLaws.{OneBodyOfEachTag, ArePackets, WasSent, IsPieceOf, left_by, rows_of_frames, AreFramesOf, GivesOneOf, OnlySentIsGiven}
 use Rattle.verify_state.specs.Laws.{ReadsBack}
-use Rattle.messages.proofs.Assembled.{of_map, only_in, only_sent_comes_together}
+use Rattle.fc_base.proofs.ListLemmas.{of_map, only_in}
+use Rattle.messages.proofs.Assembled.{only_sent_comes_together}
 
 -- A frame of a packet is the packet, or a piece of it.
 record IsPiece (p : PacketParts) (f : Frame) : Type 0 where

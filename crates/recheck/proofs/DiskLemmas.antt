@@ -1,9 +1,10 @@
 -- A disk, block by block.
-use Rattle.std.proofs.Common.{◌≡◌, ℕ, zero, suc, ◌+◌, ◌-◌, ◌<◌, ◌≤◌, Bool, true, false, List, [], ◌∷◌, ◌++◌}
-use Rattle.std.proofs.Common.{length, filter, refl, sym, ap, subst, ◌∙◌, inl, inr, arith, add-zero, zero-add}
+use Rattle.std.proofs.Common.{◌≡◌, ℕ, ◌+◌, ◌-◌, ◌<◌, ◌≤◌, Bool, true, false, List, [], ◌∷◌, ◌++◌}
+use Rattle.std.proofs.Common.{length, filter, refl, sym, ap, subst, ◌∙◌, inl, inr, arith}
 use Rattle.std.specs.Prelude.{IsSome, nat_lt}
 use Rattle.std.specs.List.{range_with_len}
 use Rattle.std.proofs.lemmas.Bool.{ltb-true, and_parts, cases_lt}
+use Rattle.fc_base.proofs.ListLemmas.{range_append, range_more}
 use Rattle.fc_base.specs.declared.report.ReportParts.{ReportParts}
 use Rattle.disk_model.specs.File.{File}
 use Rattle.recheck.specs.Expected.{Expected}
@@ -25,16 +26,6 @@ skipped check block file open_check out next = record {
   power = λ lt. absurd (omega arith);
   file = refl;
 }
-
-pub range_append : (a m n : ℕ) → range_with_len a (m + n) ≡ range_with_len a m ++ range_with_len (a + m) n
-range_append a zero n = rw (zero-add n, add-zero a) refl
-range_append a (suc m) n =
-    let at : suc m + n ≡ suc (m + n) = omega arith in
-    let from : (a + 1) + m ≡ a + suc m = omega arith in
-    rw at (ap (λ xs. a ∷ xs) (range_append (a + 1) m n ∙ ap (λ k. range_with_len (a + 1) m ++ range_with_len k n) from))
-
-range_more : (n : ℕ) → range_with_len 0 (n + 1) ≡ range_with_len 0 n ++ n ∷ []
-range_more n = range_append 0 n 1 ∙ ap (λ k. range_with_len 0 n ++ k ∷ []) (zero-add n)
 
 -- One block more is seen.
 pub seen_on : (e : Expected) (check new_check : Check) (block : ℕ) (start old new : File) → IsSeen check new_check block old new → old ≡ start

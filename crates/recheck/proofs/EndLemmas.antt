@@ -1,15 +1,15 @@
 -- A check that ends at a fault tells all.
-use Rattle.std.proofs.Common.{◌≡◌, ℕ, zero, suc, ◌+◌, ◌-◌, ◌<◌, ◌≤◌, Bool, true, false, ◌&&◌, List}
-use Rattle.std.proofs.Common.{[], ◌∷◌, ◌++◌, length, filter, refl, sym, ap, ◌∙◌, inl, inr, arith}
+use Rattle.std.proofs.Common.{◌≡◌, ℕ, suc, ◌+◌, ◌-◌, ◌≤◌, Bool, true, false, ◌&&◌, List}
+use Rattle.std.proofs.Common.{[], ◌∷◌, ◌++◌, length, filter, refl, ap, ◌∙◌, inl, inr, arith}
 use Rattle.std.specs.Prelude.{nat_lt, if◌then◌else◌}
 use Rattle.std.specs.List.{range_with_len}
-use Rattle.std.proofs.lemmas.Bool.{and_parts, cases_Bool, cases_lt, ltb-true}
+use Rattle.std.proofs.lemmas.Bool.{and_parts, cases_lt, ltb-true}
 use Rattle.fc_base.specs.declared.report.ReportEnd.{ReportEnd}
 use Rattle.fc_base.specs.declared.report.ReportEnd.TheVariants.{AtFault, Whole}
 use Rattle.recheck.specs.Expected.{Expected}
 use Rattle.recheck.specs.Faults.{is_fault}
-use Rattle.recheck.specs.Report.{end_of, looked_at, report, report_of, tally, up_to_first}
-use Rattle.recheck.proofs.DiskLemmas.{range_append}
+use Rattle.recheck.specs.Report.{looked_at, report, report_of, tally, up_to_first}
+use Rattle.fc_base.proofs.ListLemmas.{range_append}
 use Rattle.recheck.proofs.ReportLemmas.{through_some}
 
 -- Where none passes, nothing is cut.

@@ -1,10 +1,11 @@
 -- The check of a region, block by block as its bytes come.
-use Rattle.std.proofs.Common.{◌≡◌, ◌<◌, ◌≤◌, ◌*◌, ◌+◌, ℕ, zero, suc, Bool, true, false, List, [], ◌∷◌, ◌++◌, length, take, drop, Option, Some, None}
-use Rattle.std.proofs.Common.{IfSome, append_assoc, append-nil, length-append, refl, sym, ap, ◌∙◌, subst, inl, inr, arith, add-zero, zero-add}
+use Rattle.std.proofs.Common.{◌≡◌, ◌<◌, ◌≤◌, ◌*◌, ◌+◌, ℕ, Bool, true, false, List, [], ◌∷◌, ◌++◌, length, take, drop, Option, Some, None}
+use Rattle.std.proofs.Common.{IfSome, append_assoc, append-nil, length-append, refl, sym, ap, ◌∙◌, subst, inl, inr, arith}
 use Rattle.std.specs.List.{range_with_len}
 use Rattle.std.specs.Io.KnownBytes.{Consumes, IsAtEnd}
 use Rattle.std.proofs.KnownBytes.{Consumes-trans}
 use Rattle.std.proofs.lemmas.List.{take_at, drop_at}
+use Rattle.fc_base.proofs.ListLemmas.{range_more}
 use Rattle.fc_base.specs.declared.report.ReportParts.{ReportParts}
 use Rattle.fc_base.specs.declared.report.ReportEnd.TheVariants.{AtFault, ReadFault, Whole}
 use Rattle.recheck.specs.Expected.{Expected}
@@ -34,16 +35,6 @@ block_behind before block rest whole count size is len own =
     ap (λ l. take size (drop (count * size) l)) is
     ∙ ap (take size) (drop_at before (block ++ rest) (count * size) len)
     ∙ take_at block rest size own
-
-range_more : (n : ℕ) → range_with_len 0 (n + 1) ≡ range_with_len 0 n ++ n ∷ []
-range_more n = range_append 0 n 1 ∙ ap (λ k. range_with_len 0 n ++ k ∷ []) (zero-add n)
-  where
-    range_append : (a m k : ℕ) → range_with_len a (m + k) ≡ range_with_len a m ++ range_with_len (a + m) k
-    range_append a zero k = rw (zero-add k, add-zero a) refl
-    range_append a (suc m) k =
-        let at : suc m + k ≡ suc (m + k) = omega arith in
-        let from : (a + 1) + m ≡ a + suc m = omega arith in
-        rw at (ap (λ xs. a ∷ xs) (range_append (a + 1) m k ∙ ap (λ i. range_with_len (a + 1) m ++ range_with_len i k) from))
 
 -- One block more is read and seen.
 pub read_more : (e : Expected) (check new : Check) (count : ℕ) (first old now : Option (List ℕ)) (block : List ℕ)
