@@ -3,6 +3,7 @@ use Rattle.std.proofs.Common.{◌≡◌, ℕ, ◌≤◌, Bool, true, false, ◌&
 use Rattle.std.proofs.lemmas.Bool.Decides.{nat_tests}
 use Rattle.std.specs.Prelude.{IsTrue}
 use Rattle.std.specs.Int.{w8, w32, w64}
+use Rattle.std.proofs.lemmas.Bool.{and_parts, leb-true}
 use Rattle.std.proofs.lemmas.List.{length-append}
 use Rattle.fc_base.specs.declared.limits.TheConstants.{MAX_LISTED, MAX_TEXT}
 use Rattle.fc_base.specs.declared.report.ReportParts.{ReportParts}
@@ -19,7 +20,6 @@ use Rattle.messages.specs.Bodies.{kind_of, layout, numbers_of, tail_of, spelled_
 use Rattle.messages.specs.Choices.{asked_numbered, reason_numbered}
 use Rattle.messages.specs.declared.refusal.Asked.{Asked}
 use Rattle.messages.specs.declared.refusal.Reason.{Reason}
-use Rattle.messages.proofs.TestLemmas.{both, le_of}
 use Rattle.verify_state.specs.Laws.{ReadsBack}
 use Rattle.messages.proofs.StateLemmas.{length-spelled_state}
 use Rattle.messages.proofs.LayoutLemmas.{length-spelled, length-spelled_blocks, AreWide, wide8, wide32, wide64}
@@ -104,7 +104,7 @@ report_length r h = grind (arith, nat_tests)
 
 -- No body has more bytes than its kind allows.
 pub length_of-limit : ReadsBack → (b : Body) → is_body b ≡ true → KeepsState b → length_of b ≤ length_limit (kind_of b)
-length_of-limit law (Jobs run text) h keeps = omega (arith, le_of (length text) MAX_TEXT (both (is_run run) (is_text text) h).1)
+length_of-limit law (Jobs run text) h keeps = omega (arith, leb-true (length text) MAX_TEXT (and_parts (is_run run) (is_text text) h).1)
 length_of-limit law (JobsOk run jobs) h keeps = omega arith
 length_of-limit law (Start run) h keeps = omega arith
 length_of-limit law (Started run) h keeps = omega arith
@@ -114,12 +114,13 @@ length_of-limit law (NoState run job jobs) h keeps = omega arith
 length_of-limit law (StateAck run job) h keeps = omega arith
 length_of-limit law (Stop run) h keeps = omega arith
 length_of-limit law (Stopped run) h keeps = omega arith
-length_of-limit law (Verify run attempt text) h keeps = omega (arith, le_of (length text) MAX_TEXT (both (is_run run && is_attempt attempt) (is_text text) h).1)
+length_of-limit law (Verify run attempt text) h keeps =
+    omega (arith, leb-true (length text) MAX_TEXT (and_parts (is_run run && is_attempt attempt) (is_text text) h).1)
 length_of-limit law (WantState run attempt job) h keeps = omega arith
 length_of-limit law (Saved attempt state) h keeps = omega (arith, length-spelled_state law state keeps)
 length_of-limit law (NoSaved run attempt job) h keeps = omega arith
 length_of-limit law (Report run attempt job jobs r) h keeps =
-    omega (arith, length-spelled_blocks r.first, report_length r (both (is_run run && is_attempt attempt && is_job_of job jobs) (is_report r) h).1)
+    omega (arith, length-spelled_blocks r.first, report_length r (and_parts (is_run run && is_attempt attempt && is_job_of job jobs) (is_report r) h).1)
 length_of-limit law (Refused r) h keeps = omega arith
 length_of-limit law (Copy state) h keeps = omega (arith, length-spelled_state law state keeps)
 length_of-limit law (CopyOk run server job) h keeps = omega arith
@@ -140,7 +141,7 @@ whole_some bytes (Some x) b e = pick (is_whole bytes x) refl e
 
 pub body_at-in_range : (k : PacketKind) (bytes : List ℕ) (b : Body) → body_at k bytes ≡ Some b → is_body b ≡ true
 body_at-in_range k bytes b e =
-    (both (takes_all b (length bytes)) (is_body b) (whole_some bytes (body_of k (numbers (layout k) bytes) (drop (size (layout k)) bytes)) b e).1).1
+    (and_parts (takes_all b (length bytes)) (is_body b) (whole_some bytes (body_of k (numbers (layout k) bytes) (drop (size (layout k)) bytes)) b e).1).1
 
 -- The refusal that the numbers say, once its request and its reason are known.
 abbrev pub refusal_in : List ℕ → Asked → Reason → Body

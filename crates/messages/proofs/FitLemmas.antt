@@ -3,6 +3,7 @@ use Rattle.std.proofs.Common.{◌≡◌, ℕ, ◌+◌, ◌<◌, true, ◌&&◌, 
 use Rattle.std.specs.Prelude.{◌==◌, nat_le, nat_lt}
 use Rattle.std.specs.List.{list_all}
 use Rattle.std.specs.Int.{w32}
+use Rattle.std.proofs.lemmas.Bool.{and_parts, ltb-true}
 use Rattle.std.proofs.lemmas.Bool.Decides.{nat_tests}
 use Rattle.std.proofs.lemmas.List.{drop_at}
 use Rattle.fc_base.specs.declared.limits.TheConstants.{MAX_BLOCKS}
@@ -26,14 +27,13 @@ use Rattle.verify_state.specs.Laws.{ReadsBack}
 use Rattle.messages.proofs.StateLemmas.{state_again}
 use Rattle.messages.proofs.LayoutLemmas.{length-bytes_of, wide32, Fit, numbers-spelled, drop-spelled}
 use Rattle.messages.proofs.ChoiceLemmas.{act_again, act_fits, asked_again, asked_fits, reason_again, reason_fits, end_again, end_fits}
-use Rattle.messages.proofs.TestLemmas.{both, lt_of}
 use Rattle.messages.proofs.BodyLemmas.{are_wide, length-numbers_of, length-spelled_body}
 
 run_fits : (n : ℕ) → is_run n ≡ true → n < 18446744073709551616
-run_fits n h = lt_of n 18446744073709551616 (both (nat_le 1 n) (is_word n) h).1
+run_fits n h = ltb-true n 18446744073709551616 (and_parts (nat_le 1 n) (is_word n) h).1
 
 attempt_fits : (n : ℕ) → is_attempt n ≡ true → n < 18446744073709551616
-attempt_fits n h = lt_of n 18446744073709551616 (both (nat_le 1 n) (is_word n) h).1
+attempt_fits n h = ltb-true n 18446744073709551616 (and_parts (nat_le 1 n) (is_word n) h).1
 
 jobs_fit : (n : ℕ) → is_jobs n ≡ true → n < 4294967296
 jobs_fit n h = grind (arith, nat_tests)
@@ -49,14 +49,14 @@ generation_fits n h = grind (arith, nat_tests)
 
 job_of_fits : (job jobs : ℕ) → is_job_of job jobs ≡ true → (job < 4294967296) × (jobs < 4294967296)
 job_of_fits job jobs h =
-    let parts = both (is_jobs jobs) (nat_lt job jobs) h in
+    let parts = and_parts (is_jobs jobs) (nat_lt job jobs) h in
     let many = jobs_fit jobs parts.0 in
-    let below = lt_of job jobs parts.1 in
+    let below = ltb-true job jobs parts.1 in
     (omega arith, many)
 
 zeros_fit : (job jobs : ℕ) → ((job == 0) && (jobs == 0)) ≡ true → (job < 4294967296) × (jobs < 4294967296)
 zeros_fit job jobs h =
-    let parts = both (job == 0) (jobs == 0) h in
+    let parts = and_parts (job == 0) (jobs == 0) h in
     let one = parts.0 in
     let two = parts.1 in
     (grind (arith, nat_tests), grind (arith, nat_tests))
@@ -88,7 +88,7 @@ at_fits r (ends.ReadFault b) h = grind (arith, nat_tests)
 
 counts_fit : (r : ReportParts) → has_counts r ≡ true → (r.checked < 4294967296) × (r.faults < 4294967296)
 counts_fit r h =
-    let parts = both (nat_le r.faults r.checked) (nat_le r.checked MAX_BLOCKS) h in
+    let parts = and_parts (nat_le r.faults r.checked) (nat_le r.checked MAX_BLOCKS) h in
     let one = parts.0 in
     let two = parts.1 in
     (grind (arith, nat_tests), grind (arith, nat_tests))
@@ -98,42 +98,42 @@ list_fits r h = grind (arith, nat_tests)
 
 -- The numbers of a body fit their widths.
 fit_of : (b : Body) → is_body b ≡ true → Fit (layout (kind_of b)) (numbers_of b)
-fit_of (Jobs run text) h = (run_fits run (both (is_run run) (is_text text) h).0, tt)
+fit_of (Jobs run text) h = (run_fits run (and_parts (is_run run) (is_text text) h).0, tt)
 fit_of (JobsOk run jobs) h =
-    let parts = both (is_run run) (is_jobs jobs) h in
+    let parts = and_parts (is_run run) (is_jobs jobs) h in
     (run_fits run parts.0, (jobs_fit jobs parts.1, tt))
 fit_of (Start run) h = (run_fits run h, tt)
 fit_of (Started run) h = (run_fits run h, tt)
 fit_of (Trigger run act) h = (run_fits run h, (act_fits act, tt))
-fit_of (State jobs state) h = (jobs_fit jobs (both (is_jobs jobs) (nat_lt state.key.job jobs) h).0, tt)
+fit_of (State jobs state) h = (jobs_fit jobs (and_parts (is_jobs jobs) (nat_lt state.key.job jobs) h).0, tt)
 fit_of (NoState run job jobs) h =
-    let parts = both (is_run run) (is_job_of job jobs) h in
+    let parts = and_parts (is_run run) (is_job_of job jobs) h in
     let numbers = job_of_fits job jobs parts.1 in
     (run_fits run parts.0, (numbers.0, (numbers.1, tt)))
 fit_of (StateAck run job) h =
-    let parts = both (is_run run) (is_job job) h in
+    let parts = and_parts (is_run run) (is_job job) h in
     (run_fits run parts.0, (job_fits job parts.1, tt))
 fit_of (Stop run) h = (run_fits run h, tt)
 fit_of (Stopped run) h = (run_fits run h, tt)
 fit_of (Verify run attempt text) h =
-    let parts = both (is_run run) (is_attempt attempt) (both (is_run run && is_attempt attempt) (is_text text) h).0 in
+    let parts = and_parts (is_run run) (is_attempt attempt) (and_parts (is_run run && is_attempt attempt) (is_text text) h).0 in
     (run_fits run parts.0, (attempt_fits attempt parts.1, tt))
 fit_of (WantState run attempt job) h =
-    let last = both (is_run run && is_attempt attempt) (is_job job) h in
-    let parts = both (is_run run) (is_attempt attempt) last.0 in
+    let last = and_parts (is_run run && is_attempt attempt) (is_job job) h in
+    let parts = and_parts (is_run run) (is_attempt attempt) last.0 in
     (run_fits run parts.0, (attempt_fits attempt parts.1, (job_fits job last.1, tt)))
 fit_of (Saved attempt state) h = (attempt_fits attempt h, tt)
 fit_of (NoSaved run attempt job) h =
-    let last = both (is_run run && is_attempt attempt) (is_job job) h in
-    let parts = both (is_run run) (is_attempt attempt) last.0 in
+    let last = and_parts (is_run run && is_attempt attempt) (is_job job) h in
+    let parts = and_parts (is_run run) (is_attempt attempt) last.0 in
     (run_fits run parts.0, (attempt_fits attempt parts.1, (job_fits job last.1, tt)))
 fit_of (Report run attempt job jobs r) h =
-    let last = both (is_run run && is_attempt attempt && is_job_of job jobs) (is_report r) h in
-    let names = both (is_run run && is_attempt attempt) (is_job_of job jobs) last.0 in
-    let parts = both (is_run run) (is_attempt attempt) names.0 in
+    let last = and_parts (is_run run && is_attempt attempt && is_job_of job jobs) (is_report r) h in
+    let names = and_parts (is_run run && is_attempt attempt) (is_job_of job jobs) last.0 in
+    let parts = and_parts (is_run run) (is_attempt attempt) names.0 in
     let numbers = job_of_fits job jobs names.1 in
-    let found = both (has_counts r && has_list r) (has_end r) last.1 in
-    let lists = both (has_counts r) (has_list r) found.0 in
+    let found = and_parts (has_counts r && has_list r) (has_end r) last.1 in
+    let lists = and_parts (has_counts r) (has_list r) found.0 in
     let counts = counts_fit r lists.0 in (
       run_fits run parts.0,
       (
@@ -142,23 +142,23 @@ fit_of (Report run attempt job jobs r) h =
       ),
     )
 fit_of (Refused r) h =
-    let last = both (is_run r.run && is_word r.value && is_job_refused r.reason r.job r.jobs) (is_attempt_refused r.asked r.attempt) h in
-    let named = both (is_run r.run && is_word r.value) (is_job_refused r.reason r.job r.jobs) last.0 in
-    let parts = both (is_run r.run) (is_word r.value) named.0 in
+    let last = and_parts (is_run r.run && is_word r.value && is_job_refused r.reason r.job r.jobs) (is_attempt_refused r.asked r.attempt) h in
+    let named = and_parts (is_run r.run && is_word r.value) (is_job_refused r.reason r.job r.jobs) last.0 in
+    let parts = and_parts (is_run r.run) (is_word r.value) named.0 in
     let numbers = job_refused_fits r.reason r.job r.jobs named.1 in (
       asked_fits r.asked,
       (
         reason_fits r.reason,
         (
           numbers.0,
-          (numbers.1, (run_fits r.run parts.0, (attempt_refused_fits r.asked r.attempt last.1, (lt_of r.value 18446744073709551616 parts.1, tt)))),
+          (numbers.1, (run_fits r.run parts.0, (attempt_refused_fits r.asked r.attempt last.1, (ltb-true r.value 18446744073709551616 parts.1, tt)))),
         ),
       ),
     )
 fit_of (Copy state) h = tt
 fit_of (CopyOk run server job) h =
-    let last = both (is_run run && is_server_no server) (is_job job) h in
-    let parts = both (is_run run) (is_server_no server) last.0 in
+    let last = and_parts (is_run run && is_server_no server) (is_job job) h in
+    let parts = and_parts (is_run run) (is_server_no server) last.0 in
     (run_fits run parts.0, (server_fits server parts.1, (job_fits job last.1, tt)))
 fit_of (Fetch generation) h = (generation_fits generation h, tt)
 fit_of (Granted generation) h = (generation_fits generation h, tt)
@@ -166,8 +166,8 @@ fit_of (Granted generation) h = (generation_fits generation h, tt)
 blocks_again : (bs : List ℕ) → list_all is_block bs ≡ true → blocks_in (length bs) (spelled_blocks bs) ≡ bs
 blocks_again [] h = refl
 blocks_again (b ∷ bs) h =
-    let parts = both (is_block b) (list_all is_block bs) h in
-    let below = lt_of b MAX_BLOCKS parts.0 in
+    let parts = and_parts (is_block b) (list_all is_block bs) h in
+    let below = ltb-true b MAX_BLOCKS parts.0 in
     let one = wide32.again b (spelled_blocks bs) (omega arith) in
     let behind = drop_at (bytes_of w32 b) (spelled_blocks bs) 4 (length-bytes_of w32 b) in
     rw (one, behind, blocks_again bs parts.1) refl
@@ -189,9 +189,9 @@ body_of-again law (WantState run attempt job) h keeps = refl
 body_of-again law (Saved attempt state) h keeps = rw (state_again law state keeps) refl
 body_of-again law (NoSaved run attempt job) h keeps = refl
 body_of-again law (Report run attempt job jobs r) h keeps =
-    let last = both (is_run run && is_attempt attempt && is_job_of job jobs) (is_report r) h in
-    let found = both (has_counts r && has_list r) (has_end r) last.1 in
-    let lists = both (has_counts r) (has_list r) found.0 in
+    let last = and_parts (is_run run && is_attempt attempt && is_job_of job jobs) (is_report r) h in
+    let found = and_parts (has_counts r && has_list r) (has_end r) last.1 in
+    let lists = and_parts (has_counts r) (has_list r) found.0 in
     rw (blocks_again r.first (blocks_of_list r lists.1), end_again r.end) refl
   where
     blocks_of_list : (x : ReportParts) → has_list x ≡ true → list_all is_block x.first ≡ true

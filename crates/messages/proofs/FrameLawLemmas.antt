@@ -3,7 +3,7 @@ use Rattle.std.proofs.Common.{◌≡◌, ℕ, ◌+◌, ◌-◌, ◌%◌, ◌<◌
 use Rattle.std.proofs.Common.{List, [], ◌++◌, length, drop, refl, sym, ap, ◌∙◌, append_assoc, arith}
 use Rattle.std.specs.Prelude.{if◌then◌else◌, ◌==◌, nat_lt, nat_le, is_none, is_some, slice_index, min}
 use Rattle.std.specs.Option.{option_map, option_and_then}
-use Rattle.std.proofs.lemmas.Bool.{eqb-true}
+use Rattle.std.proofs.lemmas.Bool.{eqb-true, and_parts, leb-true, ltb-true}
 use Rattle.std.proofs.lemmas.Bool.Decides.{nat_tests}
 use Rattle.std.proofs.lemmas.List.{length-append, append-nil, nil_from_length}
 use Rattle.fc_base.specs.declared.limits.TheConstants.{MAX_JOBS, MAX_SERVERS}
@@ -33,7 +33,6 @@ use Rattle.messages.specs.FrameLaws.{IsFrame, FramesAreRead, NoFrameBeginsAnothe
 use Rattle.verify_state.specs.Laws.{ReadsBack}
 use Rattle.messages.proofs.LayoutLemmas.{AreWide, Fit, wide8, wide32, wide64, length-spelled, numbers-spelled, drop-spelled}
 use Rattle.messages.proofs.ChoiceLemmas.{kind_again, kind_fits, node_again, node_fits}
-use Rattle.messages.proofs.TestLemmas.{both, le_of, lt_of}
 use Rattle.messages.proofs.HeaderLemmas.{header_wide, passes, none_left, clean, head_numbers, Headed, headed_passes}
 use Rattle.messages.proofs.LawLemmas.{parts_of, numbers_of_header, spelling_headed, framed, none_begins_another}
 use Rattle.messages.proofs.BodyLemmas.{length-spelled_body}
@@ -98,7 +97,7 @@ whole_read law p h short =
 -- The numbers of a piece fit their widths.
 
 word_of : (n : ℕ) → is_attempt n ≡ true → n < 18446744073709551616
-word_of n h = lt_of n 18446744073709551616 (both (nat_le 1 n) (nat_lt n 18446744073709551616) h).1
+word_of n h = ltb-true n 18446744073709551616 (and_parts (nat_le 1 n) (nat_lt n 18446744073709551616) h).1
 
 no_number : (n : ℕ) → (n == 0) ≡ true → n < 18446744073709551616
 no_number n h = grind (arith, nat_tests)
@@ -127,14 +126,14 @@ number_fits kinds.Granted n l h = absurd cc
 
 small_owner : (s j : ℕ) → (nat_lt s MAX_SERVERS && is_job j) ≡ true → (s < 4294967296) × (j < 4294967296)
 small_owner s j h =
-    let parts = both (nat_lt s MAX_SERVERS) (is_job j) h in
-    let one = lt_of s MAX_SERVERS parts.0 in
-    let two = lt_of j MAX_JOBS parts.1 in
+    let parts = and_parts (nat_lt s MAX_SERVERS) (is_job j) h in
+    let one = ltb-true s MAX_SERVERS parts.0 in
+    let two = ltb-true j MAX_JOBS parts.1 in
     (omega (arith, one), omega (arith, two))
 
 no_owner : (s j : ℕ) → ((s == 0) && (j == 0)) ≡ true → (s < 4294967296) × (j < 4294967296)
 no_owner s j h =
-    let parts = both (s == 0) (j == 0) h in
+    let parts = and_parts (s == 0) (j == 0) h in
     let one = parts.0 in
     let two = parts.1 in
     (grind (arith, nat_tests), grind (arith, nat_tests))
@@ -170,16 +169,17 @@ pub record Ranged (q : PieceParts) : Type 0 where
 pub ranged : (q : PieceParts) → is_piece q ≡ true → Ranged q
 ranged q h =
     let t = q.tag in
-    let place = both (is_node q.from && is_node q.to && is_tag_in_range t) (is_place t.length q.at (length q.bytes)) h in
-    let tag = both (is_node q.from && is_node q.to) (is_tag_in_range t) place.0 in
-    let nodes = both (is_node q.from) (is_node q.to) tag.0 in
-    let len = both (is_long_kind t.whole && is_run t.run && is_number t.whole t.number && is_owner t.whole t.server t.job) (is_cut_length t.length) tag.1 in
-    let owner = both (is_long_kind t.whole && is_run t.run && is_number t.whole t.number) (is_owner t.whole t.server t.job) len.0 in
-    let number = both (is_long_kind t.whole && is_run t.run) (is_number t.whole t.number) owner.0 in
-    let run = both (is_long_kind t.whole) (is_run t.run) number.0 in
-    let most = le_of t.length MAX_BODY (both (nat_le (CHUNK_LIMIT + 1) t.length) (nat_le t.length MAX_BODY) len.1).1 in
-    let count = both ((q.at % CHUNK_LIMIT == 0) && nat_lt q.at t.length) (length q.bytes == min CHUNK_LIMIT (t.length - q.at)) place.1 in
-    let before = lt_of q.at t.length (both (q.at % CHUNK_LIMIT == 0) (nat_lt q.at t.length) count.0).1 in
+    let place = and_parts (is_node q.from && is_node q.to && is_tag_in_range t) (is_place t.length q.at (length q.bytes)) h in
+    let tag = and_parts (is_node q.from && is_node q.to) (is_tag_in_range t) place.0 in
+    let nodes = and_parts (is_node q.from) (is_node q.to) tag.0 in
+    let len = and_parts (is_long_kind t.whole && is_run t.run && is_number t.whole t.number && is_owner t.whole t.server t.job)
+    (is_cut_length t.length) tag.1 in
+    let owner = and_parts (is_long_kind t.whole && is_run t.run && is_number t.whole t.number) (is_owner t.whole t.server t.job) len.0 in
+    let number = and_parts (is_long_kind t.whole && is_run t.run) (is_number t.whole t.number) owner.0 in
+    let run = and_parts (is_long_kind t.whole) (is_run t.run) number.0 in
+    let most = leb-true t.length MAX_BODY (and_parts (nat_le (CHUNK_LIMIT + 1) t.length) (nat_le t.length MAX_BODY) len.1).1 in
+    let count = and_parts ((q.at % CHUNK_LIMIT == 0) && nat_lt q.at t.length) (length q.bytes == min CHUNK_LIMIT (t.length - q.at)) place.1 in
+    let before = ltb-true q.at t.length (and_parts (q.at % CHUNK_LIMIT == 0) (nat_lt q.at t.length) count.0).1 in
     let part = eqb-true (length q.bytes) (min CHUNK_LIMIT (t.length - q.at)) count.1 in
     let owners = owner_fits t.whole t.server t.job run.0 owner.1 in
     record {

@@ -2,6 +2,7 @@
 use Rattle.std.proofs.Common.{◌≡◌, ℕ, ◌+◌, ◌≤◌, ◌&&◌, List, [], ◌∷◌, ◌++◌, length, take, drop, refl, ap, arith}
 use borrow.Rule.Slice.PartMut.{put_mid}
 use Rattle.std.specs.Int.{w32, to_be_bytes}
+use Rattle.std.proofs.lemmas.Bool.{and_parts}
 use Rattle.std.proofs.lemmas.List.{drop-drop, length-append}
 use Rattle.messages.specs.declared.packet.PacketParts.{PacketParts}
 use Rattle.messages.specs.declared.piece.PieceParts.{PieceParts}
@@ -15,7 +16,6 @@ use Rattle.messages.specs.Packets.{header, header_of}
 use Rattle.messages.specs.FrameBytes.{piece_layout, piece_numbers, piece_header, piece_spelling}
 use Rattle.messages.specs.Bodies.{kind_of, length_of}
 use Rattle.messages.specs.Laws.{IsPacket}
-use Rattle.messages.proofs.TestLemmas.{both}
 use Rattle.messages.proofs.LayoutLemmas.{length-spelled}
 use Rattle.verify_state.specs.Laws.{ReadsBack}
 use Rattle.messages.proofs.BodyLemmas.{length_of-limit, within_limit}
@@ -32,7 +32,7 @@ header_of-len from to body len rest = refl
 
 pub length_fits : ReadsBack → (p : PacketParts) → IsPacket p → length_of p.body ≤ MAX_BODY
 length_fits law p h =
-    omega (arith, length_of-limit law p.body (both (is_node p.from && is_node p.to) (is_body p.body) h.in_range).1 h.state, within_limit (kind_of p.body))
+    omega (arith, length_of-limit law p.body (and_parts (is_node p.from && is_node p.to) (is_body p.body) h.in_range).1 h.state, within_limit (kind_of p.body))
 
 pub length-header_of : (from to : Node) (body : Body) (len : ℕ) → length (header_of from to body len) ≡ 16
 unfolding bytes_of

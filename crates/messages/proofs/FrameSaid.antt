@@ -3,7 +3,7 @@ use Rattle.std.proofs.Common.{◌≡◌, ℕ, ◌+◌, ◌≤◌, Bool, true, fa
 use Rattle.std.proofs.Common.{◌∷◌, ◌++◌, length, drop, refl, sym, subst, ap, ◌∙◌, inl, inr, arith}
 use Rattle.std.specs.Prelude.{if◌then◌else◌, ◌==◌, nat_le, is_none, is_some, not, slice_index}
 use Rattle.std.specs.Option.{option_map}
-use Rattle.std.proofs.lemmas.Bool.{eqb-true, cases_Bool}
+use Rattle.std.proofs.lemmas.Bool.{eqb-true, cases_Bool, leb-true}
 use Rattle.std.proofs.lemmas.Bool.Decides.{nat_tests}
 use Rattle.std.proofs.lemmas.List.{length-drop}
 use Rattle.fc_base.specs.declared.fault.Fault.TheVariants.{FrameBadField}
@@ -30,11 +30,11 @@ use Rattle.messages.specs.FrameBytes.{piece_layout, piece_numbers, sort_numbered
 use Rattle.messages.specs.FrameBytes.{frame_limit, in_ranges, piece_with, piece_said, frame_said, frame_at}
 use Rattle.messages.specs.FrameLaws.{SaysFrame, OnlyFramesAreRead}
 use Rattle.verify_state.specs.Laws.{ReadsBack, IsSpelled, SaysAState}
-use Rattle.messages.proofs.LayoutLemmas.{IsBytes-drop, spelled-numbers}
+use Rattle.verify_state.proofs.FieldLemmas.{bytes_drop}
+use Rattle.messages.proofs.LayoutLemmas.{spelled-numbers}
 use Rattle.messages.proofs.ChoiceLemmas.{kind_is}
 use Rattle.messages.proofs.BodyLemmas.{length-spelled_body, length_of-limit}
 use Rattle.messages.proofs.ToldLemmas.{some_of, some_then, is_old, read_body}
-use Rattle.messages.proofs.TestLemmas.{le_of}
 use Rattle.messages.proofs.HeaderLemmas.{passes, passed, none_left, left_none, Passes, clean, tested, head_numbers, passed_headed, headed_spelled}
 use Rattle.messages.proofs.FrameLawLemmas.{layout_wide}
 
@@ -150,7 +150,7 @@ whole_says law spell says only bytes fits none k from to f sort_is from_is to_is
     let p : PacketParts = record { from = from; to = to; body = body.0 } in
     let is : packet_at bytes ≡ Some p = packet_is bytes k from to body.0 kind from_is to_is body.1 in
     let found = only bytes fits (whole_faults bytes k p none kind is) in
-    let short = short_body law spell says k (drop 16 bytes) body.0 (IsBytes-drop 16 bytes fits) body.1 (le_of (length (drop 16 bytes)) CHUNK_LIMIT part.0) in
+    let short = short_body law spell says k (drop 16 bytes) body.0 (bytes_drop 16 bytes fits) body.1 (leb-true (length (drop 16 bytes)) CHUNK_LIMIT part.0) in
     subst (SaysFrame bytes) body.2 (subst (Says bytes) (same_packet found.0 p (sym found.1 ∙ is)) found.2, short)
 
 -- A piece is spelled by the bytes.
@@ -179,7 +179,7 @@ is_said from to body q e =
       in_range = is.0;
       from_is = refl;
       to_is = refl;
-      long = le_of 33 (length body) part.0;
+      long = leb-true 33 (length body) part.0;
       numbers = ap (λ (n : ℕ). n ∷ slice_index ns 1 ∷ slice_index ns 2 ∷ slice_index ns 3 ∷ slice_index ns 4 ∷ slice_index ns 5 ∷ slice_index ns 6 ∷ []) kind;
       bytes = refl;
     })
@@ -196,7 +196,7 @@ piece_says bytes fits none from to q kind from_is to_is said =
     let len : 33 + length q.bytes ≡ header_at 6 bytes = omega (arith, ap length s.bytes, length-drop 33 body, length-drop 16 bytes) in
     let behind : spelled piece_layout (piece_numbers q) ++ q.bytes ≡ body =
     ap (λ (ns : List ℕ). spelled piece_layout ns ++ q.bytes) s.numbers ∙ ap (λ (bs : List ℕ). spelled piece_layout (numbers piece_layout body) ++ bs) s.bytes
-    ∙ spelled-numbers piece_layout body layout_wide (IsBytes-drop 16 bytes fits) long in (
+    ∙ spelled-numbers piece_layout body layout_wide (bytes_drop 16 bytes fits) long in (
       s.in_range,
       ap (λ (bs : List ℕ). spelled header (head_numbers 17 q.from q.to (33 + length q.bytes)) ++ bs) behind
           ∙ ap (λ (n : ℕ). spelled header (head_numbers 17 q.from q.to n) ++ body) len

@@ -1,7 +1,7 @@
 -- Headers: which tests they pass where they have no fault, and how they are spelled.
 use Rattle.std.proofs.Common.{◌≡◌, ℕ, ◌+◌, ◌≤◌, Bool, true, false, ◌&&◌, Some, List, [], ◌∷◌, ◌++◌, length, drop, refl, sym, ap, ◌∙◌, arith}
 use Rattle.std.specs.Prelude.{◌==◌, not, nat_lt, is_none, slice_index}
-use Rattle.std.proofs.lemmas.Bool.{eqb-true}
+use Rattle.std.proofs.lemmas.Bool.{eqb-true, and_parts}
 use Rattle.std.proofs.lemmas.Bool.Decides.{nat_tests}
 use Rattle.fc_base.specs.declared.fault.Fault.{Fault}
 use Rattle.fc_base.specs.declared.fault.Fault.TheVariants.{FrameShort, FrameBadMagic, BadKind, FrameBadField, FrameTooLong, FrameTrailing}
@@ -10,9 +10,9 @@ use Rattle.messages.specs.declared.node.Node.{Node}
 use Rattle.messages.specs.Nodes.{node_number, node_numbered, is_node}
 use Rattle.fc_base.specs.Layouts.{spelled, numbers}
 use Rattle.messages.specs.Packets.{header, header_at, has_magic, header_faults}
-use Rattle.messages.proofs.LayoutLemmas.{IsBytes, AreWide, wide8, wide32, spelled-numbers}
+use Rattle.verify_state.proofs.FieldLemmas.{IsBytes}
+use Rattle.messages.proofs.LayoutLemmas.{AreWide, wide8, wide32, spelled-numbers}
 use Rattle.messages.proofs.ChoiceLemmas.{node_again, node_is}
-use Rattle.messages.proofs.TestLemmas.{both}
 
 pub header_wide : AreWide header
 header_wide = (wide8, (wide8, (wide8, (wide8, (wide32, (wide32, (wide32, tt)))))))
@@ -118,8 +118,8 @@ pub passed_headed : (is_known : ℕ → Bool) (limit : ℕ) (bytes : List ℕ) �
     → node_numbered (header_at 4 bytes) ≡ Some from → node_numbered (header_at 5 bytes) ≡ Some to
     → Headed bytes (header_at 3 bytes) from to (header_at 6 bytes)
 passed_headed is_known limit bytes t from to from_is to_is =
-    let magic = both ((header_at 0 bytes == 70) && (header_at 1 bytes == 67)) (header_at 2 bytes == 1) (not_false (has_magic bytes) t.magic) in
-    let letters = both (header_at 0 bytes == 70) (header_at 1 bytes == 67) magic.0 in
+    let magic = and_parts ((header_at 0 bytes == 70) && (header_at 1 bytes == 67)) (header_at 2 bytes == 1) (not_false (has_magic bytes) t.magic) in
+    let letters = and_parts (header_at 0 bytes == 70) (header_at 1 bytes == 67) magic.0 in
     let enough = at_least (length bytes) (16 + header_at 6 bytes) t.less in
     let at_most = at_least (16 + header_at 6 bytes) (length bytes) t.more in
     record {

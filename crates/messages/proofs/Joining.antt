@@ -3,7 +3,7 @@ use Rattle.std.proofs.Common.{◌≡◌, refl, sym, ◌∙◌, ap, inl, inr, ℕ
 use Rattle.std.proofs.Common.{true, false, ◌==◌, Option, Some, None, List, [], ◌∷◌, ◌++◌, length, append_assoc}
 use Rattle.std.specs.Prelude.{if◌then◌else◌, is_some, nat_le, ◌&&◌, Err}
 use Rattle.fc_base.specs.declared.fault.Fault.TheVariants.{NoMemory}
-use Rattle.std.proofs.lemmas.Bool.{eqb-true, cases_Bool}
+use Rattle.std.proofs.lemmas.Bool.{eqb-true, cases_Bool, and_parts, leb-true}
 use Rattle.messages.specs.declared.limits.TheConstants.{CHUNK_LIMIT, MAX_BODY}
 use Rattle.messages.specs.declared.piece.PieceParts.{PieceParts}
 use Rattle.messages.specs.declared.places.Filled.{Filled}
@@ -15,7 +15,6 @@ use Rattle.messages.specs.Ranges.{is_run}
 use Rattle.messages.specs.Bodies.{body_at}
 use Rattle.messages.specs.PieceRanges.{is_long_kind, is_number, is_owner, is_cut_length, is_tag_in_range, is_place, is_piece}
 use Rattle.messages.specs.Tags.{is_tag}
-use Rattle.messages.proofs.TestLemmas.{both, le_of}
 use Rattle.messages.proofs.FramesOfLemmas.{one_place}
 
 -- Once the piece is there too.
@@ -126,16 +125,16 @@ join_one fs len at out x new so_far lt e is = rw is (join_step fs len at so_far.
 
 pub piece_length : (q : PieceParts) → is_piece q ≡ true → q.tag.length ≤ MAX_BODY
 piece_length q h =
-    let place = both (is_node q.from && is_node q.to && is_tag_in_range q.tag) (is_place q.tag.length q.at (length q.bytes)) h in
-    let tag = both (is_node q.from && is_node q.to) (is_tag_in_range q.tag) place.0 in
-    let len = both (is_long_kind q.tag.whole && is_run q.tag.run && is_number q.tag.whole q.tag.number && is_owner q.tag.whole q.tag.server q.tag.job)
+    let place = and_parts (is_node q.from && is_node q.to && is_tag_in_range q.tag) (is_place q.tag.length q.at (length q.bytes)) h in
+    let tag = and_parts (is_node q.from && is_node q.to) (is_tag_in_range q.tag) place.0 in
+    let len = and_parts (is_long_kind q.tag.whole && is_run q.tag.run && is_number q.tag.whole q.tag.number && is_owner q.tag.whole q.tag.server q.tag.job)
     (is_cut_length q.tag.length) tag.1 in
-    le_of q.tag.length MAX_BODY (both (nat_le (CHUNK_LIMIT + 1) q.tag.length) (nat_le q.tag.length MAX_BODY) len.1).1
+    leb-true q.tag.length MAX_BODY (and_parts (nat_le (CHUNK_LIMIT + 1) q.tag.length) (nat_le q.tag.length MAX_BODY) len.1).1
 
 pub piece_ends : (q : PieceParts) → is_piece q ≡ true → (is_node q.from ≡ true) × (is_node q.to ≡ true)
 piece_ends q h =
-    let place = both (is_node q.from && is_node q.to && is_tag_in_range q.tag) (is_place q.tag.length q.at (length q.bytes)) h in
-    both (is_node q.from) (is_node q.to) (both (is_node q.from && is_node q.to) (is_tag_in_range q.tag) place.0).0
+    let place = and_parts (is_node q.from && is_node q.to && is_tag_in_range q.tag) (is_place q.tag.length q.at (length q.bytes)) h in
+    and_parts (is_node q.from) (is_node q.to) (and_parts (is_node q.from && is_node q.to) (is_tag_in_range q.tag) place.0).0
 
 -- What looking answers.
 

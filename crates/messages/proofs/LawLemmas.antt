@@ -2,7 +2,7 @@
 use Rattle.std.proofs.Common.{◌≡◌, ℕ, ◌+◌, ◌≤◌, Bool, true, false, ◌&&◌, ◌||◌, Option, Some, None}
 use Rattle.std.proofs.Common.{List, [], ◌++◌, length, drop, refl, sym, ap, ◌∙◌, append_assoc, arith}
 use Rattle.std.specs.Prelude.{◌==◌, is_none, is_some, slice_index}
-use Rattle.std.proofs.lemmas.Bool.{eq-eqb}
+use Rattle.std.proofs.lemmas.Bool.{or_parts, eq-eqb, and_parts}
 use Rattle.std.proofs.lemmas.List.{append-nil, length-append, length-drop, drop-drop, nil_from_length}
 use Rattle.fc_base.specs.declared.fault.Fault.TheVariants.{FrameBadField}
 use Rattle.fc_base.specs.Faults.{when}
@@ -21,9 +21,9 @@ use Rattle.messages.specs.Packets.{is_packet, header, header_of, spelling, heade
 use Rattle.messages.specs.Laws.{IsPacket, holds_layout_1, SpellingsAreRead, OnlyPacketsAreRead, NoneBeginsAnother, LengthsAreBounded}
 use Rattle.verify_state.specs.Laws.{ReadsBack, IsSpelled, SaysAState}
 use Rattle.verify_state.specs.Reading.{is_layout_1}
-use Rattle.messages.proofs.LayoutLemmas.{IsBytes-drop, Fit, numbers-spelled, drop-spelled}
+use Rattle.verify_state.proofs.FieldLemmas.{bytes_drop}
+use Rattle.messages.proofs.LayoutLemmas.{Fit, numbers-spelled, drop-spelled}
 use Rattle.messages.proofs.ChoiceLemmas.{kind_again, kind_is, kind_fits, node_again, node_fits}
-use Rattle.messages.proofs.TestLemmas.{both}
 use Rattle.messages.proofs.HeaderLemmas.{header_wide, passes, passed, none_left, left_none, clean, tested}
 use Rattle.messages.proofs.HeaderLemmas.{head_numbers, Headed, headed_passes, passed_headed, headed_spelled}
 use Rattle.messages.proofs.BodyLemmas.{length-spelled_body, length_of-limit, within_limit}
@@ -44,8 +44,8 @@ pub record Parts (p : PacketParts) : Type 0 where
 
 pub parts_of : (p : PacketParts) → IsPacket p → Parts p
 parts_of p h =
-    let last = both (is_node p.from && is_node p.to) (is_body p.body) h.in_range in
-    let nodes = both (is_node p.from) (is_node p.to) last.0 in
+    let last = and_parts (is_node p.from && is_node p.to) (is_body p.body) h.in_range in
+    let nodes = and_parts (is_node p.from) (is_node p.to) last.0 in
     record { from = nodes.0; to = nodes.1; body = last.1; keeps = h.state }
 
 most : ReadsBack → (p : PacketParts) → Parts p → length_of p.body ≤ MAX_BODY
@@ -125,10 +125,6 @@ fields_of bytes p e =
     packet f t b = record { from = f; to = t; body = b }
 
 -- A frame whose state, if it has one, isn't of layout 1.
-neither : (a b : Bool) → (a || b) ≡ false → (a ≡ false) × (b ≡ false)
-neither true b e = absurd cc
-neither false b e = (refl, e)
-
 the_other : (a b : Bool) → a ≡ true → (a && b) ≡ false → b ≡ false
 the_other true b t e = e
 the_other false b t e = absurd cc
@@ -146,10 +142,10 @@ not_old bytes k known other = by_kind k (sym (kind_is (header_at 3 bytes) k know
     in_copy = (header_at 3 bytes == 18) && is_layout_1 (drop 16 bytes)
 
     first : (in_state ≡ false) × ((in_saved || in_copy) ≡ false)
-    first = neither in_state (in_saved || in_copy) other
+    first = or_parts in_state (in_saved || in_copy) other
 
     others : (in_saved ≡ false) × (in_copy ≡ false)
-    others = neither in_saved in_copy first.1
+    others = or_parts in_saved in_copy first.1
 
     behind : (number skip : ℕ) → header_at 3 bytes ≡ number → ((header_at 3 bytes == number) && is_layout_1 (drop (16 + skip) bytes)) ≡ false
         → is_layout_1 (drop skip (drop 16 bytes)) ≡ false
@@ -185,7 +181,7 @@ only_packets_are_read law says bytes fits none =
     let p = some.0 in
     let fields = fields_of bytes p some.1 in
     let told = passed_headed is_packet_kind body_limit bytes (tested is_packet_kind body_limit bytes parts.0) p.from p.to fields.from fields.to in
-    let body = read_body law says fields.kind (drop 16 bytes) p.body (IsBytes-drop 16 bytes fits) fields.body in
+    let body = read_body law says fields.kind (drop 16 bytes) p.body (bytes_drop 16 bytes fits) fields.body in
     let kind : header_at 3 bytes ≡ number_of (kind_of p.body) = sym (ap number_of body.kind ∙ kind_is (header_at 3 bytes) fields.kind fields.kind_is) in
     let all = told.long in (
       p,

@@ -1,6 +1,5 @@
 pub mod LayoutLemmas
 pub mod BlockLemmas
-pub mod TestLemmas
 pub mod StateLemmas
 pub mod BodyLemmas
 pub mod FrameLemmas

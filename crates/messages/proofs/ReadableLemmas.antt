@@ -4,7 +4,7 @@ use Rattle.std.proofs.Common.{Bool, true, false, ◌&&◌, ◌==◌, List, [], �
 use Rattle.std.specs.List.{flat_map}
 use Rattle.std.specs.Prelude.{if◌then◌else◌, All, IsTrue, map, min, nat_lt, nat_le}
 use Rattle.std.proofs.lemmas.List.Elements.{All-nil, All-cons, All-append, All-map, All-weaker, Contains-append_left, Contains-append_right}
-use Rattle.std.proofs.lemmas.Bool.{and_from, eq-eqb, le-leb, lt-ltb}
+use Rattle.std.proofs.lemmas.Bool.{and_from, eq-eqb, le-leb, lt-ltb, and_parts, ltb-true}
 use Rattle.std.proofs.lemmas.Bool.Decides.{nat_tests}
 use Rattle.std.proofs.lemmas.List.{length-take, length-drop}
 use Rattle.fc_base.specs.declared.limits.TheConstants.{MAX_TEXT}
@@ -21,7 +21,6 @@ use Rattle.messages.specs.FrameLaws.{IsReadable, FramesAreReadable}
 use Rattle.messages.specs.Pieces.{is_cut, tag_of, places_from, places, bytes_at, piece_at, pieces_of, frames_of}
 use Rattle.messages.specs.PieceLaws.{ArePackets}
 use Rattle.messages.specs.PieceRanges.{is_tag_in_range, is_cut_length, is_place, is_piece}
-use Rattle.messages.proofs.TestLemmas.{both, lt_of}
 use Rattle.messages.proofs.BodyLemmas.{length-spelled_body}
 
 -- ---- the places of a body
@@ -35,7 +34,7 @@ next_place at h = omega (arith, h)
 
 places_by : (at len : ℕ) (more : List ℕ) → at % CHUNK_LIMIT ≡ 0 → All (IsPlaceOf len) more → (b : Bool) → nat_lt at len ≡ b
     → All (IsPlaceOf len) (if b then at ∷ more else [])
-places_by at len more m rest true e = All-cons (IsPlaceOf len) at more (record { multiple = m; below = lt_of at len e }) rest
+places_by at len more m rest true e = All-cons (IsPlaceOf len) at more (record { multiple = m; below = ltb-true at len e }) rest
 places_by at len more m rest false e = All-nil (IsPlaceOf len)
 
 places_are : (n at len : ℕ) → at % CHUNK_LIMIT ≡ 0 → All (IsPlaceOf len) (places_from n at len)
@@ -47,7 +46,7 @@ places_are (suc n) at len m =
 
 cut_length : (text : List ℕ) (len : ℕ) → is_text text ≡ true → len ≤ 16 + length text → nat_lt CHUNK_LIMIT len ≡ true → is_cut_length len ≡ true
 cut_length text len t l h =
-    and_from (nat_le (CHUNK_LIMIT + 1) len) (nat_le len MAX_BODY) (le-leb (CHUNK_LIMIT + 1) len (omega (arith, lt_of CHUNK_LIMIT len h)))
+    and_from (nat_le (CHUNK_LIMIT + 1) len) (nat_le len MAX_BODY) (le-leb (CHUNK_LIMIT + 1) len (omega (arith, ltb-true CHUNK_LIMIT len h)))
     (le-leb len MAX_BODY (omega (arith, few text t, l)))
   where
     few : (text : List ℕ) → is_text text ≡ true → length text ≤ MAX_TEXT
@@ -62,14 +61,14 @@ not_long b limit l m c = absurd (below (length_of b) limit l m c)
 -- Only a body with a job file is long enough.
 cut_tag : LengthsAreBounded → (b : Body) → IsTrue (is_body b) → KeepsState b → is_cut b ≡ true → is_tag_in_range (tag_of b) ≡ true
 cut_tag law (bodies.Jobs run text) h k c =
-    let parts = both (is_run run) (is_text text) h in
+    let parts = and_parts (is_run run) (is_text text) h in
     let len = length_of (bodies.Jobs run text) in
     and_from (((true && is_run run) && (0 == 0)) && ((0 == 0) && (0 == 0))) (is_cut_length len)
     (and_from ((true && is_run run) && (0 == 0)) ((0 == 0) && (0 == 0)) (and_from (true && is_run run) (0 == 0) parts.0 refl) refl)
     (cut_length text len parts.1 (omega arith) c)
 cut_tag law (bodies.Verify run attempt text) h k c =
-    let parts = both (is_run run && is_attempt attempt) (is_text text) h in
-    let front = both (is_run run) (is_attempt attempt) parts.0 in
+    let parts = and_parts (is_run run && is_attempt attempt) (is_text text) h in
+    let front = and_parts (is_run run) (is_attempt attempt) parts.0 in
     let len = length_of (bodies.Verify run attempt text) in
     and_from (((true && is_run run) && is_attempt attempt) && ((0 == 0) && (0 == 0))) (is_cut_length len)
     (and_from ((true && is_run run) && is_attempt attempt) ((0 == 0) && (0 == 0))
@@ -89,7 +88,7 @@ place_fits bytes len at e p =
 piece_fits : (p : PacketParts) → IsPacket p → is_tag_in_range (tag_of p.body) ≡ true → (at : ℕ) → IsPlaceOf (length_of p.body) at
     → is_piece (piece_at p at) ≡ true
 piece_fits p h tag at place =
-    let ends = both (is_node p.from && is_node p.to) (is_body p.body) h.in_range in
+    let ends = and_parts (is_node p.from && is_node p.to) (is_body p.body) h.in_range in
     and_from ((is_node p.from && is_node p.to) && is_tag_in_range (tag_of p.body)) (is_place (length_of p.body) at (length (bytes_at (spelled_body p.body) at)))
     (and_from (is_node p.from && is_node p.to) (is_tag_in_range (tag_of p.body)) ends.0 tag)
     (place_fits (spelled_body p.body) (length_of p.body) at (length-spelled_body p.body) place)
@@ -108,7 +107,7 @@ pieces_readable p h tag =
 readable_by : LengthsAreBounded → (p : PacketParts) → IsPacket p → (b : Bool) → is_cut p.body ≡ b
     → All IsReadable (if b then map Piece (pieces_of p) else Whole p ∷ [])
 readable_by law p h true e =
-    pieces_readable p h (cut_tag law p.body (both (is_node p.from && is_node p.to) (is_body p.body) h.in_range).1 h.state e)
+    pieces_readable p h (cut_tag law p.body (and_parts (is_node p.from && is_node p.to) (is_body p.body) h.in_range).1 h.state e)
 readable_by law p h false e =
     All-cons IsReadable (Whole p) [] (record { in_range = h; is_short = not_cut (length_of p.body) e }) (All-nil IsReadable)
 

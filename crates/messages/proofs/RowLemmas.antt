@@ -1,7 +1,7 @@
 -- The rows of tags: what looking a tag up, and changing or removing its row, makes of them.
 use Rattle.std.proofs.Common.{rules, ◌≡◌, refl, sym, ◌∙◌, ap, subst, not, ℕ, suc, ◌+◌, ◌<◌, arith, Bool, true}
 use Rattle.std.proofs.Common.{false, ◌&&◌, ◌==◌, cond, Option, Some, None, List, [], ◌∷◌, ◌++◌, length, get_or}
-use Rattle.std.specs.Prelude.{is_some, nat_lt, slice_set, Result, Ok, Err, OnOk, OnErr}
+use Rattle.std.specs.Prelude.{is_some, nat_lt, slice_set}
 use Rattle.std.specs.List.{remove, position, position_or_len}
 use Rattle.std.proofs.lemmas.Bool.{eqb-true, eq-eqb}
 use Rattle.std.proofs.lemmas.Bool.Decides.{nat_tests}
@@ -160,14 +160,6 @@ taken_first rows q absent none waits =
     ap (λ (fs : List Filled). newest (rows ++ record { tag = q.tag; filled = fill q fs } ∷ [])) (sym none)
     ∙ ap (λ (there : Bool). with_row there q.tag (with_piece rows q) rows) (sym absent)
     ∙ sym (taken_waiting rows q waits)
-
-pub on_ok : {X E A B : Type 0} (r : Result X E) → (A → B) → OnOk r A → OnOk r B
-on_ok (Ok x) f a = f a
-on_ok (Err e) f a = tt
-
-pub on_err : {X E A B : Type 0} (r : Result X E) → (A → B) → OnErr r A → OnErr r B
-on_err (Ok x) f a = tt
-on_err (Err e) f a = f a
 
 -- Past 128 rows the oldest goes.
 

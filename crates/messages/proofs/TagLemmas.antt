@@ -1,10 +1,9 @@
 -- Tags that pass the test are the same.
-use Rattle.std.proofs.Common.{◌≡◌, refl, sym, ◌∙◌, ap, ℕ, arith, true, ◌==◌, Some}
-use Rattle.std.proofs.lemmas.Bool.{eq-eqb, eqb-true}
+use Rattle.std.proofs.Common.{◌≡◌, refl, sym, ◌∙◌, ap, ℕ, true, ◌==◌, Some}
+use Rattle.std.proofs.lemmas.Bool.{eq-eqb, eqb-true, and_parts}
 use Rattle.messages.specs.declared.kind.PacketKind.{PacketKind}
 use Rattle.messages.specs.Kinds.{number_of, kind_numbered}
 use Rattle.messages.proofs.ChoiceLemmas.{kind_again}
-use Rattle.messages.proofs.TestLemmas.{both}
 use Rattle.messages.specs.declared.piece.Tag.{Tag}
 use Rattle.messages.specs.Tags.{is_tag}
 
@@ -31,11 +30,11 @@ make_tag w r n s j l = record { whole = w; run = r; number = n; server = s; job 
 pub same_tag : (a b : Tag) → is_tag a b ≡ true → a ≡ b
 unfolding make_tag
 same_tag a b h =
-    let p = both _ (a.length == b.length) h in
-    let q = both _ (a.job == b.job) p.0 in
-    let r = both _ (a.server == b.server) q.0 in
-    let s = both _ (a.number == b.number) r.0 in
-    let t = both (number_of a.whole == number_of b.whole) (a.run == b.run) s.0 in
+    let p = and_parts _ (a.length == b.length) h in
+    let q = and_parts _ (a.job == b.job) p.0 in
+    let r = and_parts _ (a.server == b.server) q.0 in
+    let s = and_parts _ (a.number == b.number) r.0 in
+    let t = and_parts (number_of a.whole == number_of b.whole) (a.run == b.run) s.0 in
     ap (λ w. make_tag w a.run a.number a.server a.job a.length) (same_kind a.whole b.whole (eqb-true (number_of a.whole) (number_of b.whole) t.0))
     ∙ ap (λ r. make_tag b.whole r a.number a.server a.job a.length) (eqb-true a.run b.run t.1)
     ∙ ap (λ n. make_tag b.whole b.run n a.server a.job a.length) (eqb-true a.number b.number s.1)

@@ -2,7 +2,7 @@
 use Rattle.std.proofs.Common.{◌≡◌, ℕ, ◌+◌, ◌≤◌, Bool, true, false, Option, Some, None, List, [], length, drop, refl, sym, subst, ap, ◌∙◌, arith}
 use Rattle.std.specs.Prelude.{◌==◌, nat_le, slice_index}
 use Rattle.std.specs.Option.{option_map, option_and_then}
-use Rattle.std.proofs.lemmas.Bool.{eqb-true, leb-true}
+use Rattle.std.proofs.lemmas.Bool.{eqb-true, leb-true, and_parts}
 use Rattle.std.proofs.lemmas.List.{length-drop, nil_from_length}
 use Rattle.fc_base.specs.declared.report.ReportEnd.{ReportEnd}
 use Rattle.messages.specs.declared.body.Body.{Body}
@@ -19,9 +19,9 @@ use Rattle.messages.specs.Bodies.{kind_of, layout, numbers_of, tail_of, spelled_
 use Rattle.verify_state.specs.Laws.{IsSpelled, SaysAState}
 use Rattle.verify_state.specs.Reading.{is_layout_1}
 use Rattle.messages.proofs.StateLemmas.{state_is}
-use Rattle.messages.proofs.LayoutLemmas.{IsBytes, IsBytes-drop, length-blocks_in, length-spelled_blocks, spelled_blocks-blocks_in, spelled-numbers}
+use Rattle.verify_state.proofs.FieldLemmas.{IsBytes, bytes_drop}
+use Rattle.messages.proofs.LayoutLemmas.{length-blocks_in, length-spelled_blocks, spelled_blocks-blocks_in, spelled-numbers}
 use Rattle.messages.proofs.ChoiceLemmas.{act_is, asked_is, reason_is, end_is}
-use Rattle.messages.proofs.TestLemmas.{both}
 use Rattle.messages.proofs.BodyLemmas.{are_wide, whole_some}
 
 pub some_of : {A B : Type 0} (f : A → B) (o : Option A) (y : B) → option_map f o ≡ Some y → (x : A) × (o ≡ Some x) × (f x ≡ y)
@@ -90,7 +90,7 @@ report_told bytes b fits e =
       kind = refl;
       numbers = rw (is.0, is.1, many) refl;
       long = λ all. omega (arith, exact all);
-      tail = λ all other. spelled_blocks-blocks_in count tail (IsBytes-drop 41 bytes fits)
+      tail = λ all other. spelled_blocks-blocks_in count tail (bytes_drop 41 bytes fits)
           (omega (arith, length-drop 41 bytes, length-spelled_blocks bs, many, exact all));
       keeps = tt;
     })
@@ -117,7 +117,7 @@ told law says kinds.Trigger bytes b fits e =
 told law says kinds.State bytes b fits e =
     let jobs = slice_index (numbers (layout kinds.State) bytes) 0 in
     let state = some_of (State jobs) (state_said (drop 4 bytes)) b e in
-    let is = state_is law says (drop 4 bytes) state.0 (IsBytes-drop 4 bytes fits) state.1 in
+    let is = state_is law says (drop 4 bytes) state.0 (bytes_drop 4 bytes fits) state.1 in
     subst (λ (y : Body). Told kinds.State bytes y) state.2
     (record { kind = refl; numbers = refl; long = λ all. at_least 4 bytes all; tail = λ all other. is.1 other; keeps = is.0 })
 told law says kinds.NoState bytes b fits e = plain kinds.NoState bytes (NoState _ _ _) b e refl refl refl tt (λ all. eqb-true _ _ all)
@@ -131,7 +131,7 @@ told law says kinds.WantState bytes b fits e = plain kinds.WantState bytes (Want
 told law says kinds.Saved bytes b fits e =
     let attempt = slice_index (numbers (layout kinds.Saved) bytes) 0 in
     let state = some_of (Saved attempt) (state_said (drop 8 bytes)) b e in
-    let is = state_is law says (drop 8 bytes) state.0 (IsBytes-drop 8 bytes fits) state.1 in
+    let is = state_is law says (drop 8 bytes) state.0 (bytes_drop 8 bytes fits) state.1 in
     subst (λ (y : Body). Told kinds.Saved bytes y) state.2
     (record { kind = refl; numbers = refl; long = λ all. at_least 8 bytes all; tail = λ all other. is.1 other; keeps = is.0 })
 told law says kinds.NoSaved bytes b fits e = plain kinds.NoSaved bytes (NoSaved _ _ _) b e refl refl refl tt (λ all. eqb-true _ _ all)
@@ -171,7 +171,7 @@ pub record IsRead (k : PacketKind) (bytes : List ℕ) (b : Body) : Type 0 where
 pub read_body : IsSpelled → SaysAState → (k : PacketKind) (bytes : List ℕ) (b : Body) → IsBytes bytes → body_at k bytes ≡ Some b → IsRead k bytes b
 read_body law says k bytes b fits e =
     let found = whole_some bytes (body_of k (numbers (layout k) bytes) (drop (size (layout k)) bytes)) b e in
-    let tests = both (takes_all b (length bytes)) (is_body b) found.1 in
+    let tests = and_parts (takes_all b (length bytes)) (is_body b) found.1 in
     let is = told law says k bytes b fits found.0 in
     record {
       kind = is.kind;

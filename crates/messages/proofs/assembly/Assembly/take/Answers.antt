@@ -1,11 +1,12 @@
 use Rattle.std.proofs.Common.{◌≡◌, ◌∙◌, ap, sym, List}
 use Rattle.std.specs.Prelude.{slice_index_or, slice_set}
 use Rattle.std.specs.List.{position}
+use Rattle.std.proofs.lemmas.Result.{on_ok_weaker, on_err_weaker}
 use Rattle.messages.specs.declared.piece.Tag.{Tag}
 use Rattle.messages.specs.declared.places.Filled.{Filled}
 use Rattle.messages.specs.Tags.{is_tag}
 use Rattle.messages.specs.Assemblies.{Row, fill, filled_at, filled_of}
-use Rattle.messages.proofs.RowLemmas.{stands, lacks, still_waits, taken_more, taken_first, on_ok, on_err}
+use Rattle.messages.proofs.RowLemmas.{stands, lacks, still_waits, taken_more, taken_first}
 use Rattle.messages.proofs.assembly.Assembly.take.Goals as goal
 
 pub returns-in-Some-clause-taken : goal.returns-in-Some-clause-taken
@@ -19,7 +20,7 @@ returns-in-Some-clause-taken c =
     let old : c.behind-self.inside.places ≡ filled_of q.tag rows = ap (λ (r : Row). r.filled) here ∙ sym (stands.filled row) in
     let waits = still_waits rows q c.filled_of.result.now c.tag.result c.is_completed.result c.filled_of.ensures c.tag.ensures c.is_completed.ensures
     c.if-is_completed.false in
-    on_ok c.fill.result
+    on_ok_weaker c.fill.result
     (λ e.
     ap (λ (rs : List Row). slice_set rs at (record { tag = c.behind-self.inside.tag; filled = c.fill.new.self })) c.self.view_is
     ∙ ap (λ (fs : List Filled). slice_set rows at (record { tag = c.behind-self.inside.tag; filled = fs })) (e ∙ ap (fill q) old)
@@ -39,7 +40,7 @@ returns-in-Some-clause-kept c =
     let old : c.behind-self.inside.places ≡ filled_of q.tag rows = ap (λ (r : Row). r.filled) here ∙ sym (stands.filled row) in
     let waits = still_waits rows q c.filled_of.result.now c.tag.result c.is_completed.result c.filled_of.ensures c.tag.ensures c.is_completed.ensures
     c.if-is_completed.false in
-    on_err c.fill.result (λ e. record { empty = ap (λ (fs : List Filled). filled_at fs q.at) (sym old) ∙ e; waits = waits }) c.fill.ensures.empty
+    on_err_weaker c.fill.result (λ e. record { empty = ap (λ (fs : List Filled). filled_at fs q.at) (sym old) ∙ e; waits = waits }) c.fill.ensures.empty
 
 pub returns-in-None-clause-taken : goal.returns-in-None-clause-taken
 returns-in-None-clause-taken c =
@@ -48,7 +49,7 @@ returns-in-None-clause-taken c =
     let lacks = lacks q.tag rows (c.in-None.ensures ∙ ap (λ (t : Tag). position (λ (r : Row). is_tag r.tag t) rows) c.tag-2.ensures) in
     let waits = still_waits rows q c.filled_of.result.now c.tag.result c.is_completed.result c.filled_of.ensures c.tag.ensures c.is_completed.ensures
     c.if-is_completed.false in
-    on_ok c.begin.result (λ e. e ∙ taken_first rows q lacks.absent lacks.empty waits) c.begin.ensures.begun
+    on_ok_weaker c.begin.result (λ e. e ∙ taken_first rows q lacks.absent lacks.empty waits) c.begin.ensures.begun
 
 pub returns-in-None-clause-kept : goal.returns-in-None-clause-kept
 returns-in-None-clause-kept c =
@@ -57,4 +58,4 @@ returns-in-None-clause-kept c =
     let lacks = lacks q.tag rows (c.in-None.ensures ∙ ap (λ (t : Tag). position (λ (r : Row). is_tag r.tag t) rows) c.tag-2.ensures) in
     let waits = still_waits rows q c.filled_of.result.now c.tag.result c.is_completed.result c.filled_of.ensures c.tag.ensures c.is_completed.ensures
     c.if-is_completed.false in
-    on_err c.begin.result (λ e. record { empty = ap (λ (fs : List Filled). filled_at fs q.at) lacks.empty; waits = waits }) c.begin.ensures.same
+    on_err_weaker c.begin.result (λ e. record { empty = ap (λ (fs : List Filled). filled_at fs q.at) lacks.empty; waits = waits }) c.begin.ensures.same
