@@ -1,25 +1,12 @@
 -- Numbers in bytes: what is read is what was written, and what was written is read again.
 use Rattle.std.proofs.Common.{◌≡◌, ℕ, zero, suc, ◌+◌, ◌*◌, ◌%◌, ◌^◌, ◌<◌, ◌≤◌, List, [], ◌∷◌, ◌++◌}
-use Rattle.std.proofs.Common.{length, get_or, take, drop, refl, ap, ◌∙◌, append_assoc, arith, inl, inr}
+use Rattle.std.proofs.Common.{length, take, drop, refl, ap, ◌∙◌, append_assoc, arith}
 use Rattle.std.specs.Int.{Width, w8, w32, w64, byte_len, bytes_high_first, from_be_bytes, to_be_bytes}
-use Rattle.std.proofs.lemmas.Bool.{cases_lt}
 use Rattle.std.proofs.lemmas.List.{take_at, drop_at, take-append-drop, length-append, length-take}
-use Rattle.std.proofs.lemmas.List.{length-drop, drop-drop, get_or-drop, get_or-take, get_or_past}
+use Rattle.std.proofs.lemmas.List.{length-drop, drop-drop}
 use Rattle.std.proofs.lemmas.Nat.{be_bytes_4, be_bytes_8, from_be_bytes-to_be_bytes_4, from_be_bytes-to_be_bytes_8}
 use Rattle.fc_base.specs.Layouts.{bytes_of, number_in, size, spelled, numbers, spelled_blocks, blocks_in}
-
-abbrev pub IsBytes : List ℕ → Type 0
-IsBytes bytes = (i : ℕ) → get_or bytes i 0 < 256
-
-pub IsBytes-drop : (n : ℕ) (bytes : List ℕ) → IsBytes bytes → IsBytes (drop n bytes)
-IsBytes-drop n bytes h i = rw get_or-drop (h (n + i))
-
-pub IsBytes-take : (n : ℕ) (bytes : List ℕ) → IsBytes bytes → IsBytes (take n bytes)
-IsBytes-take n bytes h i =
-    elim (cases_lt i n) [
-      | inl lt ↦ rw (get_or-take n bytes i 0 lt) (h i)
-      | inr le ↦ rw (get_or_past (take n bytes) i 0 (omega (arith, length-take n bytes))) (omega arith)
-    ]
+use Rattle.verify_state.proofs.FieldLemmas.{IsBytes, bytes_drop, bytes_take}
 
 length-bytes_high_first : (k n : ℕ) → length (bytes_high_first k n) ≡ k
 length-bytes_high_first zero n = refl
@@ -60,7 +47,7 @@ again32 n rest lt = ap (from_be_bytes w32) (take_at (to_be_bytes w32 n) rest 4 r
 
 back32 : (bytes : List ℕ) → IsBytes bytes → 4 ≤ length bytes → bytes_of w32 (number_in w32 bytes) ≡ take 4 bytes
 unfolding bytes_of number_in
-back32 bytes fits le = be_bytes_4 (take 4 bytes) _ (omega (arith, length-take 4 bytes)) (IsBytes-take 4 bytes fits) refl
+back32 bytes fits le = be_bytes_4 (take 4 bytes) _ (omega (arith, length-take 4 bytes)) (bytes_take 4 bytes fits) refl
 
 pub wide32 : IsWide w32
 wide32 = record { again = again32; back = back32 }
@@ -71,7 +58,7 @@ again64 n rest lt = ap (from_be_bytes w64) (take_at (to_be_bytes w64 n) rest 8 r
 
 back64 : (bytes : List ℕ) → IsBytes bytes → 8 ≤ length bytes → bytes_of w64 (number_in w64 bytes) ≡ take 8 bytes
 unfolding bytes_of number_in
-back64 bytes fits le = be_bytes_8 (take 8 bytes) _ (omega (arith, length-take 8 bytes)) (IsBytes-take 8 bytes fits) refl
+back64 bytes fits le = be_bytes_8 (take 8 bytes) _ (omega (arith, length-take 8 bytes)) (bytes_take 8 bytes fits) refl
 
 pub wide64 : IsWide w64
 wide64 = record { again = again64; back = back64 }
@@ -107,7 +94,7 @@ spelled-numbers (w ∷ ws) bytes wide fits le =
     let k = byte_len w in
     let after = drop k bytes in
     let front = wide.0.back bytes fits (omega arith) in
-    let rest = spelled-numbers ws after wide.1 (IsBytes-drop k bytes fits) (omega (arith, length-drop k bytes)) in
+    let rest = spelled-numbers ws after wide.1 (bytes_drop k bytes fits) (omega (arith, length-drop k bytes)) in
     rw (append_assoc (bytes_of w (number_in w bytes)) (spelled ws (numbers ws after)) (drop (k + size ws) bytes), ← drop-drop (size ws) k bytes, rest, front)
     (take-append-drop k bytes)
 
@@ -126,5 +113,5 @@ pub spelled_blocks-blocks_in : (n : ℕ) (bytes : List ℕ) → IsBytes bytes �
 spelled_blocks-blocks_in zero [] fits e = refl
 spelled_blocks-blocks_in zero (b ∷ bs) fits e = absurd (omega arith)
 spelled_blocks-blocks_in (suc n) bytes fits e =
-    let rest = spelled_blocks-blocks_in n (drop 4 bytes) (IsBytes-drop 4 bytes fits) (omega (arith, length-drop 4 bytes)) in
+    let rest = spelled_blocks-blocks_in n (drop 4 bytes) (bytes_drop 4 bytes fits) (omega (arith, length-drop 4 bytes)) in
     rw (rest, back32 bytes fits (omega arith)) (take-append-drop 4 bytes)

@@ -1,14 +1,13 @@
 -- Verify states in bodies: what verify_state says of their bytes.
-use Rattle.std.proofs.Common.{◌≡◌, ℕ, suc, ◌<◌, false, Some, None, List, [], ◌∷◌, length, refl, sym, ap, subst, ◌∙◌}
+use Rattle.std.proofs.Common.{◌≡◌, ℕ, false, Some, None, List, [], ◌∷◌, length, refl, sym, ap, subst, ◌∙◌}
 use Rattle.std.specs.Prelude.{slice_get}
-use Rattle.std.specs.List.{AllByRecursion}
 use Rattle.fc_base.specs.declared.fault.Fault.{Fault}
 use Rattle.verify_state.specs.State.{State, IsState}
 use Rattle.verify_state.specs.Spelling.{spelling}
 use Rattle.verify_state.specs.Reading.{is_layout_1, faults_of, state_in}
 use Rattle.verify_state.specs.Laws.{ReadsBack, IsSpelled, SaysAState}
 use Rattle.messages.specs.Bodies.{spelled_state, state_said, without_faults}
-use Rattle.messages.proofs.LayoutLemmas.{IsBytes}
+use Rattle.verify_state.proofs.FieldLemmas.{IsBytes, each_byte}
 
 pub said_some : (bytes : List ℕ) (s : State) → faults_of bytes ≡ [] → s ≡ state_in bytes → state_said bytes ≡ Some s
 unfolding state_said
@@ -25,10 +24,6 @@ said_none bytes f e = first_fault (faults_of bytes) f (state_in bytes) e
 pub state_again : ReadsBack → (s : State) → IsState s → state_said (spelled_state s) ≡ Some s
 unfolding spelled_state
 state_again law s h = let back = law s h in said_some (spelling s) s back.sound (sym back.said)
-
-each_byte : (bytes : List ℕ) → IsBytes bytes → AllByRecursion (λ byte. byte < 256) bytes
-each_byte [] fits = tt
-each_byte (b ∷ bs) fits = (fits 0, each_byte bs (λ i. fits (suc i)))
 
 no_faults : (faults : List Fault) (s t : State) → without_faults faults s ≡ Some t → (faults ≡ []) × (s ≡ t)
 no_faults [] s t e = (refl, cc)

@@ -4,7 +4,6 @@ use Rattle.std.specs.Prelude.{◌^◌, map}
 use Rattle.std.specs.List.{AllByRecursion, flat_map}
 use Rattle.std.specs.Int.{w32}
 use Rattle.std.proofs.lemmas.List.{length-map}
-use Rattle.std.proofs.lemmas.List.Elements.{All-from_get_or, recursion_from_All}
 use Rattle.std.proofs.lemmas.List.Folds.{flat_map-map}
 use Rattle.std.proofs.lemmas.Nat.{from_be_bytes-to_be_bytes_4}
 use Rattle.fc_base.specs.Layouts.{bytes_of, number_in}
@@ -12,7 +11,7 @@ use Rattle.verify_state.specs.State.{State, IsState}
 use Rattle.verify_state.specs.Spelling.{spelling}
 use Rattle.verify_state.specs.Reading.{field}
 use Rattle.verify_state.specs.Laws.{ReadsBack}
-use Rattle.verify_state.proofs.FieldLemmas.{IsBytes, bytes_drop, piece32}
+use Rattle.verify_state.proofs.FieldLemmas.{IsBytes, each_byte, bytes_drop, piece32}
 use Rattle.state_table.specs.declared.kept.TheConstants.{KEPT_LIMIT}
 use Rattle.state_table.specs.Counted.{counted_bytes, counted_states, SayStates}
 use Rattle.state_table.specs.Kept.{has_distinct_keys}
@@ -53,9 +52,6 @@ pub no_states_read : (bytes : List ℕ) (states : List State) (count : ℕ) → 
 no_states_read bytes states count c h a keys = h states (subst (λ n. states_at n (drop 4 bytes) ≡ Some states) (sym a.count ∙ sym c) a.said) keys
 
 -- ---- what was spelled
-
-each_byte : (bytes : List ℕ) → IsBytes bytes → AllByRecursion (λ byte. byte < 256) bytes
-each_byte bytes h = recursion_from_All (λ byte. byte < 256) bytes (All-from_get_or (λ byte. byte < 256) bytes 0 (λ i l. h i))
 
 pub counted_spelled : SpelledAreRead → ReadWereSpelled → (bytes : List ℕ) (count : ℕ) (states : List State) → IsBytes bytes → 4 ≤ length bytes
     → count ≡ number_in w32 bytes → states_at count (drop 4 bytes) ≡ Some states

@@ -20,6 +20,10 @@ are_bytes [] all i = omega arith
 are_bytes (b ∷ bytes) all zero = all.0
 are_bytes (b ∷ bytes) all (suc i) = are_bytes bytes all.1 i
 
+pub each_byte : (bytes : List ℕ) → IsBytes bytes → AllByRecursion (λ byte. byte < 256) bytes
+each_byte [] fits = tt
+each_byte (b ∷ bytes) fits = (fits 0, each_byte bytes (λ i. fits (suc i)))
+
 pub bytes_drop : (n : ℕ) (bytes : List ℕ) → IsBytes bytes → IsBytes (drop n bytes)
 bytes_drop n bytes h i = rw get_or-drop (h (n + i))
 
