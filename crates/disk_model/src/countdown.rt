@@ -1,6 +1,6 @@
 //! Which call of a failing device fails.
 
-ghost use Rattle.std.specs.Prelude.{◌≡◌, ◌+◌, Some, None, IsTrue, ◌↔◌};
+ghost use Rattle.std.specs.Prelude.{◌≡◌, Some, IsTrue, ◌↔◌};
 ghost use Rattle.disk_model.specs.Countdown.{left_of, failures_of, one_fewer};
 
 /// A count of calls down to the one that fails.

@@ -1,6 +1,6 @@
 //! A disk in memory.
 
-ghost use Rattle.std.specs.Prelude.{◌≡◌, ◌==◌, ◌≤◌, ◌+◌, ◌/◌, ℕ, None, Some, length, OnOk, OnErr};
+ghost use Rattle.std.specs.Prelude.{◌≡◌, ◌==◌, ◌≤◌, ◌+◌, ◌/◌, None, Some, length, OnOk, OnErr};
 ghost use Rattle.disk_model.specs.File.{IsBlock, zeros, first_sector, has_bit};
 ghost use Rattle.disk_model.specs.File.{with_landed, with_sector, IsSameOutside, HasWholeSectors};
 

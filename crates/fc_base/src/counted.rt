@@ -1,6 +1,6 @@
 //! Which writes a list of completions counts.
 
-ghost use Rattle.std.specs.Prelude.{◌≡◌, ◌*◌};
+ghost use Rattle.std.specs.Prelude.{◌≡◌};
 ghost use Rattle.fc_base.specs.Counted.{is_counted as counts};
 
 use crate::numbers::Seq;

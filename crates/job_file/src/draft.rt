@@ -1,7 +1,7 @@
 //! A job as its text gives it, before its limits are looked at.
 
 ghost use Rattle.std.specs.Prelude.{◌≡◌, ◌/◌};
-ghost use Rattle.job_file.specs.Draft.{read_write_of, writes, kind_of, block_size_of, size_of, io_size_of, total_of, seed_of, depth_of, window_of, verify_of, pattern_under, lacks_pattern_under, parts_of, is_past_limits};
+ghost use Rattle.job_file.specs.Draft.{read_write_of, writes, kind_of, block_size_of, size_of, io_size_of, total_of, seed_of, depth_of, window_of, verify_of, pattern_under, lacks_pattern_under, parts_of};
 
 use crate::fault::JobFault;
 use crate::job::Job;

@@ -1,9 +1,7 @@
 //! The values that options take, other than plain numbers.
 
 ghost use Rattle.std.specs.Prelude.{◌≡◌};
-ghost use Rattle.std.specs.List.{list_all};
 ghost use Rattle.std.specs.Option.{option_copied};
-ghost use Rattle.job_file.specs.Bytes.{is_text_byte};
 ghost use Rattle.job_file.specs.Setting.{read_write_of, switch_of, switch_or_on, copies_of, is_crc, is_digest, verify_of, pattern_of, filename_of};
 
 use crate::bytes::is_text;

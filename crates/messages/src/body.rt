@@ -1,6 +1,6 @@
 //! What a packet says.
 
-ghost use Rattle.std.specs.Prelude.{◌≡◌, Some, None, if◌then◌else◌};
+ghost use Rattle.std.specs.Prelude.{◌≡◌};
 
 use crate::kind::PacketKind;
 use crate::piece::Tag;

@@ -1,6 +1,6 @@
 //! Reading the packet of a frame.
 
-ghost use Rattle.std.specs.Prelude.{◌≡◌, ◌≤◌, ◌∷◌, [], length, drop, Some, None, IfOk, if◌then◌else◌};
+ghost use Rattle.std.specs.Prelude.{◌≡◌, ◌≤◌, ◌∷◌, [], length, Some, None, IfOk, if◌then◌else◌};
 ghost use Rattle.messages.specs.Ranges.{is_body};
 ghost use Rattle.fc_base.specs.Layouts.{numbers};
 ghost use Rattle.messages.specs.Bodies.{Reads, body_at};

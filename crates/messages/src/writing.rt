@@ -1,6 +1,6 @@
 //! Writing the frame of a packet.
 
-ghost use Rattle.std.specs.Prelude.{◌≡◌, ℕ, ◌+◌, ◌≤◌, ◌∷◌, [], ◌++◌, IsTrue, length, take, drop, OnOk, IfOk};
+ghost use Rattle.std.specs.Prelude.{◌≡◌, ◌+◌, ◌≤◌, ◌∷◌, [], ◌++◌, IsTrue, length, take, drop, OnOk, IfOk};
 ghost use Rattle.std.specs.Int.{w8, w32};
 ghost use Rattle.fc_base.specs.Report.{is_report};
 ghost use Rattle.messages.specs.declared.body.Body.TheVariants.{Jobs, State, Verify, Saved, Report, Refused, Copy};

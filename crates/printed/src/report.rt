@@ -1,6 +1,6 @@
 //! A report as it is printed.
 
-ghost use Rattle.std.specs.Prelude.{◌≡◌, ◌++◌, [], ◌∷◌, map, take, decimal, OnOk, Some};
+ghost use Rattle.std.specs.Prelude.{OnOk, Some};
 ghost use Rattle.std.specs.List.{flat_map};
 ghost use Rattle.std.specs.Io.KnownBytes.{Appends};
 ghost use Rattle.printed.specs.Reports.{report_words, block_words};

@@ -2,10 +2,9 @@
 
 ghost use Rattle.std.specs.Prelude.{◌≡◌, ℕ, ◌<◌, ◌≤◌, List, [], ◌∷◌, ◌++◌, length, false};
 ghost use Rattle.std.specs.Option.{option_copied};
-ghost use Rattle.fc_base.specs.Ascending.{is_block};
 ghost use Rattle.recheck.specs.Check.{with_block_checked, has_ended, FitsIfAny, HasSeen, Starts};
 ghost use Rattle.recheck.specs.Faults.{is_checked, verdict};
-ghost use Rattle.recheck.specs.Report.{can_end, report, report_of, report_with};
+ghost use Rattle.recheck.specs.Report.{report, report_of, report_with};
 
 use crate::expected::Expected;
 use crate::tally::Tally;

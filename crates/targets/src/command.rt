@@ -1,6 +1,6 @@
 //! The command line of `drive`.
 
-ghost use Rattle.std.specs.Prelude.{◌≡◌, ◌≤◌, ◌<◌, IfSome};
+ghost use Rattle.std.specs.Prelude.{◌≤◌, ◌<◌, IfSome};
 ghost use Rattle.targets.specs.Command.{IsRequest};
 
 use clap::{Arg, ArgMatches, Command, Error};

@@ -2,7 +2,6 @@
 
 ghost use Rattle.std.specs.Prelude.{◌≡◌, ◌<◌, ◌≤◌, [], List, None, true, false, length, OnOk, IfOk, IfSome, IsTrue};
 ghost use Rattle.std.specs.Io.Buffered.{reader_remaining};
-ghost use Rattle.std.specs.Io.KnownBytes.{Appends};
 ghost use Rattle.fc_base.specs.Keys.{is_key};
 ghost use Rattle.window.specs.History.{Event, done, fail};
 ghost use Rattle.engine.specs.Running.{Origin, StandsFor};

@@ -1,10 +1,10 @@
 //! Which writes count, by marks or by a list of completions, and whether a job can have come to
 //! them.
 
-ghost use Rattle.std.specs.Prelude.{◌≡◌, ◌-◌, ◌*◌, ◌^◌, ◌<◌, ◌≤◌, length, filter, nat_le, nat_lt, bytes_eq, IsTrue};
-ghost use Rattle.std.specs.List.{list_all, AllByRecursion};
-ghost use Rattle.fc_base.specs.Counted.{has, counted, uncounted, is_distinct, is_possible};
-ghost use Rattle.fc_base.specs.Marks.{floor_of, marks_of, ends_by, counted_by, is_possible_by};
+ghost use Rattle.std.specs.Prelude.{◌≡◌, ◌-◌, ◌*◌, ◌<◌, ◌≤◌, length, filter, nat_le, nat_lt, bytes_eq, IsTrue};
+ghost use Rattle.std.specs.List.{list_all};
+ghost use Rattle.fc_base.specs.Counted.{has, counted, is_distinct};
+ghost use Rattle.fc_base.specs.Marks.{floor_of, marks_of, ends_by, counted_by};
 ghost use Rattle.verify_state.specs.State.{has_come, has_come_by};
 
 use crate::distinct::{MAX_COMPLETIONS, is_distinct};

@@ -1,6 +1,6 @@
 //! Reading a verify state.
 
-ghost use Rattle.std.specs.Prelude.{◌≡◌, ◌+◌, ◌*◌, ◌≤◌, length, IfSome, IfOk, IsTrue, Some, None, if◌then◌else◌};
+ghost use Rattle.std.specs.Prelude.{◌≡◌, ◌+◌, ◌≤◌, length, IfSome, IfOk, IsTrue, Some, None, if◌then◌else◌};
 ghost use Rattle.std.specs.Int.{w8, w32, w64};
 ghost use Rattle.fc_base.specs.Keys.{is_key};
 ghost use Rattle.verify_state.specs.Codes.{kind_of, verify_of};

@@ -1,6 +1,6 @@
 //! Writing frames: whole packets and pieces.
 
-ghost use Rattle.std.specs.Prelude.{◌≡◌, ℕ, ◌+◌, ◌≤◌, ◌∷◌, [], ◌++◌, length, OnOk, IfOk};
+ghost use Rattle.std.specs.Prelude.{◌≡◌, ◌+◌, ◌≤◌, ◌∷◌, [], ◌++◌, length, OnOk, IfOk};
 ghost use Rattle.std.specs.Int.{w32};
 ghost use Rattle.fc_base.specs.Layouts.{spelled};
 ghost use Rattle.messages.specs.declared.limits.TheConstants.{CHUNK_LIMIT, MAX_FRAME};
