@@ -1,11 +1,13 @@
 -- The first line of a script, and the lines behind it.
-use Rattle.std.proofs.Common.{◌≡◌, ◌==◌, ℕ, ◌+◌, ◌<◌, ◌≤◌, Bool, true, false, cond, not, suc, List, []}
+use Rattle.std.proofs.Common.{◌≡◌, ℕ, ◌+◌, ◌<◌, ◌≤◌, Bool, true, false, cond, not, suc, List, []}
 use Rattle.std.proofs.Common.{◌∷◌, ◌++◌, length, take, drop, append_assoc, refl, sym, ◌∙◌, ap, arith}
 use Rattle.std.specs.List.{slice_split, onto_first, position_or_len}
 use Rattle.std.proofs.lemmas.Bool.Decides.{nat_tests}
 use Rattle.std.proofs.lemmas.List.{take-append-drop}
 use Rattle.std.proofs.lemmas.List.Splits.{slice_split_first, length-slice_split}
+use Rattle.job_file.proofs.Cut.{whole_line}
 use Rattle.net_script.specs.Words.{is_line_feed, ended_parts, lines_of}
+use Rattle.net_script.proofs.WordLemmas.{one_more}
 use Rattle.printed.specs.Words.{with_line_feed}
 
 -- Each part before the last is a line.
@@ -34,17 +36,11 @@ first_of_lines script len is within =
     slice_split_first is_line_feed script 0 inside ∙ ap (λ n. take n script ∷ slice_split is_line_feed (drop (n + 1) script)) (sym is) in
     ap ended_parts parts ∙ ended_more (take len script) rest (omega (arith, length-slice_split is_line_feed (drop (len + 1) script)))
 
-whole_line : (n : ℕ) (xs : List ℕ) → 0 < n → cond (n == 0) [] (xs ∷ []) ≡ xs ∷ []
-whole_line n xs some = grind (arith, nat_tests)
-
 -- Without a line feed the script is one line.
 pub line_whole : (script : List ℕ) (len : ℕ) → len ≡ position_or_len is_line_feed script → len ≤ length script → length script ≤ len → 0 < length script
     → lines_of script ≡ script ∷ []
 line_whole script len is bound none some =
     ap ended_parts (split_whole script (omega (arith, is, bound, none))) ∙ whole_line (length script) script some
-
-one_more : (n : ℕ) → 1 + n ≡ suc n
-one_more n = omega arith
 
 two_more : (n : ℕ) → 1 + n + 1 ≡ suc (n + 1)
 two_more n = omega arith

@@ -1,6 +1,6 @@
 -- Lines as they are written, part by part.
-use Rattle.std.proofs.Common.{◌≡◌, inl, inr, ℕ, ◌+◌, ◌<◌, List, [], ◌∷◌, ◌++◌, length, take, drop, Option, Some, Result, Ok, Err}
-use Rattle.std.proofs.Common.{OnOk, slice_get, get_or, codes, decimal, append_assoc, append-nil, sym, ◌∙◌, ap, subst, Contains, arith}
+use Rattle.std.proofs.Common.{◌≡◌, inl, inr, ℕ, ◌+◌, ◌<◌, List, [], ◌∷◌, ◌++◌, length, take, drop, Option, Some}
+use Rattle.std.proofs.Common.{slice_get, get_or, append-nil, sym, ◌∙◌, ap, subst, Contains, arith}
 use Rattle.std.specs.List.{flat_map}
 use Rattle.std.proofs.lemmas.Grind.{flat_map-append}
 use Rattle.std.proofs.lemmas.List.{get_or-drop, get_or-take, get_or-map, take_more, length-take-le}
@@ -13,11 +13,6 @@ use Rattle.messages.specs.Looks.{look_of, LooksAtFrames}
 use Rattle.printed.specs.Words.{with_line_feed}
 use Rattle.net_script.specs.Printed.{frame_line, sent_line, sent_lines}
 use Rattle.net_script.specs.Told.{AreBytesOf}
-
--- What holds where there is an answer.
-pub on_ok : {T E P Q : Type 0} (r : Result T E) → (P → Q) → OnOk r P → OnOk r Q
-on_ok (Ok x) f p = f p
-on_ok (Err e) f p = tt
 
 -- One more line.
 line_more : (first : ℕ) (sent : List Frame) (f : Frame) → sent_lines first (sent ++ f ∷ []) ≡ sent_lines first sent ++ sent_line (first + length sent) f ∷ []
