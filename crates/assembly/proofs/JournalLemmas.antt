@@ -18,7 +18,8 @@ use Rattle.assembly.specs.declared.fault.AssembleFault.TheVariants.{Unlike, NoMe
 use Rattle.assembly.specs.Ran.{Ran, history_of}
 use Rattle.assembly.specs.Unlike.{GoesOn, DifferAt}
 use Rattle.assembly.specs.Order.{Followed, next_of, with_next, nothing_followed, IsTold, IsFollowed, IsUntold, Differs}
-use Rattle.assembly.proofs.NextLemmas.{has_place, same_node, is_same_as_itself, long_with, next_same, next_other, next_none}
+use Rattle.hub.proofs.NodeLemmas.{same_node, is_same_as_itself}
+use Rattle.assembly.proofs.NextLemmas.{has_place, long_with, next_same, next_other, next_none}
 
 -- ---- entries, and those before and behind them
 

@@ -1,5 +1,5 @@
 -- From where nodes are to be followed.
-use Rattle.std.proofs.Common.{◌≡◌, ◌≢◌, refl, ap, ℕ, ◌≤◌, ◌<◌, arith, Bool, true, false, List, [], length}
+use Rattle.std.proofs.Common.{◌≡◌, refl, sym, ap, ℕ, ◌≤◌, ◌<◌, arith, Bool, true, false, List, [], length}
 use Rattle.std.specs.Prelude.{if◌then◌else◌, nat_lt, slice_set, replicate}
 use Rattle.std.specs.Option.{option_map_or}
 use Rattle.std.proofs.lemmas.Bool.Decides.{nat_tests}
@@ -10,43 +10,12 @@ use Rattle.messages.specs.declared.node.Node.{Node}
 use Rattle.messages.specs.declared.node.Node.TheVariants.{Server, Client, Mirror}
 use Rattle.messages.specs.Nodes.{node_number, is_node}
 use Rattle.hub.specs.Waiting.{is_same_node}
+use Rattle.hub.proofs.NodeLemmas.{number_below, other_number}
 use Rattle.node_history.specs.declared.logged.Logged.{Logged}
 use Rattle.assembly.specs.Ran.{Ran, history_of}
 use Rattle.assembly.specs.Order.{next_of, with_next}
 
 -- ---- nodes
-
-pub number_below : (node : Node) → is_node node ≡ true → node_number node < MAX_NODES
-number_below (Server s) h = let lt : s < 8 = grind (arith, nat_tests) in omega arith
-number_below Client h = omega arith
-number_below Mirror h = omega arith
-
-pub same_node : (a b : Node) → is_same_node a b ≡ true → a ≡ b
-same_node (Server s) (Server r) e = let eq : s ≡ r = grind (arith, nat_tests) in ap Server eq
-same_node (Server s) Client e = cc
-same_node Client (Server r) e = cc
-same_node Client Client e = refl
-same_node Mirror Mirror e = refl
-same_node (Server s) Mirror e = cc
-same_node Client Mirror e = cc
-same_node Mirror (Server r) e = cc
-same_node Mirror Client e = cc
-
-pub is_same_as_itself : (a : Node) → is_same_node a a ≡ true
-is_same_as_itself (Server s) = grind (arith, nat_tests)
-is_same_as_itself Client = refl
-is_same_as_itself Mirror = refl
-
-other_number : (a b : Node) → is_node a ≡ true → is_node b ≡ true → is_same_node a b ≡ false → node_number b ≢ node_number a
-other_number (Server s) (Server r) ha hb e = grind (arith, nat_tests)
-other_number (Server s) Client ha hb e = let lt : s < 8 = grind (arith, nat_tests) in omega arith
-other_number Client (Server r) ha hb e = let lt : r < 8 = grind (arith, nat_tests) in omega arith
-other_number Client Client ha hb e = cc
-other_number (Server s) Mirror ha hb e = let lt : s < 8 = grind (arith, nat_tests) in omega arith
-other_number Client Mirror ha hb e = omega arith
-other_number Mirror (Server r) ha hb e = let lt : r < 8 = grind (arith, nat_tests) in omega arith
-other_number Mirror Client ha hb e = omega arith
-other_number Mirror Mirror ha hb e = cc
 
 -- A node that has a history is one of the ten.
 pub has_place : (r : Ran) (node : Node) (at : ℕ) → length r.servers ≤ 8 → at < length (history_of r node) → is_node node ≡ true
@@ -80,7 +49,7 @@ by_range : (next : List ℕ) (node other : Node) (at : ℕ) (a b : Bool) → is_
 by_range next node other at a false ea eb differ = rw eb refl
 by_range next node other at false true ea eb differ = rw (ea, eb) refl
 by_range next node other at true true ea eb differ =
-    rw (ea, eb) (get_or-set_other next (node_number node) (node_number other) at 0 (other_number node other ea eb differ))
+    rw (ea, eb) (get_or-set_other next (node_number node) (node_number other) at 0 (λ same. other_number node other ea eb differ (sym same)))
 
 -- That of another node.
 pub next_other : (next : List ℕ) (node other : Node) (at : ℕ) → is_same_node node other ≡ false → next_of (with_next next node at) other ≡ next_of next other

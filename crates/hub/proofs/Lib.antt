@@ -1,4 +1,4 @@
-mod NodeLemmas
+pub mod NodeLemmas
 mod StoreLemmas
 mod QueueLemmas
 mod WaitingLemmas

@@ -12,7 +12,8 @@ use Rattle.hub.specs.Journal.{count_sent}
 use Rattle.node_traces.specs.Marks.{Mark, mark_of_line, marks_in, marks_of}
 use Rattle.node_traces.specs.Lists.{EndAt}
 use Rattle.node_traces.specs.Orders.{IsWithin, place_of, places_of, standing_places}
-use Rattle.node_traces.proofs.PlaceLemmas.{IsIn, Falls, in_falls, own_places, other_places, same_node, standing_falls}
+use Rattle.hub.proofs.NodeLemmas.{same_node}
+use Rattle.node_traces.proofs.PlaceLemmas.{IsIn, Falls, in_falls, own_places, other_places, standing_falls}
 use Rattle.node_traces.proofs.MergedLemmas.{below_or_not, marked_at, marks_fall}
 use Rattle.node_traces.proofs.NodeLemmas.{IsBelow, with_history}
 

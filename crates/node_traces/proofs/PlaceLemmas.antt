@@ -1,34 +1,15 @@
 -- The order that a journal gives merges the histories that agree with it.
 use Rattle.std.proofs.Common.{◌≡◌, refl, sym, ◌∙◌, ap, subst, ◌⊎◌, inl, inr, ℕ, suc, ◌+◌, ◌<◌, ◌≤◌, arith, Bool, true, false, ◌&&◌, List, [], ◌∷◌, ◌++◌, length}
 use Rattle.std.specs.Prelude.{map, filter, if◌then◌else◌, nat_le, nat_lt}
-use Rattle.std.proofs.lemmas.Bool.{eqb-true, ltb-true, ltb-false, lt-ltb, le-ltb, le-leb, lt-leb}
-use Rattle.std.proofs.lemmas.Bool.Decides.{nat_tests}
+use Rattle.std.proofs.lemmas.Bool.{ltb-true, ltb-false, lt-ltb, le-ltb, le-leb, lt-leb}
 use Rattle.messages.specs.declared.node.Node.{Node}
-use Rattle.messages.specs.declared.node.Node.TheVariants.{Server, Client, Mirror}
 use Rattle.hub.specs.declared.line.Line.{Line}
 use Rattle.hub.specs.Waiting.{is_same_node}
+use Rattle.hub.proofs.NodeLemmas.{same_node, is_same_as_itself}
 use Rattle.node_history.specs.declared.logged.Logged.{Logged}
 use Rattle.node_history.specs.AtHub.{is_left_out}
 use Rattle.node_traces.specs.declared.place.Place.{Place}
 use Rattle.node_traces.specs.Orders.{standing_places, places_of, IsWithin, place_of, next_place, places_between, up_to_last}
-
--- ---- two nodes are one, or they aren't
-
-pub same_node : (a b : Node) → is_same_node a b ≡ true → a ≡ b
-same_node (Server s) (Server r) h = ap (λ i. Server i) (eqb-true s r h)
-same_node (Server s) Client h = absurd cc
-same_node Client (Server r) h = absurd cc
-same_node Client Client h = refl
-same_node Mirror Mirror h = refl
-same_node (Server s) Mirror h = absurd cc
-same_node Client Mirror h = absurd cc
-same_node Mirror (Server r) h = absurd cc
-same_node Mirror Client h = absurd cc
-
-pub itself : (a : Node) → is_same_node a a ≡ true
-itself (Server s) = grind (arith, nat_tests)
-itself Client = refl
-itself Mirror = refl
 
 -- ---- lists within others
 
@@ -180,8 +161,8 @@ record IsLast (ran : Node → List Logged) (l : Line) (older : List Line) : Type
 
 last_noted : (ran : Node → List Logged) (l : Line) (older : List Line) → AreNoted ran (l ∷ older) → IsLast ran l older
 last_noted ran l older h = record {
-  behind = fall (is_same_node l.node l.node) (itself l.node) (h.falls l.node);
-  there = stand (is_same_node l.node l.node) (itself l.node) (h.within l.node);
+  behind = fall (is_same_node l.node l.node) (is_same_as_itself l.node) (h.falls l.node);
+  there = stand (is_same_node l.node l.node) (is_same_as_itself l.node) (h.within l.node);
 }
   where
     fall : (b : Bool) → b ≡ true → (top : ℕ) × Falls top (if b then l.at ∷ noted_at l.node older else noted_at l.node older) → next_place l.node older ≤ l.at

@@ -16,7 +16,7 @@ use Rattle.node_traces.specs.declared.place.Place.{Place}
 use Rattle.node_traces.specs.Marks.{frame_of, mark_of, marks_if, marks_of}
 use Rattle.node_traces.specs.Orders.{standing_places}
 use Rattle.node_traces.specs.Names.{node_of}
-use Rattle.node_traces.proofs.PlaceLemmas.{same_node}
+use Rattle.hub.proofs.NodeLemmas.{same_node}
 use Rattle.node_traces.proofs.NodeLemmas.{EntryOf, Goes, coming_to, frames_at, happened_to, node_at, other_list}
 use Rattle.node_traces.proofs.NodeLemmas.{other_step, own_list, own_step, rules_of, stays, step_at, with_list}
 

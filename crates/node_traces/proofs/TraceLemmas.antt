@@ -21,7 +21,8 @@ use Rattle.node_traces.specs.Laws.{MergesNameATrace, MergedOrdersAreMerges, Agre
 use Rattle.node_traces.proofs.MarkLemmas.{HasNone, none_or_one}
 use Rattle.node_traces.proofs.RefusalLemmas.{CameOf}
 use Rattle.node_traces.proofs.SentLemmas.{Laws, taken_was_sent}
-use Rattle.node_traces.proofs.PlaceLemmas.{itself, own_places, same_node}
+use Rattle.hub.proofs.NodeLemmas.{same_node, is_same_as_itself}
+use Rattle.node_traces.proofs.PlaceLemmas.{own_places}
 use Rattle.node_traces.proofs.NodeLemmas.{EntryOf, IsBelow, AreMade, goes, made_with, opens, coming_to, rules_of, with_history, with_list}
 use Rattle.node_traces.proofs.TellLemmas.{Newest, Told, more, newest_of, none_sent, opened_still}
 use Rattle.node_traces.proofs.LeftLemmas.{few_below, has_within, ends_with, marked_line, node_below}
@@ -50,7 +51,7 @@ not_first frames p [] rest older is len marks = never is
     never h = cc
 not_first frames p (l ∷ lines) rest older is len marks =
     let here : place_of l ≡ p = firsts (place_of l) (map place_of lines) is in
-    let same : is_same_node l.node p.node ≡ true = ap (λ (q : Place). is_same_node l.node q.node) (sym here) ∙ itself l.node in
+    let same : is_same_node l.node p.node ≡ true = ap (λ (q : Place). is_same_node l.node q.node) (sym here) ∙ is_same_as_itself l.node in
     older_place older p.at (mark_of_line frames (count_sent lines) l) (marks_in frames p.node lines) len
     (marks ∙ ap (λ b. if b then mark_of_line frames (count_sent lines) l ∷ marks_in frames p.node lines else marks_in frames p.node lines) same)
     (ap (λ (q : Place). q.at) here)
@@ -100,7 +101,7 @@ noted_first : (frames : List (List ℕ)) (p : Place) (l : Line) (lines : List Li
 noted_first frames p l lines mark older here marks = record { same = ap (λ (q : Place). q.node) here; mark_is = firsts both; older_are = lasts both }
   where
     same : is_same_node l.node p.node ≡ true
-    same = ap (λ (q : Place). is_same_node l.node q.node) (sym here) ∙ itself l.node
+    same = ap (λ (q : Place). is_same_node l.node q.node) (sym here) ∙ is_same_as_itself l.node
 
     both : mark ∷ marks_of older ≡ mark_of_line frames (count_sent lines) l ∷ marks_in frames p.node lines
     both = marks ∙ ap (λ b. if b then mark_of_line frames (count_sent lines) l ∷ marks_in frames p.node lines else marks_in frames p.node lines) same
@@ -212,7 +213,7 @@ tell laws n few frames [] (l ∷ lines) ran lists made ends sent marked places w
     never h = cc
 tell laws n few frames (p ∷ order) journal ran lists made ends sent marked places within =
     let at_top : standing_places (ran p.node) ≡ p.at ∷ places_of p.node order =
-    sym (places p.node) ∙ own_places p.node p.node (p.at ∷ []) order (itself p.node) in
+    sym (places p.node) ∙ own_places p.node p.node (p.at ∷ []) order (is_same_as_itself p.node) in
     let top = newest_of n p.node (ran p.node) (lists p.node) p.at (places_of p.node order) (made p.node) at_top in
     let below = node_below n ran p.node p.at (places_of p.node order) ends at_top in
     event laws n few frames p order journal ran lists below sent marked within top
