@@ -1,5 +1,5 @@
 -- The writes in flight, as marks on slots.
-use Rattle.std.proofs.Common.{◌≡◌, ℕ, ◌+◌, ◌-◌, ◌/◌, ◌%◌, ◌^◌, ◌<◌, ◌≤◌, suc, Bool, true, false, cond, ◌&&◌, not, eqb, ltb, leb}
+use Rattle.std.proofs.Common.{◌≡◌, ℕ, ◌+◌, ◌-◌, ◌%◌, ◌^◌, ◌<◌, ◌≤◌, suc, Bool, true, false, cond, ◌&&◌, not, eqb, ltb, leb}
 use Rattle.std.proofs.Common.{List, [], ◌∷◌, ◌++◌, length, filter, sym, refl, ap, ◌∙◌, add-one, bit_and, inl, inr, arith, w64}
 use Rattle.std.specs.List.{list_any}
 use Rattle.std.specs.Int.{bit_not}
