@@ -1,8 +1,8 @@
 -- The reports of this life came from their servers, each once.
-use Rattle.std.proofs.Common.{◌≡◌, refl, ℕ, arith, Bool, true, false, ◌&&◌, ◌||◌, ◌==◌, List, [], ◌∷◌, ◌++◌, Option, None, Some}
+use Rattle.std.proofs.Common.{◌≡◌, refl, ℕ, arith, Bool, true, false, ◌&&◌, ◌==◌, List, [], ◌∷◌, ◌++◌, Option, None, Some}
 use Rattle.std.specs.Prelude.{if◌then◌else◌, not, is_none, Contains}
 use Rattle.std.specs.List.{AllByRecursion}
-use Rattle.std.proofs.lemmas.Bool.{and_parts}
+use Rattle.std.proofs.lemmas.Bool.{and_parts, or_parts}
 use Rattle.std.proofs.lemmas.Bool.Decides.{nat_tests}
 use Rattle.std.proofs.lemmas.List.Elements.{All-contains, All-from_recursion, Contains-append_left, Contains-append_right}
 use Rattle.fc_base.specs.declared.fault.Fault.{Fault}
@@ -101,10 +101,6 @@ apart r x h =
     let s : (x.server == r.server) ≡ (r.server == x.server) = grind (arith, nat_tests) in
     let j : (x.job == r.job) ≡ (r.job == x.job) = grind (arith, nat_tests) in
     rw (a, s, j) at h
-
-or_parts : (a b : Bool) → (a || b) ≡ false → (a ≡ false) × (b ≡ false)
-or_parts true b h = cc
-or_parts false b h = (refl, h)
 
 not_in_push : (a s j : ℕ) (rs : List Received) (r : Received) → has_report a s j rs ≡ false → ((r.attempt == a) && ((r.server == s) && (r.job == j))) ≡ false
     → has_report a s j (rs ++ r ∷ []) ≡ false
