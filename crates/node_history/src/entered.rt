@@ -45,6 +45,7 @@ pub fn make_room<N: Drop, C: NodeCore<N>>(
     }
 }
 
+/// Makes that room in the history first, and then at the hub.
 fn reserve(
     history: &mut History,
     hub: &mut Hub,
