@@ -1,7 +1,7 @@
 -- How a server that isn't on is started.
 use Rattle.std.proofs.Common.{◌≡◌, refl, sym, ap, subst, inl, inr, ℕ, ◌+◌, ◌-◌, ◌^◌, ◌<◌, arith, Bool, true, false, List, ◌∷◌, Some, None, Result, Ok, Err}
-use Rattle.std.specs.Prelude.{◌⊎◌, if◌then◌else◌, nat_lt, not}
-use Rattle.std.proofs.lemmas.Bool.Decides.{nat_tests}
+use Rattle.std.specs.Prelude.{◌⊎◌, if◌then◌else◌, not}
+use Rattle.std.proofs.lemmas.Bool.{lt-ltb, le-ltb}
 use Rattle.fc_base.specs.declared.fault.Fault.{Fault}
 use Rattle.fc_base.specs.declared.fault.Fault.TheVariants.{NoMemory, LoadFault, SaveFault, BadNote, NumbersSpent, NodeOn}
 use Rattle.disk_model.specs.declared.left.Left.TheVariants as lefts
@@ -26,9 +26,6 @@ use Rattle.node_history.proofs.MoveLemmas.{refused, lost}
 
 -- ---- whether it may be
 
-lt_true : (a b : ℕ) → a < b → nat_lt a b ≡ true
-lt_true a b h = grind (arith, nat_tests)
-
 may_restart : (on boots : Bool) → on ≡ false → boots ≡ true → (if on then Some NodeOn else (if boots then None else Some NumbersSpent)) ≡ None
 may_restart false true h k = refl
 may_restart false false h k = cc
@@ -38,9 +35,6 @@ is_spent : (on boots : Bool) → on ≡ false → boots ≡ false → (if on the
 is_spent false false h k = refl
 is_spent false true h k = cc
 is_spent true boots h k = cc
-
-spent : (b : ℕ) → b ≡ 2 ^ 64 - 1 → nat_lt (b + 1) (2 ^ 64) ≡ false
-spent b h = rw h refl
 
 not_off : (b : Bool) → b ≡ false → not b ≡ true
 not_off false h = refl
@@ -52,7 +46,7 @@ left_one : SaysOneThing → (old : List ℕ) (o : Opening) (past : List FrameEnt
 left_one one old o past n read left says =
     let same = one old n (words_noted o (packets_heard o past)) read says in
     let below = subst (λ (m : Noted). m.boot < 2 ^ 64 - 1) same left in
-    lt_true (boot o (packets_heard o past) + 1) (2 ^ 64) (omega (arith, below))
+    lt-ltb (boot o (packets_heard o past) + 1) (2 ^ 64) (omega (arith, below))
 
 next_says : SaysOneThing → (old new : List ℕ) (o : Opening) (past : List FrameEntry) (n : Noted) → Says old n → n.boot < 2 ^ 64 - 1
     → Says old (words_noted o (packets_heard o past)) → new ≡ spelling (record { boot = n.boot + 1; last_run = n.last_run })
@@ -75,7 +69,8 @@ unstarted note o past notes back LoadFault one off says h = record {
 unstarted note o past notes back BadNote one off says h = absurd (h.1 (words_noted o (packets_heard o past)) says)
 unstarted note o past notes back NumbersSpent one off says h =
     refused (ways (server_kind note o)) past Restarts NumbersSpent (Off back) refl
-    (is_spent (is_up o past) (has_boot o past) off (spent (boot o (packets_heard o past)) (h.1 (words_noted o (packets_heard o past)) says))) refl
+    (is_spent (is_up o past) (has_boot o past) off (le-ltb (boot o (packets_heard o past) + 1) (2 ^ 64)
+    (omega (arith, h.1 (words_noted o (packets_heard o past)) says)))) refl
     (subst (λ (n : Note). Says n.bytes (words_noted o (packets_heard o past))) (sym h.0) says, off)
 unstarted note o past notes back NoMemory one off says h = (refl, (subst (λ (n : Note). Says n.bytes (words_noted o (packets_heard o past))) (sym h) says, off))
 unstarted note o past notes back SaveFault one off says h = half h.1
@@ -101,7 +96,7 @@ starts note o past me notes (Ok server) one is off says h =
     record {
       after = Restart lefts.Saved ∷ past;
       ends = record {
-        free = may_restart (is_up o past) (has_boot o past) off (lt_true (boot o (packets_heard o past) + 1) (2 ^ 64) stands.core.durable.boot_range);
+        free = may_restart (is_up o past) (has_boot o past) off (lt-ltb (boot o (packets_heard o past) + 1) (2 ^ 64) stands.core.durable.boot_range);
         said_is = refl;
         entry = Restart lefts.Saved;
         entry_is = refl;
