@@ -1,6 +1,6 @@
 //! What comes to a node from the hub, and what its history keeps of it.
 
-ghost use Rattle.std.specs.Prelude.{◌≡◌, ◌≤◌, ◌∷◌, [], IfOk, Err};
+ghost use Rattle.std.specs.Prelude.{◌≡◌, IfOk, Err};
 ghost use Rattle.node_history.specs.AtHub.{is_left_out, is_save, is_drop, is_frame, is_quiet, lacks_memory, told_at, Comes};
 
 use crate::answer::{CallerAnswer, Said};
