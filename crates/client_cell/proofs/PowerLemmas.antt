@@ -21,7 +21,6 @@ use Rattle.client_core.specs.FrameAnswers as answers
 use Rattle.client_core.specs.FrameAnswers.{Sense, Hears, Keeps, Drops, Misses, sense, sense_of, is_drop}
 use Rattle.client_core.specs.HeardRange.{SenseInRange, UnlessMemory, HearsInRange}
 use Rattle.client_core.specs.FrameEnds as ends
-use Rattle.client_core.specs.FrameEnds.{StandsFor}
 use Rattle.node_history.specs.declared.answer.Answer.TheVariants.{Plain}
 use Rattle.node_history.specs.declared.power.Power.TheVariants.{On}
 use Rattle.node_history.specs.ClientKind.{client_kind}

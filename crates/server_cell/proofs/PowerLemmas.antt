@@ -20,7 +20,7 @@ use Rattle.server_core.specs.FrameAnswers as answers
 use Rattle.server_core.specs.FrameAnswers.{Sense, Hears, Keeps, Drops, Misses, sense, sense_of}
 use Rattle.server_core.specs.HeardRange.{SenseInRange, UnlessMemory, HearsInRange}
 use Rattle.server_core.specs.FrameEnds as ends
-use Rattle.server_core.specs.FrameEnds.{StandsFor, is_drop}
+use Rattle.server_core.specs.FrameEnds.{is_drop}
 use Rattle.node_history.specs.declared.power.Power.TheVariants.{On}
 use Rattle.node_history.specs.Failures.{Counts}
 use Rattle.node_history.specs.Moves.{StepEnds}

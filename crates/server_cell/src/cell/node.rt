@@ -1,13 +1,11 @@
 //! A server under its lock is a node.
 
-ghost use Rattle.std.specs.Prelude.{List};
 ghost use Rattle.messages.specs.declared.node.Node.TheVariants.{Server};
 ghost use Rattle.server_core.specs.History.{Opening as ServerOpening};
 ghost use Rattle.server_core.specs.Hearing.{FrameEntry};
 ghost use Rattle.server_core.specs.declared.input.Input.{Input as ServerInput};
 ghost use Rattle.node_history.specs.ServerRules.{rules as server_rules};
 ghost use Rattle.server_cell.specs.Asks.{asks_of};
-ghost use Rattle.server_cell.specs.Cells.{IsReplay};
 
 use super::ServerCell;
 use crate::report::Report;
