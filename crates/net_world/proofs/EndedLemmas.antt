@@ -32,7 +32,7 @@ use Rattle.net_world.proofs.ConflictLemmas.{same_two}
 use Rattle.net_world.proofs.MirrorLemmas.{sent_by_mirror}
 use Rattle.net_world.proofs.PassLemmas.{kept_before, kept_was_taken}
 use Rattle.net_world.proofs.ListLemmas.{same_some}
-use Rattle.disk_model.proofs.ListLemmas.{none_in, first_or_behind}
+use Rattle.fc_base.proofs.ListLemmas.{none_in, first_or_behind}
 
 -- The laws on which this rests.
 pub record Ending : Type 0 where

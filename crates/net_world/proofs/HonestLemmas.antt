@@ -15,7 +15,7 @@ use Rattle.server_core.specs.declared.event.Event.TheVariants.{Deliver, Issue as
 use Rattle.server_core.specs.declared.event.WriteEnd.{WriteEnd}
 use Rattle.server_core.specs.declared.event.WriteEnd.TheVariants.{Done, Failed}
 use Rattle.disk_model.specs.declared.left.Left.{Left}
-use Rattle.disk_model.proofs.ListLemmas.{none_in}
+use Rattle.fc_base.proofs.ListLemmas.{none_in}
 use Rattle.server_core.specs.History.{Entry, Met, Cut, Restart}
 use Rattle.messages.specs.Nodes.{is_client, is_server}
 use Rattle.server_core.specs.Request.{ToEnd, ToNobody, request_in}
@@ -27,7 +27,7 @@ use Rattle.net_world.specs.Changes as changes
 use Rattle.net_world.specs.Changes.{Change, Landed, Rotted, trace}
 use Rattle.messages.specs.Hearing.{Comes, Happens, Meaning, Says, Waits, Spoils, Strays, meaning, heard_by, with_entry, heard}
 use Rattle.net_world.specs.Frames as frames
-use Rattle.net_world.specs.Frames.{OfServer, OfClient, OfMirror, at_server, at_client}
+use Rattle.net_world.specs.Frames.{OfServer, OfClient, OfMirror, at_server}
 use Rattle.net_world.specs.Changes.{steps}
 use Rattle.net_world.proofs.HearingLemmas.{server_with, server_by_client}
 use Rattle.server_core.specs.OpenWrites.{open_origin_of, open_origin}

@@ -1,14 +1,11 @@
 -- Elements of lists.
-use Rattle.std.proofs.Common.{◌≡◌, refl, ap, subst, ◌⊎◌, inl, inr, zero, ◌≤◌, arith, Bool, true, false, List, [], ◌∷◌, length, Option, Some}
-use Rattle.std.specs.Prelude.{Contains, map, if◌then◌else◌}
-use Rattle.std.specs.List.{AllByRecursion}
-use Rattle.std.proofs.lemmas.List.Elements.{All-contains, All-from_recursion, Contains-append_cases}
-use Rattle.std.proofs.lemmas.List.Elements.{Contains-append_left, Contains-append_right, Contains-push_cases}
+use Rattle.std.proofs.Common.{◌≡◌, ap, subst, ◌≤◌, arith, Bool, true, false, List, [], ◌∷◌, length, Option, Some}
+use Rattle.std.specs.Prelude.{Contains, if◌then◌else◌}
 use Rattle.fc_base.specs.declared.numbers.Key.{Key}
 use Rattle.fc_base.specs.Keys.{is_same_key}
 use Rattle.verify_state.specs.State.{State}
 use Rattle.state_table.specs.Kept.{kept_of}
-use Rattle.disk_model.proofs.ListLemmas.{none_in, only_in, first_or_behind, first_of, behind_one}
+use Rattle.fc_base.proofs.ListLemmas.{none_in, only_in, first_of, behind_one}
 
 -- Two that Some holds alike are the same.
 pub some_is : {X : Type 0} {x y : X} → ◌≡◌ {A = Option X} (Some x) (Some y) → x ≡ y
@@ -22,14 +19,6 @@ pub single : {X : Type 0} (xs : List X) (x : X) → length xs ≤ 1 → Contains
 single [] x h c = absurd (none_in x c)
 single (y ∷ []) x h c = let e = only_in y x c in ap (λ z. z ∷ []) e
 single (y ∷ z ∷ zs) x h c = absurd (omega (arith, h))
-
--- What is in the list of images is the image of something in the list.
-pub of_map : {X Y : Type 0} (f : X → Y) (xs : List X) (y : Y) → Contains (map f xs) y → (x : X) × Contains xs x × (f x ≡ y)
-of_map f [] y h = absurd (none_in y h)
-of_map f (x ∷ xs) y h = elim (first_or_behind (f x) (map f xs) y h) [
-  | inl e ↦ (x, first_of x xs, e)
-  | inr i ↦ let s = of_map f xs y i in (s.0, behind_one x xs s.0 s.1, s.2)
-]
 
 found_if : (b : Bool) (here : State) (states : List State) (rest : Option State) (state : State) → (rest ≡ Some state → Contains states state)
     → (if b then Some here else rest) ≡ Some state → Contains (here ∷ states) state

@@ -10,7 +10,7 @@ use Rattle.mirror_core.specs.Words.{words_noted}
 use Rattle.mirror_core.specs.Packets.{copy_of, packets}
 use Rattle.mirror_core.specs.Laws.{GoesToClient, PacketsGoToTheClient, CopiesAreNoted}
 use Rattle.net_world.proofs.TraceLemmas.{same_packet}
-use Rattle.disk_model.proofs.ListLemmas.{each_of}
+use Rattle.fc_base.proofs.ListLemmas.{each_of}
 
 pub sent_by_mirror : PacketsGoToTheClient → (o : Noted) (past : List Entry) (e : Entry) (p : PacketParts) → Contains (packets o past e) p → GoesToClient p
 sent_by_mirror goes o past e p h = each_of GoesToClient (packets o past e) p (goes o past e) h

@@ -23,7 +23,7 @@ use Rattle.messages.specs.PieceLaws.{ArePackets, OneBodyOfEachTag, AreCut, WasSe
 use Rattle.messages.specs.Hearing.{Rules, Heard, Coming, Comes, Happens, Meaning, Says, Waits, Spoils, Strays}
 use Rattle.messages.specs.Hearing.{said_by, meaning, heard_by, entry_of, rows_by, rows_of, with_entry, heard}
 use Rattle.disk_model.specs.declared.left.Left.{Left}
-use Rattle.disk_model.proofs.ListLemmas.{none_in, only_in, first_of, behind_one}
+use Rattle.fc_base.proofs.ListLemmas.{none_in, only_in, of_map, first_of, behind_one}
 use Rattle.server_core.specs.History as server
 use Rattle.client_core.specs.History as client
 use Rattle.mirror_core.specs.History as mirror
@@ -33,7 +33,6 @@ use Rattle.net_world.specs.Frames.{FrameStep, OfServer, OfClient, OfMirror, of_s
 use Rattle.net_world.specs.Frames.{frames_sent, to_of, MayHappen, is_allowed, IsFrameTrace, step_heard, trace_heard}
 use Rattle.net_world.specs.InRange.{EntryFits, StepFits, FrameStepFits, Fits, FitsFrames, SentAreInRange}
 use Rattle.net_world.specs.FrameLaws.{FramesAreOfPackets, TagsNameOneBody, OnlySentIsHeard}
-use Rattle.net_world.proofs.ListLemmas.{of_map}
 use Rattle.net_world.proofs.HearingLemmas.{packets_by, sent_with}
 use Rattle.net_world.proofs.WorldLemmas.{either_way}
 

@@ -40,7 +40,7 @@ use Rattle.net_world.proofs.ListLemmas.{found_in}
 use Rattle.net_world.proofs.MirrorLemmas.{sent_by_mirror, mirror_copies}
 use Rattle.net_world.proofs.TraceLemmas.{own_step, taken_stays, sent_cases, sent_none, sent_stays, taken_was_sent}
 use Rattle.net_world.proofs.TraceLemmas.{came_was_sent, copied_was_sent, heard_was_sent, same_packet}
-use Rattle.disk_model.proofs.ListLemmas.{none_in, first_of}
+use Rattle.fc_base.proofs.ListLemmas.{none_in, first_of}
 
 -- ---- what is sent in a State was taken
 

@@ -14,7 +14,7 @@ use Rattle.net_world.specs.FrameLaws.{FramesAreOfPackets, TagsNameOneBody, OnlyS
 use Rattle.net_world.specs.Claims.{OfEachTrace, OfEachFrameTrace, OfTheHeard}
 use Rattle.net_world.specs.Headline.{HeldIsTheTaken, PiecesHoldTheTaken}
 use Rattle.net_world.proofs.OnlySentLemmas.{IsFrameOf, frame_is, heard_fits}
-use Rattle.disk_model.proofs.ListLemmas.{first_of, behind_one}
+use Rattle.fc_base.proofs.ListLemmas.{first_of, behind_one}
 
 pub heard_is_the_taken : OnlySentIsHeard → OfEachTrace HeldIsTheTaken → OfEachFrameTrace (OfTheHeard HeldIsTheTaken)
 heard_is_the_taken heard one w t h fits = one w (trace_heard w t) (heard w t h fits)

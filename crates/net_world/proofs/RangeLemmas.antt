@@ -9,7 +9,7 @@ use Rattle.messages.specs.declared.frame.Frame.TheVariants.{Whole, Piece}
 use Rattle.messages.specs.Laws.{IsPacket}
 use Rattle.messages.specs.PieceLaws.{ArePackets}
 use Rattle.disk_model.specs.declared.left.Left.{Left}
-use Rattle.disk_model.proofs.ListLemmas.{none_in, each_of}
+use Rattle.fc_base.proofs.ListLemmas.{none_in, each_of}
 use Rattle.server_core.specs.declared.event.Event.{Event}
 use Rattle.server_core.specs.declared.event.Event.TheVariants as events
 use Rattle.server_core.specs.History as history

@@ -12,7 +12,7 @@ use Rattle.fc_base.specs.JobParts.{has_block_size, has_region, has_queue, has_pa
 use Rattle.fc_base.specs.declared.record.JobParts.{JobParts}
 use Rattle.job_file.specs.declared.job.Job.{Job}
 use Rattle.disk_model.specs.File.{block_bytes}
-use Rattle.disk_model.proofs.ListLemmas.{each_of}
+use Rattle.fc_base.proofs.ListLemmas.{each_of}
 use Rattle.recheck.specs.Expected.{expected_by}
 use Rattle.recheck.specs.Fits.{ReportsFit}
 use Rattle.messages.specs.declared.node.Node.TheVariants.{Server}
@@ -26,7 +26,6 @@ use Rattle.net_world.specs.InRange.{ReportFits}
 use Rattle.net_world.specs.Writes.{open_at}
 use Rattle.net_world.specs.Checks.{key_of, report_by, report_for, check_end, end_of_check_in}
 use Rattle.net_world.specs.Barred.{unless, is_on, unless_on, unless_off, unless_open}
-use Rattle.net_world.specs.World.{world}
 
 below : (w : Setup) (s : ℕ) (b : Bool) → nat_lt s w.servers ≡ b → (x : Option Fault) → option_or (if b then None else Some NoServer) x ≡ None
     → w.servers ≤ MAX_SERVERS → s < MAX_SERVERS

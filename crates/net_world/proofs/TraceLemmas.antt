@@ -1,8 +1,7 @@
 -- Traces: what was sent stays sent, what came was sent, and what was taken stays taken.
-use Rattle.std.proofs.Common.{◌≡◌, refl, ◌∙◌, ap, subst, ◌⊎◌, inl, inr, ℕ, arith, Bool, true, false, ◌==◌, List, [], ◌∷◌, Option, Some, None}
+use Rattle.std.proofs.Common.{◌≡◌, refl, ◌∙◌, ap, subst, ◌⊎◌, inl, inr, ℕ, Bool, true, false, ◌==◌, List, [], ◌∷◌, Option, Some, None}
 use Rattle.std.specs.Prelude.{if◌then◌else◌, nat_lt, not, ◌&&◌, ◌++◌, Contains}
 use Rattle.std.specs.List.{AllByRecursion}
-use Rattle.std.proofs.lemmas.Bool.Decides.{nat_tests}
 use Rattle.std.proofs.lemmas.List.Elements.{Contains-append_cases, Contains-append_left}
 use Rattle.std.proofs.lemmas.Bool.{eq-eqb}
 use Rattle.fc_base.specs.declared.numbers.Key.{Key}
@@ -30,7 +29,7 @@ use Rattle.net_world.specs.Setup.{Setup}
 use Rattle.net_world.specs.Trace.{Step, AtServer, AtClient, AtMirror, opening_of, client_opening, first_entry, of_server, of_client}
 use Rattle.net_world.specs.Trace.{of_mirror, packets_of, sent_packets, taken_by, node_of, WasSentTo, is_alone, is_with_mirror, IsTrace}
 use Rattle.net_world.specs.Holders.{taken_of}
-use Rattle.disk_model.proofs.ListLemmas.{none_in, behind_one, each_of}
+use Rattle.fc_base.proofs.ListLemmas.{none_in, behind_one, each_of}
 
 -- The list of a server behind a step of its own.
 pub own_step : (r s : ℕ) (e : server.Entry) (past : List Step) → r ≡ s → of_server s (AtServer r e ∷ past) ≡ e ∷ of_server s past

@@ -8,7 +8,7 @@ use Rattle.messages.specs.declared.packet.PacketParts.{PacketParts}
 use Rattle.messages.specs.declared.body.Body.TheVariants as bodies
 use Rattle.disk_model.specs.declared.left.Left.TheVariants.{Saved}
 use Rattle.disk_model.specs.Left.{is_lost}
-use Rattle.disk_model.proofs.ListLemmas.{none_in, first_or_behind, first_of, behind_one}
+use Rattle.fc_base.proofs.ListLemmas.{none_in, first_or_behind, first_of, behind_one}
 use Rattle.server_core.specs.History.{Opening, Entry, Met, Cut, Restart}
 use Rattle.server_core.specs.Request.{request_of}
 use Rattle.server_core.specs.Words.{work, last_run}
