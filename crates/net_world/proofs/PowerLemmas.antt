@@ -1,8 +1,6 @@
 -- A server's node loses its power, and is started again.
-use Rattle.std.proofs.Common.{◌≡◌, refl, sym, subst, ℕ, ◌+◌, ◌-◌, ◌^◌, ◌<◌, arith, true, false, List, Ok, Err}
-use Rattle.std.specs.Prelude.{nat_lt}
-use Rattle.std.proofs.lemmas.Bool.Decides.{nat_tests}
-use Rattle.std.proofs.lemmas.Bool.{lt-ltb}
+use Rattle.std.proofs.Common.{◌≡◌, refl, sym, subst, ℕ, ◌+◌, ◌-◌, ◌^◌, arith, List, Ok, Err}
+use Rattle.std.proofs.lemmas.Bool.{lt-ltb, le-ltb}
 use Rattle.fc_base.specs.declared.fault.Fault.{Fault}
 use Rattle.fc_base.specs.declared.fault.Fault.TheVariants.{NoMemory, LoadFault, SaveFault, BadNote, NumbersSpent}
 use Rattle.disk_model.specs.MemNotes.{Saved as Kept, note_of}
@@ -21,9 +19,6 @@ use Rattle.net_world.specs.ServerNodes.{words_noted, Stands, Restarts}
 says_same : (old new : Note) (n : Noted) → new ≡ old → Says old.bytes n → Says new.bytes n
 says_same old new n h s = subst (λ (x : Note). Says x.bytes n) (sym h) s
 
-spent : (b : ℕ) → b ≡ 2 ^ 64 - 1 → nat_lt (b + 1) (2 ^ 64) ≡ false
-spent b h = rw h refl
-
 pub restart_ok : (o : Opening) (past : List FrameEntry) (notes : Kept) (server : Server Kept) (me : ℕ) → o.me ≡ me → Stands o past (Off notes)
     → Opened note_of me notes server → Restarts o past (On server) (Ok tt)
 restart_ok o past notes server me is s h =
@@ -36,7 +31,7 @@ restart_err o past notes back LoadFault s h = absurd (omega (arith, h.0))
 restart_err o past notes back BadNote s h = absurd (h.1 (words_noted o (packets_heard o past)) s.0)
 restart_err o past notes back NumbersSpent s h = (
   s.1,
-  spent (boot o (packets_heard o past)) (h.1 (words_noted o (packets_heard o past)) s.0),
+  le-ltb (boot o (packets_heard o past) + 1) (2 ^ 64) (omega (arith, h.1 (words_noted o (packets_heard o past)) s.0)),
   (says_same (note_of notes) (note_of back) (words_noted o (packets_heard o past)) h.0 s.0, s.1),
   refl,
 )
