@@ -7,7 +7,7 @@ use Rattle.client_core.specs.declared.call.Call.TheVariants as calls
 use Rattle.client_core.specs.declared.input.Input.TheVariants as inputs
 use Rattle.client_core.specs.History as client
 use Rattle.client_core.specs.Hearing as hearing
-use Rattle.client_core.specs.Hearing.{FrameEntry, coming_of, packets_heard, heard_at}
+use Rattle.client_core.specs.Hearing.{FrameEntry, coming_of, packets_heard}
 use Rattle.client_core.specs.FrameAnswers as answers
 use Rattle.client_core.specs.Packets as packets
 use Rattle.net_world.specs.Setup.{Setup}

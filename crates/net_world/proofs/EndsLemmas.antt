@@ -44,7 +44,7 @@ use Rattle.net_world.specs.Stands.{StandsFor}
 use Rattle.net_world.specs.Ends as ends
 use Rattle.net_world.specs.Ends.{Ends, changes_after}
 use Rattle.net_world.specs.Serving as serving
-use Rattle.net_world.specs.Serving.{entries, step_of, step_by, Serves, IsBarred, Refuses as ServerRefuses, ServerEnds}
+use Rattle.net_world.specs.Serving.{entries, step_by, Serves, IsBarred, Refuses as ServerRefuses, ServerEnds}
 use Rattle.net_world.proofs.ServeLemmas.{heard_is, up_of}
 use Rattle.net_world.proofs.OutcomeLemmas.{DroppedOr, met_ok, met_err, act_is, frame_ok, frame_err}
 

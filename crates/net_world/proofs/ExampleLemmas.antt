@@ -1,5 +1,5 @@
 -- The examples, by computation.
-use Rattle.std.proofs.Common.{◌≡◌, refl, sym, ◌∙◌, subst, zero, suc, arith, List, ◌∷◌, Option, Some}
+use Rattle.std.proofs.Common.{◌≡◌, refl, sym, ◌∙◌, subst, zero, suc, arith, List, ◌∷◌, Some}
 use Rattle.fc_base.specs.declared.record.Kind.TheVariants.{Sequential}
 use Rattle.fc_base.specs.declared.record.Verify.TheVariants.{Stamp}
 use Rattle.engine.specs.Running.{Origin}

@@ -18,7 +18,6 @@ use Rattle.server_core.specs.declared.event.Event.TheVariants as events
 use Rattle.server_core.specs.declared.input.Input.{Input}
 use Rattle.server_core.specs.declared.input.Input.TheVariants as inputs
 use Rattle.server_core.specs.History as server
-use Rattle.server_core.specs.History.{Opening}
 use Rattle.server_core.specs.Words as words
 use Rattle.server_core.specs.Words.{Staged}
 use Rattle.server_core.specs.Answers as answers

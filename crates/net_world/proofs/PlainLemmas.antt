@@ -1,8 +1,7 @@
 -- What happens to a server without a frame or an answer: it is cut, and restarted.
-use Rattle.std.proofs.Common.{◌≡◌, refl, sym, ◌∙◌, ap, ℕ, ◌+◌, ◌^◌, ◌<◌, ◌≤◌, arith, Bool, true, false, List, [], ◌∷◌, length, Some, None, Ok, Err}
+use Rattle.std.proofs.Common.{◌≡◌, refl, sym, ◌∙◌, ap, ℕ, ◌+◌, ◌^◌, ◌<◌, ◌≤◌, Bool, true, false, List, [], ◌∷◌, length, Some, None, Ok, Err}
 use Rattle.std.specs.Prelude.{if◌then◌else◌, map, not, nat_lt}
 use Rattle.std.specs.Option.{option_or}
-use Rattle.std.proofs.lemmas.Bool.Decides.{nat_tests}
 use Rattle.std.proofs.lemmas.Bool.{lt-ltb, le-ltb}
 use Rattle.fc_base.specs.declared.fault.Fault.{Fault}
 use Rattle.fc_base.specs.declared.fault.Fault.TheVariants.{NoServer, NodeOn, NoMemory, NumbersSpent}
@@ -13,7 +12,7 @@ use Rattle.messages.specs.declared.refusal.Act.{Act}
 use Rattle.messages.specs.declared.refusal.Act.TheVariants as acts
 use Rattle.server_core.specs.Words as words
 use Rattle.server_core.specs.Hearing as hearing
-use Rattle.server_core.specs.Hearing.{FrameEntry, packets_heard}
+use Rattle.server_core.specs.Hearing.{FrameEntry}
 use Rattle.net_world.specs.declared.server_node.ServerNode.{ServerNode}
 use Rattle.net_world.specs.declared.told.WorldAnswer.{WorldAnswer}
 use Rattle.net_world.specs.declared.told.WorldAnswer.TheVariants.{Plain}

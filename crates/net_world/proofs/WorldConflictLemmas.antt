@@ -32,7 +32,7 @@ use Rattle.net_world.specs.Happenings.{Land, Done, Fail, Rot, Cut, Restart, Lose
 use Rattle.net_world.specs.Happenings as happenings
 use Rattle.net_world.specs.Trace.{Step, IsTrace, of_server, of_client, of_mirror, opening_of, client_opening, mirror_opening, sent_packets}
 use Rattle.net_world.specs.Frames as frames
-use Rattle.net_world.specs.Frames.{FrameStep, OfServer, OfClient, at_client, frames_sent, to_of, IsFrameTrace, trace_heard}
+use Rattle.net_world.specs.Frames.{FrameStep, at_client, frames_sent, to_of, IsFrameTrace, trace_heard}
 use Rattle.net_world.specs.InRange.{FitsFrames, SentAreInRange}
 use Rattle.net_world.specs.FrameLaws.{FramesAreOfPackets, TagsNameOneBody}
 use Rattle.net_world.specs.Passes.{NoPacketConflicts, NoCopyConflicts}

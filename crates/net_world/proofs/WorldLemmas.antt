@@ -45,7 +45,6 @@ use Rattle.net_world.specs.Outcomes.{Outcome, Does, Refuses, Drops, outcome_of_s
 use Rattle.net_world.specs.Outcomes.{met_by_client, comes_to_server, comes_to_client, comes_to_mirror, said_to_server, said_to_client, comes_to}
 use Rattle.net_world.specs.Outcomes.{delivery, end_of_write, end_of_check_met, has_boot, cut, noted_in, restart_of, client_cut_in, server_frame_cut}
 use Rattle.net_world.specs.Outcomes.{client_frame_cut, frame_cut, delivery_cut_in, restart_cut_in, cut_in}
-use Rattle.net_world.specs.World.{world}
 use Rattle.net_world.proofs.StartedLemmas.{has_mirror_of, restart_fits, renewal_fits}
 
 -- A step may come behind these: what it takes was sent, and it is one of the setup.

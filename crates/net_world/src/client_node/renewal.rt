@@ -1,6 +1,6 @@
 //! The client of a world loses its note, and is begun anew.
 
-ghost use Rattle.std.specs.Prelude.{◌≡◌, ◌≤◌, ◌∷◌, [], Bool, List, IfOk, IsTrue};
+ghost use Rattle.std.specs.Prelude.{◌≡◌, ◌≤◌, ◌∷◌, [], List, IfOk, IsTrue};
 ghost use Rattle.fc_base.specs.declared.limits.TheConstants.{MAX_SERVERS};
 ghost use Rattle.messages.specs.Ranges.{is_generation};
 ghost use Rattle.disk_model.specs.declared.left.Left.TheVariants.{Saved};

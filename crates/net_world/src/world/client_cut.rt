@@ -1,6 +1,6 @@
 //! The client of a world loses its power within a save.
 
-ghost use Rattle.std.specs.Prelude.{◌≡◌, ℕ, Bool, List, Some, slice_get};
+ghost use Rattle.std.specs.Prelude.{◌≡◌, ℕ, List, Some, slice_get};
 ghost use Rattle.messages.specs.declared.node.Node.TheVariants.{Client as OfClient};
 ghost use Rattle.net_world.specs.Setup.{Setup};
 ghost use Rattle.net_world.specs.Changes.{Change, steps};

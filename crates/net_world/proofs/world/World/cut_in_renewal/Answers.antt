@@ -1,6 +1,5 @@
 use Rattle.std.proofs.Common.{refl, sym, ◌∙◌, ap, length, append-nil, List, ℕ}
 use Rattle.std.proofs.lemmas.Result.{err_from_is_err_and}
-use Rattle.net_world.specs.declared.server_node.ServerNode.{ServerNode}
 use Rattle.net_world.specs.Happenings.{Renew, CutIn}
 use Rattle.net_world.specs.Outcomes.{lost_by}
 use Rattle.net_world.specs.Trace.{client_opening}

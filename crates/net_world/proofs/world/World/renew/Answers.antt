@@ -1,7 +1,6 @@
 use Rattle.std.proofs.Common.{refl, sym, ◌∙◌, ap, length, append-nil, List, ℕ}
 use Rattle.std.proofs.lemmas.Result.{err_from_is_err_and}
 use Rattle.disk_model.specs.declared.left.Left.TheVariants.{Saved}
-use Rattle.net_world.specs.declared.server_node.ServerNode.{ServerNode}
 use Rattle.net_world.specs.Happenings.{Renew}
 use Rattle.net_world.specs.Trace.{client_opening}
 use Rattle.net_world.specs.Sending.{sent_in}

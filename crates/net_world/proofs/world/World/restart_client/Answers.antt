@@ -1,8 +1,7 @@
-use Rattle.std.proofs.Common.{refl, sym, ◌∙◌, ap, subst, length, append-nil, arith, List, ℕ, Ok, Err}
+use Rattle.std.proofs.Common.{refl, sym, ◌∙◌, ap, subst, length, append-nil, List, ℕ, Ok, Err}
 use Rattle.std.proofs.lemmas.Result.{err_from_is_err_and}
 use Rattle.messages.specs.declared.node.Node.TheVariants.{Client}
 use Rattle.client_core.specs.Hearing as hearing
-use Rattle.net_world.specs.declared.server_node.ServerNode.{ServerNode}
 use Rattle.net_world.specs.Trace.{client_opening}
 use Rattle.net_world.specs.Happenings.{Restart}
 use Rattle.net_world.specs.ClientNodes.{Restarts}
