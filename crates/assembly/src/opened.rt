@@ -1,6 +1,6 @@
 //! How the nodes were opened, and their seats.
 
-ghost use Rattle.std.specs.Prelude.{◌≡◌, ◌≤◌, length, true, All, Decides, IfSome, IfNone};
+ghost use Rattle.std.specs.Prelude.{◌≡◌, All, Decides, IfSome, IfNone};
 ghost use Rattle.messages.specs.declared.node.Node.{Node as Name};
 ghost use Rattle.messages.specs.declared.node.Node.TheVariants.{Server, Client};
 ghost use Rattle.net_world.specs.Trace.{opening_of};

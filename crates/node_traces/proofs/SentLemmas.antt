@@ -1,21 +1,18 @@
 -- Frames that were sent in a trace are read back from their bytes.
 use Rattle.std.proofs.Common.{◌≡◌, refl, sym, ◌∙◌, ap, subst, ℕ, zero, suc, ◌<◌, arith, List, [], ◌∷◌, take, Option, Some, None}
 use Rattle.std.specs.Prelude.{All, Contains, map, slice_get}
-use Rattle.std.specs.List.{AllByRecursion, flat_map}
+use Rattle.std.specs.List.{AllByRecursion}
 use Rattle.std.specs.Option.{ForSome, option_and_then, option_map}
-use Rattle.std.proofs.lemmas.List.Elements.{All-nil, All-append, All-contains, Contains-append_left, Contains-append_right}
+use Rattle.std.proofs.lemmas.List.Elements.{All-contains}
 use Rattle.std.proofs.lemmas.Option.{slice_get-map, slice_get_within, get_or_from_slice_get}
-use Rattle.messages.specs.declared.packet.PacketParts.{PacketParts}
 use Rattle.messages.specs.declared.frame.Frame.{Frame}
 use Rattle.messages.specs.FrameBytes.{frame_at, frame_spelling}
 use Rattle.messages.specs.FrameLaws.{FramesAreRead, FramesAreReadable, IsReadable}
 use Rattle.messages.specs.Hearing.{Comes, Happens, Meaning, Says, Waits, Spoils, Strays, entry_of, heard, heard_by, meaning, with_entry}
-use Rattle.messages.specs.PieceLaws.{ArePackets}
-use Rattle.messages.specs.Pieces.{frames_of}
 use Rattle.disk_model.specs.declared.left.Left.{Left}
 use Rattle.client_core.specs.History as client
 use Rattle.net_world.specs.Setup.{without_mirror}
-use Rattle.net_world.specs.Trace.{Step, AtServer, AtClient, sent_packets}
+use Rattle.net_world.specs.Trace.{Step, AtServer, AtClient}
 use Rattle.net_world.specs.Frames.{FrameStep, OfServer, OfClient, OfMirror, of_server, of_client, at_server}
 use Rattle.net_world.specs.Frames.{at_client, frames_sent, step_heard, trace_heard, IsFrameTrace}
 use Rattle.net_world.specs.FrameLaws.{FramesAreOfPackets, OnlySentIsHeard}
