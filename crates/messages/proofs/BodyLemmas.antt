@@ -5,6 +5,7 @@ use Rattle.std.specs.Prelude.{IsTrue}
 use Rattle.std.specs.Int.{w8, w32, w64}
 use Rattle.std.proofs.lemmas.Bool.{and_parts, leb-true}
 use Rattle.std.proofs.lemmas.List.{length-append}
+use Rattle.std.proofs.lemmas.Option.{same_Some}
 use Rattle.fc_base.specs.declared.limits.TheConstants.{MAX_LISTED, MAX_TEXT}
 use Rattle.fc_base.specs.declared.report.ReportParts.{ReportParts}
 use Rattle.fc_base.specs.Report.{is_report}
@@ -127,16 +128,13 @@ length_of-limit law (CopyOk run server job) h keeps = omega arith
 length_of-limit law (Fetch generation) h keeps = omega arith
 length_of-limit law (Granted generation) h keeps = omega arith
 
-some_is : (x y : Body) → Some x ≡ Some y → x ≡ y
-some_is x y same = cc
-
 -- What was read as a whole body is in its ranges.
 pub whole_some : (bytes : List ℕ) (o : Option Body) (b : Body) → whole bytes o ≡ Some b → (o ≡ Some b) × (is_whole bytes b ≡ true)
 whole_some bytes None b e = absurd cc
 whole_some bytes (Some x) b e = pick (is_whole bytes x) refl e
   where
     pick : (test : Bool) → is_whole bytes x ≡ test → (if test then Some x else None) ≡ Some b → (Some x ≡ Some b) × (is_whole bytes b ≡ true)
-    pick true is same = (same, subst (λ (y : Body). is_whole bytes y ≡ true) (some_is x b same) is)
+    pick true is same = (same, subst (λ (y : Body). is_whole bytes y ≡ true) (same_Some x b same) is)
     pick false is same = absurd cc
 
 pub body_at-in_range : (k : PacketKind) (bytes : List ℕ) (b : Body) → body_at k bytes ≡ Some b → is_body b ≡ true

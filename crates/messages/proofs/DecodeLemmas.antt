@@ -2,6 +2,7 @@
 use Rattle.std.proofs.Common.{◌≡◌, inl, inr, ℕ, Bool, true, false, Option, Some, None, Ok, Err, if◌then◌else◌, List, drop, refl, sym, subst, ap, ◌∙◌}
 use Rattle.std.specs.Prelude.{◌==◌, nat_lt}
 use Rattle.std.specs.Option.{option_map}
+use Rattle.std.proofs.lemmas.Option.{same_Some}
 use Rattle.fc_base.specs.declared.fault.Fault.{Fault}
 use Rattle.messages.specs.declared.body.Body.{Body}
 use Rattle.messages.specs.declared.kind.PacketKind.{PacketKind}
@@ -20,17 +21,14 @@ use Rattle.messages.proofs.BodyLemmas.{body_at-in_range}
 abbrev pub packet_of : Header PacketKind → Body → PacketParts
 packet_of h b = record { from = h.ends.from; to = h.ends.to; body = b }
 
-some_node : (x y : Node) → Some x ≡ Some y → x ≡ y
-some_node x y e = cc
-
 pub node_in_range : (n : ℕ) (node : Node) → node_numbered n ≡ Some node → is_node node ≡ true
 node_in_range n node e = pick (nat_lt n 8) refl (n == 8) (n == 9) e
   where
     pick : (below : Bool) → nat_lt n 8 ≡ below → (client last : Bool)
         → (if below then Some (Server n) else if client then Some Client else if last then Some Mirror else None) ≡ Some node → is_node node ≡ true
-    pick true b client last same = rw (← some_node (Server n) node same) b
-    pick false b true last same = rw (← some_node Client node same) refl
-    pick false b false true same = rw (← some_node Mirror node same) refl
+    pick true b client last same = rw (← same_Some (Server n) node same) b
+    pick false b true last same = rw (← same_Some Client node same) refl
+    pick false b false true same = rw (← same_Some Mirror node same) refl
     pick false b false false same = absurd cc
 
 pub packet_in_range : (h : Header PacketKind) (bytes : List ℕ) (b : Body) → HeaderIs kind_numbered body_limit (Ok h) bytes
@@ -61,14 +59,11 @@ pub answers_body : (h : Header PacketKind) (f : Fault) (bytes : List ℕ) → He
     → Reads (Err f) (body_at h.kind (drop 16 bytes)) → Answers (Err f) bytes
 answers_body h f bytes told reads = no_body h f bytes told (body_at h.kind (drop 16 bytes)) refl reads
 
-same_packet : (p q : PacketParts) → Some p ≡ Some q → p ≡ q
-same_packet p q e = cc
-
 -- What is read is said so.
 pub says : OnlyPacketsAreRead → (bytes : List ℕ) (p : PacketParts) → IsBytes bytes → Answers (Ok p) bytes → Says bytes p
 says law bytes p fits answer =
     let found = law bytes fits answer.0 in
-    subst (Says bytes) (same_packet found.0 p (sym found.1 ∙ answer.1)) found.2
+    subst (Says bytes) (same_Some found.0 p (sym found.1 ∙ answer.1)) found.2
 
 -- What isn't read of a body isn't read of what is made of it.
 pub reads_mapped : {X Y : Type 0} (f : X → Y) (fault : Fault) (said : Option X) (fits : Bool) → fits ≡ true → Reads {X = X} (Err fault) said

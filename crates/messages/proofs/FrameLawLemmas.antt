@@ -6,6 +6,7 @@ use Rattle.std.specs.Option.{option_map, option_and_then}
 use Rattle.std.proofs.lemmas.Bool.{eqb-true, and_parts, leb-true, ltb-true}
 use Rattle.std.proofs.lemmas.Bool.Decides.{nat_tests}
 use Rattle.std.proofs.lemmas.List.{length-append, append-nil, nil_from_length}
+use Rattle.std.proofs.lemmas.Option.{same_Some}
 use Rattle.fc_base.specs.declared.limits.TheConstants.{MAX_JOBS, MAX_SERVERS}
 use Rattle.fc_base.specs.declared.fault.Fault.TheVariants.{FrameBadField}
 use Rattle.fc_base.specs.Faults.{when}
@@ -270,15 +271,12 @@ not_a_piece k e =
     let both_ways = sym (kind_again k) ∙ ap kind_numbered e ∙ no_packet_kind in
     absurd cc
 
-some_piece : (x y : Frame) → Some x ≡ Some y → x ≡ y
-some_piece x y h = cc
-
 -- Frames with one spelling are one frame.
 one_frame : ReadsBack → (f g : Frame) → IsFrame f → IsFrame g → frame_spelling f ≡ frame_spelling g → numbers_in_front f ≡ numbers_in_front g → f ≡ g
 one_frame law (Whole p) (Whole q) hp hq e front = ap (λ x. Whole x) (none_begins_another law p q [] hp hq (append-nil (spelling p) ∙ e)).1
 one_frame law (Whole p) (Piece q) hp hq e front = absurd (not_a_piece (kind_of p.body) (ap (λ (ns : List ℕ). slice_index ns 3) front))
 one_frame law (Piece p) (Whole q) hp hq e front = absurd (not_a_piece (kind_of q.body) (ap (λ (ns : List ℕ). slice_index ns 3) (sym front)))
-one_frame law (Piece p) (Piece q) hp hq e front = some_piece (Piece p) (Piece q) (sym (piece_read p hp).1 ∙ ap frame_at e ∙ (piece_read q hq).1)
+one_frame law (Piece p) (Piece q) hp hq e front = same_Some (Piece p) (Piece q) (sym (piece_read p hp).1 ∙ ap frame_at e ∙ (piece_read q hq).1)
 
 pub no_frame_begins_another : ReadsBack → NoFrameBeginsAnother
 no_frame_begins_another law f g more hf hg e =

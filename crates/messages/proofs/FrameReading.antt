@@ -4,6 +4,7 @@ use Rattle.std.proofs.Common.{Err, if◌then◌else◌, List, [], length, drop, 
 use Rattle.std.specs.Prelude.{slice_index, nat_le, IfOk}
 use Rattle.std.specs.Option.{option_and_then}
 use Rattle.std.proofs.lemmas.Bool.Decides.{nat_tests}
+use Rattle.std.proofs.lemmas.Option.{same_Some}
 use Rattle.fc_base.specs.declared.fault.Fault.{Fault}
 use Rattle.messages.specs.declared.kind.PacketKind.{PacketKind}
 use Rattle.messages.specs.declared.piece.Tag.{Tag}
@@ -95,13 +96,10 @@ frame_answers h bytes body told is r reads =
 
 -- What is read is said so, and goes whole only where it is short.
 
-same_frame : (f g : Frame) → Some f ≡ Some g → f ≡ g
-same_frame f g e = cc
-
 pub says_frame : OnlyFramesAreRead → (bytes : List ℕ) → IsBytes bytes → (r : Result Frame Fault) → FrameAnswers r bytes → IfOk r (SaysFrame bytes)
 says_frame law bytes fits (Ok f) answer =
     let found = law bytes fits answer.0 in
-    subst (SaysFrame bytes) (same_frame found.0 f (sym found.1 ∙ answer.1)) found.2
+    subst (SaysFrame bytes) (same_Some found.0 f (sym found.1 ∙ answer.1)) found.2
 says_frame law bytes fits (Err g) answer = tt
 
 short_of : (bytes : List ℕ) (f : Frame) → SaysFrame bytes f → IsShort f

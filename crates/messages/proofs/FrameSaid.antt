@@ -6,6 +6,7 @@ use Rattle.std.specs.Option.{option_map}
 use Rattle.std.proofs.lemmas.Bool.{eqb-true, cases_Bool, leb-true}
 use Rattle.std.proofs.lemmas.Bool.Decides.{nat_tests}
 use Rattle.std.proofs.lemmas.List.{length-drop}
+use Rattle.std.proofs.lemmas.Option.{same_Some}
 use Rattle.fc_base.specs.declared.fault.Fault.TheVariants.{FrameBadField}
 use Rattle.fc_base.specs.Faults.{when}
 use Rattle.messages.specs.declared.body.Body.{Body}
@@ -130,9 +131,6 @@ whole_faults bytes k p none kind_is is =
     none_left (header_faults is_packet_kind body_limit bytes) (when (is_none (packet_at bytes)) FrameBadField) (clean is_packet_kind body_limit bytes packet)
     (passes (is_none (packet_at bytes)) FrameBadField (ap is_none is))
 
-same_packet : (p q : PacketParts) → Some p ≡ Some q → p ≡ q
-same_packet p q e = cc
-
 packet_is : (bytes : List ℕ) (k : PacketKind) (from to : Node) (b : Body) → kind_numbered (header_at 3 bytes) ≡ Some k
     → node_numbered (header_at 4 bytes) ≡ Some from → node_numbered (header_at 5 bytes) ≡ Some to
     → body_at k (drop 16 bytes) ≡ Some b → packet_at bytes ≡ Some (record { from = from; to = to; body = b })
@@ -151,7 +149,7 @@ whole_says law spell says only bytes fits none k from to f sort_is from_is to_is
     let is : packet_at bytes ≡ Some p = packet_is bytes k from to body.0 kind from_is to_is body.1 in
     let found = only bytes fits (whole_faults bytes k p none kind is) in
     let short = short_body law spell says k (drop 16 bytes) body.0 (bytes_drop 16 bytes fits) body.1 (leb-true (length (drop 16 bytes)) CHUNK_LIMIT part.0) in
-    subst (SaysFrame bytes) body.2 (subst (Says bytes) (same_packet found.0 p (sym found.1 ∙ is)) found.2, short)
+    subst (SaysFrame bytes) body.2 (subst (Says bytes) (same_Some found.0 p (sym found.1 ∙ is)) found.2, short)
 
 -- A piece is spelled by the bytes.
 

@@ -1,6 +1,7 @@
 -- Tags that pass the test are the same.
-use Rattle.std.proofs.Common.{◌≡◌, refl, sym, ◌∙◌, ap, ℕ, true, ◌==◌, Some}
+use Rattle.std.proofs.Common.{◌≡◌, refl, sym, ◌∙◌, ap, ℕ, true, ◌==◌}
 use Rattle.std.proofs.lemmas.Bool.{eq-eqb, eqb-true, and_parts}
+use Rattle.std.proofs.lemmas.Option.{same_Some}
 use Rattle.messages.specs.declared.kind.PacketKind.{PacketKind}
 use Rattle.messages.specs.Kinds.{number_of, kind_numbered}
 use Rattle.messages.proofs.ChoiceLemmas.{kind_again}
@@ -18,11 +19,8 @@ is_tag_self t =
       eq-eqb t.length t.length refl,
     ) refl
 
-some_kind : (a b : PacketKind) → Some a ≡ Some b → a ≡ b
-some_kind a b h = cc
-
 pub same_kind : (a b : PacketKind) → number_of a ≡ number_of b → a ≡ b
-same_kind a b h = some_kind a b (sym (kind_again a) ∙ ap kind_numbered h ∙ kind_again b)
+same_kind a b h = same_Some a b (sym (kind_again a) ∙ ap kind_numbered h ∙ kind_again b)
 
 make_tag : PacketKind → ℕ → ℕ → ℕ → ℕ → ℕ → Tag
 make_tag w r n s j l = record { whole = w; run = r; number = n; server = s; job = j; length = l }

@@ -4,6 +4,7 @@ use Rattle.std.specs.Prelude.{◌==◌, nat_le, slice_index}
 use Rattle.std.specs.Option.{option_map, option_and_then}
 use Rattle.std.proofs.lemmas.Bool.{eqb-true, leb-true, and_parts}
 use Rattle.std.proofs.lemmas.List.{length-drop, nil_from_length}
+use Rattle.std.proofs.lemmas.Option.{same_Some}
 use Rattle.fc_base.specs.declared.report.ReportEnd.{ReportEnd}
 use Rattle.messages.specs.declared.body.Body.{Body}
 use Rattle.messages.specs.declared.body.Body.TheVariants.{Jobs, JobsOk, Start, Started, Trigger, State, NoState, StateAck, Stop, Stopped}
@@ -48,9 +49,6 @@ record Told (k : PacketKind) (bytes : List ℕ) (b : Body) : Type 0 where
   pub tail : takes_all b (length bytes) ≡ true → is_old k bytes ≡ false → tail_of b ≡ drop (size (layout k)) bytes
   pub keeps : KeepsState b
 
-some_body : (x y : Body) → Some x ≡ Some y → x ≡ y
-some_body x y e = cc
-
 no_tail : (n : ℕ) (bytes : List ℕ) → n + 0 ≡ length bytes → [] ≡ drop n bytes
 no_tail n bytes e = sym (nil_from_length (drop n bytes) (omega (arith, length-drop n bytes)))
 
@@ -63,7 +61,7 @@ plain : (k : PacketKind) (bytes : List ℕ) (x b : Body) → Some x ≡ Some b �
 plain k bytes x b e kind same none keeps exact =
     let whole : takes_all x (length bytes) ≡ true → size (layout k) + 0 ≡ length bytes =
     λ all. ap (λ (j : PacketKind). size (layout j) + 0) (sym kind) ∙ ap (λ (t : List ℕ). size (layout (kind_of x)) + length t) (sym none) ∙ exact all in
-    subst (λ (y : Body). Told k bytes y) (some_body x b e) (record {
+    subst (λ (y : Body). Told k bytes y) (same_Some x b e) (record {
       kind = kind;
       numbers = same;
       long = λ all. omega (arith, whole all);
@@ -104,7 +102,7 @@ whole_text n bytes e = omega (arith, eqb-true (n + length (drop n bytes)) (lengt
 told : IsSpelled → SaysAState → (k : PacketKind) (bytes : List ℕ) (b : Body) → IsBytes bytes
     → body_of k (numbers (layout k) bytes) (drop (size (layout k)) bytes) ≡ Some b → Told k bytes b
 told law says kinds.Jobs bytes b fits e =
-    subst (λ (y : Body). Told kinds.Jobs bytes y) (some_body (Jobs _ (drop 8 bytes)) b e)
+    subst (λ (y : Body). Told kinds.Jobs bytes y) (same_Some (Jobs _ (drop 8 bytes)) b e)
     (record { kind = refl; numbers = refl; long = λ all. whole_text 8 bytes all; tail = λ all other. refl; keeps = tt })
 told law says kinds.JobsOk bytes b fits e = plain kinds.JobsOk bytes (JobsOk _ _) b e refl refl refl tt (λ all. eqb-true _ _ all)
 told law says kinds.Start bytes b fits e = plain kinds.Start bytes (Start _) b e refl refl refl tt (λ all. eqb-true _ _ all)
@@ -125,7 +123,7 @@ told law says kinds.StateAck bytes b fits e = plain kinds.StateAck bytes (StateA
 told law says kinds.Stop bytes b fits e = plain kinds.Stop bytes (Stop _) b e refl refl refl tt (λ all. eqb-true _ _ all)
 told law says kinds.Stopped bytes b fits e = plain kinds.Stopped bytes (Stopped _) b e refl refl refl tt (λ all. eqb-true _ _ all)
 told law says kinds.Verify bytes b fits e =
-    subst (λ (y : Body). Told kinds.Verify bytes y) (some_body (Verify _ _ (drop 16 bytes)) b e)
+    subst (λ (y : Body). Told kinds.Verify bytes y) (same_Some (Verify _ _ (drop 16 bytes)) b e)
     (record { kind = refl; numbers = refl; long = λ all. whole_text 16 bytes all; tail = λ all other. refl; keeps = tt })
 told law says kinds.WantState bytes b fits e = plain kinds.WantState bytes (WantState _ _ _) b e refl refl refl tt (λ all. eqb-true _ _ all)
 told law says kinds.Saved bytes b fits e =
