@@ -3,6 +3,7 @@ use Rattle.std.proofs.Common.{◌≡◌, refl, sym, ◌∙◌, ap, subst, ◌⊎
 use Rattle.std.proofs.Common.{◌||◌, List, [], ◌∷◌, Option, Some, None, Result, Ok, Err}
 use Rattle.std.specs.Prelude.{map, not, if◌then◌else◌}
 use Rattle.std.specs.Option.{option_map}
+use Rattle.std.proofs.lemmas.Option.{same_Some}
 use Rattle.fc_base.specs.declared.fault.Fault.{Fault}
 use Rattle.fc_base.specs.declared.fault.Fault.TheVariants.{NodeOff, NodeOn}
 use Rattle.fc_base.specs.declared.fault.FaultSort.{FaultSort}
@@ -38,9 +39,6 @@ free_core : (up : Bool) (x : Option Fault) → (if up then x else Some NodeOff) 
 free_core true x h = h
 free_core false x h = cc
 
-pub some_is : {X : Type 0} (x y : X) → Some x ≡ Some y → x ≡ y
-some_is x y h = cc
-
 -- What an event adds: an entry of what was asked, whose frames it sends.
 pub record Adds {E X : Type 0} (c : CoreRules E X) (IsAsked : Ask E → X → Type 0) (past : List X) (ask : Ask E)
     (sent : List (List ℕ)) (after : List X) : Type 0 where
@@ -71,14 +69,14 @@ pub record Known {E X : Type 0} (c : CoreRules E X) (IsAsked : Ask E → X → T
 pub lost_met : {E X D : Type 0} {c : CoreRules E X} {IsAsked : Ask E → X → Type 0} (past : List X) (e : E) (made entry : X) (x : Option D)
     → IsLost c IsAsked past (Meets e) made → option_map (λ addition. made) x ≡ Some entry → IsLost c IsAsked past (Meets e) entry
 lost_met past e made entry None h is = cc
-lost_met {c = c} {IsAsked = IsAsked} past e made entry (Some addition) h is = subst (IsLost c IsAsked past (Meets e)) (some_is made entry is) h
+lost_met {c = c} {IsAsked = IsAsked} past e made entry (Some addition) h is = subst (IsLost c IsAsked past (Meets e)) (same_Some made entry is) h
 
 accepted : {E X : Type 0} {c : CoreRules E X} {IsAsked : Ask E → X → Type 0} → Known c IsAsked → (past : List X) (ask : Ask E) (entry : X)
     → refusal c past ask ≡ None → added_entry c past ask ≡ Some entry → IsAsked ask entry
 accepted {c = c} {IsAsked = IsAsked} k past (Meets e) entry free is =
-    subst (IsAsked (Meets e)) (some_is (c.answered past e) entry is) (k.answered past e (free_core (c.is_up past) (c.refusal past e) free))
-accepted {c = c} {IsAsked = IsAsked} k past Cuts entry free is = subst (IsAsked Cuts) (some_is c.cut entry is) k.cut
-accepted {c = c} {IsAsked = IsAsked} k past Restarts entry free is = subst (IsAsked Restarts) (some_is c.started entry is) k.started
+    subst (IsAsked (Meets e)) (same_Some (c.answered past e) entry is) (k.answered past e (free_core (c.is_up past) (c.refusal past e) free))
+accepted {c = c} {IsAsked = IsAsked} k past Cuts entry free is = subst (IsAsked Cuts) (same_Some c.cut entry is) k.cut
+accepted {c = c} {IsAsked = IsAsked} k past Restarts entry free is = subst (IsAsked Restarts) (same_Some c.started entry is) k.started
 accepted k past Nothing entry free is = cc
 
 lost_save : {E X : Type 0} {c : CoreRules E X} {IsAsked : Ask E → X → Type 0} → Known c IsAsked → (past : List X) (ask : Ask E) (landed : Bool) (entry : X)

@@ -4,7 +4,7 @@ use Rattle.std.specs.Prelude.{All, Contains, map, slice_get}
 use Rattle.std.specs.List.{AllByRecursion}
 use Rattle.std.specs.Option.{ForSome, option_and_then, option_map}
 use Rattle.std.proofs.lemmas.List.Elements.{All-contains}
-use Rattle.std.proofs.lemmas.Option.{slice_get-map, slice_get_within, get_or_from_slice_get}
+use Rattle.std.proofs.lemmas.Option.{slice_get-map, slice_get_within, get_or_from_slice_get, same_Some}
 use Rattle.messages.specs.declared.frame.Frame.{Frame}
 use Rattle.messages.specs.FrameBytes.{frame_at, frame_spelling}
 use Rattle.messages.specs.FrameLaws.{FramesAreRead, FramesAreReadable, IsReadable}
@@ -82,9 +82,6 @@ among_first (f ∷ fs) zero i bytes l h = absurd (omega (arith, l))
 among_first (f ∷ fs) (suc count) zero bytes l h = h
 among_first (f ∷ fs) (suc count) (suc i) bytes l h = among_first fs count i bytes (omega (arith, l)) h
 
-some_is : (x y : Frame) → Some x ≡ Some y → x ≡ y
-some_is x y h = cc
-
 read_at : FramesAreRead → (frames : List Frame) (i : ℕ) (bytes : List ℕ) (x : Option Frame) → All IsReadable frames → slice_get frames i ≡ x
     → option_map frame_spelling x ≡ Some bytes → (f : Frame) → frame_at bytes ≡ Some f → Contains frames f
 read_at read frames i bytes None all at is f says = cc
@@ -93,7 +90,7 @@ read_at read frames i bytes (Some g) all at is f says =
     let fit = All-contains IsReadable frames g all there in
     let spelled = same (frame_spelling g) is in
     let again : frame_at bytes ≡ Some g = subst (λ (b : List ℕ). frame_at b ≡ Some g) spelled (read g fit.in_range fit.is_short).1 in
-    subst (Contains frames) (some_is g f (sym again ∙ says)) there
+    subst (Contains frames) (same_Some g f (sym again ∙ says)) there
   where
     same : (other : List ℕ) → Some other ≡ Some bytes → other ≡ bytes
     same other h = cc

@@ -4,6 +4,7 @@ use Rattle.std.proofs.Common.{false, ◌&&◌, List, [], Option, Some, None}
 use Rattle.std.specs.Prelude.{Contains, IsTrue, if◌then◌else◌}
 use Rattle.std.specs.List.{flat_map}
 use Rattle.std.proofs.lemmas.Bool.{eqb-true}
+use Rattle.std.proofs.lemmas.Option.{same_Some}
 use Rattle.fc_base.specs.declared.fault.Fault.{Fault}
 use Rattle.fc_base.specs.declared.fault.Fault.TheVariants.{Down, Misdirected, NumbersSpent}
 use Rattle.fc_base.specs.declared.report.ReportParts.{ReportParts}
@@ -46,7 +47,7 @@ use Rattle.net_world.specs.Frames.{OfServer, MayHappen, to_of}
 use Rattle.net_world.specs.InRange.{FrameStepFits}
 use Rattle.node_traces.specs.Marks.{frame_of}
 use Rattle.node_traces.proofs.RefusalLemmas.{CameOf, MayNot, MayPass, no_pass}
-use Rattle.node_traces.proofs.AddLemmas.{IsLost, Known, Quiet, lost_met, lost_of, some_is, strays}
+use Rattle.node_traces.proofs.AddLemmas.{IsLost, Known, Quiet, lost_met, lost_of, strays}
 
 -- ---- a frame that isn't refused is for the server
 
@@ -133,7 +134,7 @@ lost_start : (o : Opening) (past : List FrameEntry) (landed : Bool) (entry : Fra
     → IsLost (core o) (IsAsked o) past Restarts entry
 unfolding IsAsked
 lost_start o past landed entry is =
-    subst (IsLost (core o) (IsAsked o) past Restarts) (some_is (Restart (left_by landed)) entry is) (record { silent = refl; is_asked = tt })
+    subst (IsLost (core o) (IsAsked o) past Restarts) (same_Some (Restart (left_by landed)) entry is) (record { silent = refl; is_asked = tt })
 
 no_drop : (boots : Bool) → MayNot (if boots then None else Some NumbersSpent)
 no_drop true = inl refl
