@@ -1,6 +1,6 @@
 //! The words behind a command's own.
 
-ghost use Rattle.std.specs.Prelude.{◌≡◌, ℕ, [], ◌==◌, length, MatchOption, min, ◌-◌, ◌^◌};
+ghost use Rattle.std.specs.Prelude.{◌≡◌, ℕ, ◌==◌, length, ◌-◌};
 ghost use Rattle.std.specs.Option.{option_map};
 ghost use Rattle.messages.specs.declared.node.Node.{Node as ANode};
 ghost use Rattle.net_script.specs.declared.line.ScriptLine.{ScriptLine as ALine};

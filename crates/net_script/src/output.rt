@@ -1,6 +1,6 @@
 //! Lines as they are printed.
 
-ghost use Rattle.std.specs.Prelude.{◌≡◌, Some};
+ghost use Rattle.std.specs.Prelude.{Some};
 
 use messages::{FrameLook, Node};
 use std::fmt;

@@ -1,16 +1,13 @@
 //! What is told of what happens, as it is printed.
 
-ghost use Rattle.std.specs.Prelude.{◌≡◌, ◌+◌, ◌++◌, [], ◌∷◌, ℕ, List, Some, None, length, map, take, drop, decimal, IfSome, IfOk, OnOk, slice_get};
+ghost use Rattle.std.specs.Prelude.{◌≡◌, ◌+◌, ◌++◌, ◌∷◌, ℕ, List, Some, length, IfSome, OnOk, slice_get};
 ghost use Rattle.std.specs.List.{flat_map};
-ghost use Rattle.std.specs.Option.{option_copied};
 ghost use Rattle.std.specs.Io.KnownBytes.{Appends};
 ghost use Rattle.messages.specs.declared.frame.Frame.{Frame};
 ghost use Rattle.messages.specs.Looks.{LooksAtFrames};
 ghost use Rattle.net_world.specs.Sending.{sent_in};
 ghost use Rattle.printed.specs.Words.{with_line_feed};
-ghost use Rattle.printed.specs.Reports.{end_words, block_words};
-ghost use Rattle.net_script.specs.Printed.{answer_line, answer_words, issue_words, has_faults, act_lines, sent_lines};
-ghost use Rattle.printed.specs.Words.{blank_before};
+ghost use Rattle.net_script.specs.Printed.{answer_line, has_faults, act_lines, sent_lines};
 ghost use Rattle.net_script.specs.Told.{AreBytesOf};
 
 use crate::output::{CutLine, FrameLine};
