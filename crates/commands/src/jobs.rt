@@ -2,8 +2,6 @@
 
 ghost use Rattle.std.specs.Prelude.{◌≡◌, ◌⊎◌, ◌+◌, IfOk, OnOk, IfSome, string_bytes};
 ghost use Rattle.std.specs.Io.KnownBytes.{Appends};
-ghost use Rattle.printed.specs.Words.{with_line_feed};
-ghost use Rattle.printed.specs.Refusals.{refusal_line};
 ghost use Rattle.bounded_input.specs.Input.{HasRead};
 ghost use Rattle.commands.specs.Answer.{AnswersText, WritesLinesOf, WritesRefusalOf};
 

@@ -1,10 +1,7 @@
 //! `fiocut world`: a script in, what comes of it out.
 
-ghost use Rattle.std.specs.Prelude.{◌≡◌, OnOk, IfOk, IfSome};
+ghost use Rattle.std.specs.Prelude.{IfOk, IfSome};
 ghost use Rattle.std.specs.Io.Buffered.{writer_contents};
-ghost use Rattle.std.specs.Io.KnownBytes.{Appends};
-ghost use Rattle.printed.specs.Words.{with_line_feed};
-ghost use Rattle.printed.specs.Refusals.{plain, refusal_line};
 ghost use Rattle.commands.specs.World.{AnswersScript, RefusesScript};
 
 use fc_base::Fault;

@@ -1,6 +1,6 @@
 //! A disk is checked.
 
-ghost use Rattle.std.specs.Prelude.{◌≡◌, ◌<◌, ℕ, Some, IfOk, IsTrue, length, filter};
+ghost use Rattle.std.specs.Prelude.{◌≡◌, ◌<◌, ℕ, Some, IfOk, length, filter};
 ghost use Rattle.std.specs.List.{range_with_len};
 ghost use Rattle.recheck.specs.Disk.{held_by};
 ghost use Rattle.recheck.specs.Expected.{expected_by};
