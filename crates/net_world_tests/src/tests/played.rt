@@ -19,7 +19,7 @@ pub enum Change {
 }
 
 /// What a change leaves of a story. No report but that of the whole story is ever sent.
-#[derive(Clone, Copy, PartialEq, Eq)]
+#[derive(Clone, Copy, Debug, PartialEq, Eq)]
 pub enum Leaves {
     /// The world as it is without the change.
     Same,

@@ -2,7 +2,7 @@
 
 use std::alloc::AllocError;
 
-#[derive(Clone, Copy, PartialEq, Eq)]
+#[derive(Clone, Copy, Debug, PartialEq, Eq)]
 pub enum Trouble {
     /// Memory ran out, twice.
     NoMemory,

@@ -7,7 +7,7 @@ use core_stories::{Life, NONE_FAILS, Trouble, failing_notes};
 use std::alloc::Global;
 
 /// Where a stage isn't as it says, or a packet isn't answered as its row says.
-#[derive(Clone, Copy)]
+#[derive(Clone, Copy, Debug)]
 pub struct Unlike {
     pub stage: &'static str,
     pub row: &'static str,

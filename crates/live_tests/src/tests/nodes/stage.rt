@@ -45,7 +45,7 @@ pub struct Story<'a> {
 
 /// How many rows are answered so, and how many frames are these, from the first on; and how long the
 /// histories are, and how many entries of the server's each of its two seats has.
-#[derive(Clone, Copy, PartialEq, Eq)]
+#[derive(Clone, Copy, Debug, PartialEq, Eq)]
 pub struct Outcome {
     pub rows: usize,
     pub frames: usize,
