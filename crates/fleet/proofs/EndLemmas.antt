@@ -8,7 +8,7 @@ use Rattle.std.proofs.lemmas.List.Elements.{All-append}
 use Rattle.fc_base.specs.Counted.{numbers_below}
 use Rattle.server_cell.specs.Cells.{ServerLog}
 use Rattle.server_core.specs.Answers.{job_of_check}
-use Rattle.server_core.specs.Check.{Check, check}
+use Rattle.server_core.specs.Check.{Check}
 use Rattle.client_core.specs.declared.received.Received.{Received}
 use Rattle.fleet.specs.declared.ends.CheckEnd.{CheckEnd}
 use Rattle.fleet.specs.Ends.{AddsEnds, AreEnds, Checks, IsEnd, IsAt, IsEndAt, jobs_of, jobs_by_server, place_of}
