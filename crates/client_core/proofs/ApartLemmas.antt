@@ -7,6 +7,7 @@ use Rattle.std.proofs.lemmas.Bool.{cases_Bool, eqb-true, ltb-true}
 use Rattle.std.proofs.lemmas.Bool.Decides.{nat_tests}
 use Rattle.fc_base.specs.Counted.{has, is_distinct}
 use Rattle.disk_model.proofs.ListLemmas.{all_weaker}
+use Rattle.client_core.proofs.HeardLemmas.{clash}
 
 -- the number is one of a generation in the list, and, where this is the last, was used
 abbrev pub Of : List ℕ → ℕ → ℕ → ℕ → Type 0
@@ -88,10 +89,6 @@ give gs g used ns one high k =
 or_true : (a b : Bool) → b ≡ true → (a || b) ≡ true
 or_true true b h = refl
 or_true false b h = h
-
-clash : (b : Bool) → b ≡ false → b ≡ true → ⊥
-clash true h g = cc
-clash false h g = cc
 
 -- a renewal with the old bytes
 pub unsaved : (gs : List ℕ) (x g used : ℕ) (ns : List ℕ) → Apart gs g used ns → Apart (x ∷ gs) g used ns

@@ -38,7 +38,7 @@ pub taken_in : (on : Bool) (peers : Peers) (n : Noted) (p : PacketParts) → ref
     → (on ≡ true) × (is_for_client peers p ≡ true) × (faults_of_body n p.body ≡ [])
 taken_in on peers n p h = no_fault on (is_for_client peers p) (faults_of_body n p.body) h
 
-clash : (b : Bool) → b ≡ false → b ≡ true → ⊥
+pub clash : (b : Bool) → b ≡ false → b ≡ true → ⊥
 clash true h g = cc
 clash false h g = cc
 

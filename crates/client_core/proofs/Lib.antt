@@ -22,7 +22,7 @@ mod MirrorLifeLemmas
 mod MirroredLemmas
 mod NoteLemmas
 mod NotedLemmas
-mod PeersLemmas
+pub mod PeersLemmas
 mod PlaceLemmas
 mod RangeLemmas
 mod ReasonLemmas

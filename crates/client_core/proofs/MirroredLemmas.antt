@@ -21,13 +21,14 @@ use Rattle.client_core.specs.declared.peers.Peers.{Peers}
 use Rattle.client_core.specs.History.{Opening, Entry, Met, Cut, Restart, Renew, Lose}
 use Rattle.client_core.specs.Note.{is_blank, new_note}
 use Rattle.client_core.specs.Refusals.{is_begun, is_of_generation, is_free_to_number, has_next, refusal_by}
-use Rattle.client_core.specs.Saves.{Addition, NextRun, NextAttempt, Keep, addition_by, addition_of, unless_refused, due_by, noted_after, is_answer}
+use Rattle.client_core.specs.Saves.{Addition, addition_by, addition_of, unless_refused, due_by, noted_after, is_answer}
 use Rattle.client_core.specs.Words.{is_on, words_noted, peers, may_renew}
 use Rattle.client_core.specs.Life.{Deed, Triggers, Stops, Hears, deeds_of, deeds_done}
 use Rattle.client_core.specs.Laws.{runs_in, attempts_in, generations, is_mirrored, NumbersAreGivenOnce}
 use Rattle.client_core.proofs.ApartLemmas.{Apart, give, lose, pass, renew, start, unsaved}
 use Rattle.client_core.proofs.FreshLemmas.{attempts_are_fresh, body_only, runs_are_fresh}
 use Rattle.client_core.proofs.NotedLemmas.{begin_faults, verify_faults}
+use Rattle.client_core.proofs.PeersLemmas.{generation_stays}
 
 on_of : (on : Bool) (more : List Fault) → slice_get (when (not on) Down ++ more) 0 ≡ None → on ≡ true
 on_of true more h = refl
@@ -48,14 +49,6 @@ of_own peers g used one h =
     let a = (and_parts (nat_lt (used + 1) (2 ^ 64)) (is_of_generation peers.mirror g (used + 1) && is_free_to_number peers.granted g) h).1 in
     let b = (and_parts (is_of_generation peers.mirror g (used + 1)) (is_free_to_number peers.granted g) a).0 in
     ltb-true (used + 1) ((g + 1) * 2 ^ 32) (in_generation peers.mirror (nat_lt 0 g) (nat_lt (used + 1) ((g + 1) * 2 ^ 32)) (some g one) b)
-
--- only a renewal changes the generation
-same_generation : (new : Bool) (d : Option Addition) (n : Noted) → (noted_after new d n).generation ≡ n.generation
-same_generation new None n = refl
-same_generation true (Some NextRun) n = refl
-same_generation true (Some NextAttempt) n = refl
-same_generation true (Some (Keep state)) n = refl
-same_generation false (Some a) n = refl
 
 either : (gs : List ℕ) (f : List Deed → List ℕ) (b : Bool) (g used : ℕ) (x y : List Deed) → Apart gs g used (f x) → Apart gs g used (f y)
     → Apart gs g used (f (if b then x else y))
@@ -187,7 +180,7 @@ holds o (Met c left ∷ past) h =
     let k = holds o past h in
     let n = words_noted o past in
     let after = words_noted o (Met c left ∷ past) in
-    let e : after.generation ≡ n.generation = same_generation (has_new left) (due_by (is_on past) (peers o past) n c) n in
+    let e : after.generation ≡ n.generation = generation_stays (has_new left) (due_by (is_on past) (peers o past) n c) n in
     record {
       runs = subst (λ g. Apart (generations past) g after.runs (runs_in (deeds_done o (Met c left ∷ past)))) (sym e)
           (run_step (generations past) (is_on past) (peers o past) n c (refusal_by (is_on past) (peers o past) n c) left (deeds_done o past) refl k.on k.runs);

@@ -22,7 +22,7 @@ use Rattle.client_core.specs.Saves.{Addition, NextRun, NextAttempt, Keep, noted_
 use Rattle.client_core.specs.Words.{is_on, has_mirror, granted_in, granted_by, granted_generations, after_grant, words_noted, due, refusal, peers}
 
 -- an addition leaves the generation
-generation_stays : (new : Bool) (d : Option Addition) (n : Noted) → (noted_after new d n).generation ≡ n.generation
+pub generation_stays : (new : Bool) (d : Option Addition) (n : Noted) → (noted_after new d n).generation ≡ n.generation
 generation_stays new None n = refl
 generation_stays true (Some NextRun) n = refl
 generation_stays true (Some NextAttempt) n = refl

@@ -1,11 +1,10 @@
 -- The reports of this life came from their servers, each once.
-use Rattle.std.proofs.Common.{◌≡◌, refl, ℕ, arith, Bool, true, false, ◌&&◌, ◌==◌, List, [], ◌∷◌, ◌++◌, Option, None, Some}
-use Rattle.std.specs.Prelude.{if◌then◌else◌, not, is_none, Contains}
+use Rattle.std.proofs.Common.{◌≡◌, refl, ℕ, arith, Bool, true, false, ◌&&◌, ◌==◌, List, [], ◌∷◌, ◌++◌, None}
+use Rattle.std.specs.Prelude.{if◌then◌else◌, not, Contains}
 use Rattle.std.specs.List.{AllByRecursion}
 use Rattle.std.proofs.lemmas.Bool.{and_parts, or_parts}
 use Rattle.std.proofs.lemmas.Bool.Decides.{nat_tests}
 use Rattle.std.proofs.lemmas.List.Elements.{All-contains, All-from_recursion, Contains-append_left, Contains-append_right}
-use Rattle.fc_base.specs.declared.fault.Fault.{Fault}
 use Rattle.messages.specs.declared.packet.PacketParts.{PacketParts}
 use Rattle.messages.specs.declared.body.Body.{Body}
 use Rattle.messages.specs.declared.body.Body.TheVariants as bodies
@@ -26,7 +25,7 @@ use Rattle.client_core.specs.Reports.{counts_for, has_report, with_report, repor
 use Rattle.client_core.specs.Packets.{packets}
 use Rattle.client_core.specs.Ranges.{packet_in, packets_come}
 use Rattle.client_core.specs.Laws.{from_server, ReportsCame, has_distinct_reports, OneReportEach}
-use Rattle.client_core.proofs.HeardLemmas.{from_own, taken_in}
+use Rattle.client_core.proofs.HeardLemmas.{from_own, none_or, taken_in}
 use Rattle.disk_model.proofs.ListLemmas.{all_append, all_weaker, one}
 
 -- a report came in one of these packets
@@ -72,10 +71,6 @@ step on servers o past (Verify run text) left true f k = k
 step on servers o past (Deliver p) left true f k =
     heard servers p.from p.to p.body (packets_come past) (life o past) (reports (life o past)) ((taken_in on servers (words_noted o past) p (f refl)).1) k
 step on servers o past Tick left true f k = k
-
-none_or : (r : Option Fault) (b : Bool) → (is_none r && b) ≡ true → r ≡ None
-none_or None b h = refl
-none_or (Some f) b h = cc
 
 all_came : (o : Opening) (past : List Entry) → AllByRecursion (Came (packets_come past)) (reports (life o past))
 all_came o [] = tt

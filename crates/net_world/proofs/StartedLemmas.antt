@@ -21,8 +21,9 @@ use Rattle.client_core.specs.History as client
 use Rattle.client_core.specs.History.{Opening, Entry}
 use Rattle.client_core.specs.Laws.{generations}
 use Rattle.client_core.specs.Note.{is_blank, new_note}
-use Rattle.client_core.specs.Saves.{Addition, NextRun, NextAttempt, Keep, due_by, noted_after}
+use Rattle.client_core.specs.Saves.{due_by, noted_after}
 use Rattle.client_core.specs.Words.{is_on, words_noted, peers, may_renew}
+use Rattle.client_core.proofs.PeersLemmas.{generation_stays}
 use Rattle.net_world.specs.Setup.{Setup}
 use Rattle.net_world.specs.Trace.{Step, AtClient, client_opening, first_entry, of_client, is_alone, is_with_mirror, is_of_setup}
 use Rattle.net_world.specs.Frames as frames
@@ -52,17 +53,10 @@ pub record IsOfGeneration (o : Opening) (list : List Entry) : Type 0 where
   pub on : is_on list ≡ true → nat_lt 0 (words_noted o list).generation ≡ true
   pub written : is_blank (words_noted o list) ≡ false → nat_lt 0 (words_noted o list).generation ≡ true
 
-same_generation : (new : Bool) (d : Option Addition) (n : Noted) → (noted_after new d n).generation ≡ n.generation
-same_generation new None n = refl
-same_generation true (Some NextRun) n = refl
-same_generation true (Some NextAttempt) n = refl
-same_generation true (Some (Keep state)) n = refl
-same_generation false (Some a) n = refl
-
 met_written : (on : Bool) (p : Peers) (n : Noted) (c : Call) (left : Left) → (on ≡ true → nat_lt 0 n.generation ≡ true)
     → (is_blank n ≡ false → nat_lt 0 n.generation ≡ true)
     → is_blank (noted_after (has_new left) (due_by on p n c) n) ≡ false → nat_lt 0 (noted_after (has_new left) (due_by on p n c) n).generation ≡ true
-met_written true p n c left f g h = ap (λ (x : ℕ). nat_lt 0 x) (same_generation (has_new left) (due_by true p n c) n) ∙ f refl
+met_written true p n c left f g h = ap (λ (x : ℕ). nat_lt 0 x) (generation_stays (has_new left) (due_by true p n c) n) ∙ f refl
 met_written false p n c left f g h = g h
 
 positive : (g : ℕ) → is_generation g ≡ true → nat_lt 0 g ≡ true
@@ -91,7 +85,7 @@ renewed_written false g n h f e = f e
 
 goes_on : (o : Opening) (e : Entry) (past : List Entry) → is_with_mirror o past e ≡ true → IsOfGeneration o past → IsOfGeneration o (e ∷ past)
 goes_on o (client.Met c left) past h s = record {
-  on = λ k. ap (λ (x : ℕ). nat_lt 0 x) (same_generation (has_new left) (due_by (is_on past) (peers o past) (words_noted o past) c) (words_noted o past))
+  on = λ k. ap (λ (x : ℕ). nat_lt 0 x) (generation_stays (has_new left) (due_by (is_on past) (peers o past) (words_noted o past) c) (words_noted o past))
       ∙ s.on (and_parts (is_on past) (not (is_lost left)) k).0;
   written = met_written (is_on past) (peers o past) (words_noted o past) c left s.on s.written;
 }
