@@ -1,5 +1,5 @@
 -- How a cut of the client within a save ends, as an event of a world.
-use Rattle.std.proofs.Common.{◌≡◌, refl, sym, ◌∙◌, ap, ℕ, Bool, true, false, ◌&&◌, List, [], length, Option, Some, None, Ok, Err}
+use Rattle.std.proofs.Common.{◌≡◌, refl, sym, ◌∙◌, ap, ℕ, Bool, true, false, List, [], length, Some, None, Ok, Err}
 use Rattle.std.specs.Prelude.{if◌then◌else◌, is_some, is_none}
 use Rattle.std.specs.List.{flat_map}
 use Rattle.fc_base.specs.declared.fault.Fault.{Fault}
@@ -12,7 +12,6 @@ use Rattle.messages.specs.declared.frame.Frame.{Frame}
 use Rattle.messages.specs.declared.frame.Frame.TheVariants.{Whole, Piece}
 use Rattle.messages.specs.declared.node.Node.TheVariants.{Client}
 use Rattle.messages.specs.declared.refusal.Act.TheVariants as acts
-use Rattle.client_core.specs.Saves.{Addition, is_answer}
 use Rattle.client_core.specs.History as client
 use Rattle.client_core.specs.Life.{life}
 use Rattle.client_core.specs.Packets.{packets_for}
@@ -44,11 +43,11 @@ use Rattle.net_world.specs.ClientNodes.{client_nodes}
 use Rattle.net_world.specs.Stands.{StandsFor}
 use Rattle.net_world.specs.Ends.{Ends}
 use Rattle.net_world.specs.Asking.{entries, step_of}
-use Rattle.net_world.proofs.EndsLemmas.{goes, stops, refuses, some_save, no_save}
+use Rattle.net_world.proofs.EndsLemmas.{GoesTo, frame_bar, goes, stops, refuses, some_save, no_save, no_answer}
 use Rattle.net_world.proofs.AskLemmas.{up_is, HasMoved, client_kept}
 use Rattle.net_world.proofs.ClientPlainLemmas.{plain_ends}
 use Rattle.net_world.proofs.ClientHeardLemmas.{heard_is, frames_are}
-use Rattle.net_world.proofs.ClientFrameLemmas.{GoesTo, frame_bar, said_is}
+use Rattle.net_world.proofs.ClientFrameLemmas.{said_is}
 use Rattle.net_world.proofs.AskEndsLemmas.{client_act}
 
 -- Within the save of this the client loses its power: it is barred as what the client meets, and comes of
@@ -89,13 +88,6 @@ uncut_ends w past landed e i NoMemory old new stands moved c cut = (refl, client
 uncut_ends w past landed e i _ old new stands moved c cut = absurd cut
 
 -- ---- a save that is lost sends nothing
-
-no_answer : (free : Bool) (x : Option Addition) (landed : Bool) → (free && is_answer x (lost_by landed)) ≡ false
-no_answer true None true = refl
-no_answer true None false = refl
-no_answer true (Some a) true = refl
-no_answer true (Some a) false = refl
-no_answer false x landed = refl
 
 call_silent : (o : client.Opening) (list : List client.Entry) (c : Call) (landed : Bool) → framed.frames_by o list (Some (client.Met c (lost_by landed))) ≡ []
 call_silent o list c landed =
@@ -194,14 +186,14 @@ module _ (w : Setup) (past : List Change) (landed : Bool) where
   frame_silent (Piece q) = piece_silent (client_opening w) (packets_heard (client_opening w) (entries w past)) landed
       (meaning (rules (client_opening w)) (heard_at (client_opening w) (entries w past)) (Piece q))
 
-  brings_is : (number : ℕ) (f : Frame) → GoesTo w past number f
+  brings_is : (number : ℕ) (f : Frame) → GoesTo w past number f Client
       → brings w past (CutIn landed (Deliver number)) ≡ outcome_of_step (client_frame_cut w (trace w past) landed f (said_to_client w (steps past) f))
   brings_is number f g =
       ap (λ x. outcome_of_step (delivery_cut_in w past landed x)) g.is_sent ∙ ap (λ node. outcome_of_step (frame_cut w past landed node f)) g.goes_to
 
-  pub cuts_delivery : (number : ℕ) (f : Frame) → GoesTo w past number f → CutsClient w past landed (CutIn landed (Deliver number)) (inputs.Deliver f)
+  pub cuts_delivery : (number : ℕ) (f : Frame) → GoesTo w past number f Client → CutsClient w past landed (CutIn landed (Deliver number)) (inputs.Deliver f)
   cuts_delivery number f g = record {
-    bar = frame_bar w past number f g;
+    bar = frame_bar w past number f Client g;
     saves = λ h. brings_is number f g ∙ ap outcome_of_step (frame_saves f h);
     none = λ h. brings_is number f g ∙ ap outcome_of_step (frame_none f h);
     answered = refl;

@@ -1,6 +1,5 @@
 -- What comes of a frame that comes to the client.
 use Rattle.std.proofs.Common.{◌≡◌, refl, sym, ◌∙◌, ap, subst, inl, inr, ◌⊎◌, ℕ, Bool, true, false, List, Some, None, Result, Ok, Err}
-use Rattle.std.specs.Prelude.{slice_get}
 use Rattle.fc_base.specs.declared.fault.Fault.{Fault}
 use Rattle.fc_base.specs.declared.fault.Fault.TheVariants.{FrameBadField, NodeOff}
 use Rattle.fc_base.specs.declared.fault.FaultSort.{FaultSort}
@@ -28,9 +27,9 @@ use Rattle.net_world.specs.Setup.{Setup}
 use Rattle.net_world.specs.Happenings as happenings
 use Rattle.net_world.specs.Trace.{Step, of_client, client_opening}
 use Rattle.net_world.specs.Frames as frames
-use Rattle.net_world.specs.Frames.{OfClient, at_client, frames_sent, to_of}
+use Rattle.net_world.specs.Frames.{OfClient, at_client}
 use Rattle.net_world.specs.Changes.{Change, Met, steps, trace}
-use Rattle.net_world.specs.Barred.{unless_on, unless, barring_fault, unless_sent}
+use Rattle.net_world.specs.Barred.{unless_on, unless}
 use Rattle.net_world.specs.Outcomes.{Outcome, Does, Refuses, Drops, comes_to_client, comes_to, delivery, said_to_client, brings, outcome}
 use Rattle.net_world.specs.World.{told_of_happening, told_by, and_outcome}
 use Rattle.net_world.specs.Stands.{StandsFor}
@@ -39,7 +38,7 @@ use Rattle.net_world.specs.Ends.{Ends, changes_after}
 use Rattle.net_world.specs.Asking as asking
 use Rattle.net_world.specs.Asking.{entries, step_by, IsBarred, Refuses as ClientRefuses, ClientEnds}
 use Rattle.net_world.proofs.ClientHeardLemmas.{heard_is, hears_same}
-use Rattle.net_world.proofs.EndsLemmas.{goes, stops, does, refusing}
+use Rattle.net_world.proofs.EndsLemmas.{GoesTo, frame_bar, goes, stops, does, refusing}
 use Rattle.net_world.proofs.OutcomeLemmas.{misses, misdirected, bad_field}
 use Rattle.net_world.proofs.AskEndsLemmas.{told_is}
 
@@ -126,25 +125,16 @@ on_of false h = cc
 up_of : (w : Setup) (past : List Change) → unless_on w (trace w past) Client ≡ None → words.is_on (packets_heard (client_opening w) (entries w past)) ≡ true
 up_of w past h = ap words.is_on (heard_is w past) ∙ on_of (words.is_on (of_client w (trace w past))) h
 
--- It has this number, and goes to the client.
-pub record GoesTo (w : Setup) (past : List Change) (number : ℕ) (f : Frame) : Type 0 where
-  pub is_sent : slice_get (frames_sent w (steps past)) number ≡ Some f
-  pub goes_to : to_of f ≡ Client
-
-pub frame_bar : (w : Setup) (past : List Change) (number : ℕ) (f : Frame) → GoesTo w past number f
-    → barring_fault w (trace w past) (frames_sent w (steps past)) (happenings.Deliver number) ≡ unless_on w (trace w past) Client
-frame_bar w past number f g = ap (unless_sent w (trace w past)) g.is_sent ∙ ap (unless_on w (trace w past)) g.goes_to
-
-frame_comes : (w : Setup) (past : List Change) (number : ℕ) (f : Frame) → GoesTo w past number f
+frame_comes : (w : Setup) (past : List Change) (number : ℕ) (f : Frame) → GoesTo w past number f Client
     → brings w past (happenings.Deliver number) ≡ comes_to_client w (trace w past) f (said_to_client w (steps past) f)
 frame_comes w past number f g = ap (delivery w past) g.is_sent ∙ ap (λ node. comes_to w past node f) g.goes_to
 
-delivery_ends : (w : Setup) (past : List Change) (number : ℕ) (f : Frame) (t : Told) (new : World) → GoesTo w past number f
+delivery_ends : (w : Setup) (past : List Change) (number : ℕ) (f : Frame) (t : Told) (new : World) → GoesTo w past number f Client
     → ClientEnds w past (inputs.Deliver f) new (Ok t) → Ends w past (happenings.Deliver number) new (Ok t)
 delivery_ends w past number f t new g h =
     let e = happenings.Deliver number in
     does w past e (Met (step_by w past (inputs.Deliver f))) t new
-    (goes w past e (frame_bar w past number f g ∙ h.on) ∙ frame_comes w past number f g ∙ frame_ok w past f h.free)
+    (goes w past e (frame_bar w past number f Client g ∙ h.on) ∙ frame_comes w past number f g ∙ frame_ok w past f h.free)
     (told_is w past e (inputs.Deliver f) t new h refl) h.stands
 
 dropped : (w : Setup) (past : List Change) (f : Frame) (fault : Fault) (e : happenings.Happening) (new : World)
@@ -160,30 +150,31 @@ dropped w past f fault e new is r (inr d) = (
   subst (λ x. StandsFor w (and_outcome x past) new) (sym (is ∙ d.2)) r.stands,
 )
 
-unanswered : (w : Setup) (past : List Change) (number : ℕ) (f : Frame) (fault : Fault) (new : World) → GoesTo w past number f
+unanswered : (w : Setup) (past : List Change) (number : ℕ) (f : Frame) (fault : Fault) (new : World) → GoesTo w past number f Client
     → IsBarred w past fault new ⊎ ClientRefuses w past (inputs.Deliver f) fault new
     → (told_of_happening w past (happenings.Deliver number) ≡ Err fault) × StandsFor w (changes_after w past (happenings.Deliver number)) new
 unanswered w past number f fault new g (inl b) =
-    refusing w past (happenings.Deliver number) fault new (stops w past (happenings.Deliver number) fault (frame_bar w past number f g ∙ b.why)) b.unchanged
+    refusing w past (happenings.Deliver number) fault new
+    (stops w past (happenings.Deliver number) fault (frame_bar w past number f Client g ∙ b.why)) b.unchanged
 unanswered w past number f fault new g (inr r) =
     dropped w past f fault (happenings.Deliver number) new
-    (goes w past (happenings.Deliver number) (frame_bar w past number f g ∙ r.on) ∙ frame_comes w past number f g) r
+    (goes w past (happenings.Deliver number) (frame_bar w past number f Client g ∙ r.on) ∙ frame_comes w past number f g) r
     (frame_err w past f fault (up_of w past r.on) r.why)
 
-delivery_sort : (w : Setup) (past : List Change) (number : ℕ) (f : Frame) (fault : Fault) (new : World) → GoesTo w past number f → (sort : FaultSort)
+delivery_sort : (w : Setup) (past : List Change) (number : ℕ) (f : Frame) (fault : Fault) (new : World) → GoesTo w past number f Client → (sort : FaultSort)
     → asking.Faults w past (inputs.Deliver f) sort fault new
     → ends.Faults w past (happenings.Deliver number) sort fault new
 delivery_sort w past number f fault new g sorts.Memory h = h
 delivery_sort w past number f fault new g sorts.Save h = h
 delivery_sort w past number f fault new g sorts.Refusal h = unanswered w past number f fault new g h
 
-delivery_fails : (w : Setup) (past : List Change) (number : ℕ) (f : Frame) (fault : Fault) (new : World) → GoesTo w past number f
+delivery_fails : (w : Setup) (past : List Change) (number : ℕ) (f : Frame) (fault : Fault) (new : World) → GoesTo w past number f Client
     → ClientEnds w past (inputs.Deliver f) new (Err fault)
     → Ends w past (happenings.Deliver number) new (Err fault)
 delivery_fails w past number f fault new g h = delivery_sort w past number f fault new g (sort_of fault) h
 
 -- A delivery to the client ends as the event that it is.
-pub comes_as : (w : Setup) (past : List Change) (number : ℕ) (f : Frame) (result : Result Told Fault) (new : World) → GoesTo w past number f
+pub comes_as : (w : Setup) (past : List Change) (number : ℕ) (f : Frame) (result : Result Told Fault) (new : World) → GoesTo w past number f Client
     → ClientEnds w past (inputs.Deliver f) new result → Ends w past (happenings.Deliver number) new result
 comes_as w past number f (Ok t) new g h = delivery_ends w past number f t new g h
 comes_as w past number f (Err fault) new g h = delivery_fails w past number f fault new g h

@@ -130,11 +130,11 @@ frame_not_cut w past s landed (Piece q) h =
     ∙ piece_none (trace w past) s landed q (packets_heard (opening_of s) (entries past s)) (heard_is w past s)
     (meaning (rules (opening_of s)) (heard_at (opening_of s) (entries past s)) (Piece q)) h
 
-pub cut_bar : (w : Setup) (past : List Change) (number : ℕ) (landed : Bool) (f : Frame) (s : ℕ) → GoesTo w past number f s
+pub cut_bar : (w : Setup) (past : List Change) (number : ℕ) (landed : Bool) (f : Frame) (s : ℕ) → GoesTo w past number f (nodes.Server s)
     → unless_sent w (trace w past) (slice_get (frames_sent w (steps past)) number) ≡ unless_on w (trace w past) (nodes.Server s)
 cut_bar w past number landed f s g = ap (unless_sent w (trace w past)) g.is_sent ∙ ap (unless_on w (trace w past)) g.goes_to
 
-cut_brings : (w : Setup) (past : List Change) (number : ℕ) (landed : Bool) (f : Frame) (s : ℕ) → GoesTo w past number f s
+cut_brings : (w : Setup) (past : List Change) (number : ℕ) (landed : Bool) (f : Frame) (s : ℕ) → GoesTo w past number f (nodes.Server s)
     → cut_in w past landed (Deliver number) ≡ server_frame_cut (trace w past) s landed f (said_to_server (steps past) s f)
 cut_brings w past number landed f s g = ap (delivery_cut_in w past landed) g.is_sent ∙ ap (λ node. frame_cut w past landed node f) g.goes_to
 
@@ -151,7 +151,7 @@ act_silent w past s (Piece q) left h =
     by_meaning Spoils = refl
     by_meaning Strays = refl
 
-pub frame_cut_plain : (w : Setup) (past : List Change) (number : ℕ) (landed : Bool) (f : Frame) (s : ℕ) → GoesTo w past number f s
+pub frame_cut_plain : (w : Setup) (past : List Change) (number : ℕ) (landed : Bool) (f : Frame) (s : ℕ) → GoesTo w past number f (nodes.Server s)
     → unless_on w (trace w past) (nodes.Server s) ≡ None → would_save (opening_of s) (entries past s) f ≡ true
     → IsPlain w past (CutIn landed (Deliver number)) (step_of s (hearing.Met (inputs.Deliver f) (lost_by landed)))
 frame_cut_plain w past number landed f s g on h = record {
@@ -165,7 +165,7 @@ frame_cut_plain w past number landed f s g on h = record {
 
 -- How a cut within the save of a frame ends in a world, where it isn't made.
 pub frame_cut_ends : (w : Setup) (past : List Change) (number : ℕ) (landed : Bool) (f : Frame) (s : ℕ) (node : ServerNode) (fault : Fault) (old new : World)
-    → StandsFor w past old → HasMoved s node [] old new → s < w.servers → GoesTo w past number f s
+    → StandsFor w past old → HasMoved s node [] old new → s < w.servers → GoesTo w past number f (nodes.Server s)
     → CutsIn (server_nodes (opening_of s)) (entries past s) landed (inputs.Deliver f) node (Err fault)
     → Ends w past (CutIn landed (Deliver number)) new (Err fault)
 frame_cut_ends w past number landed f s node NodeOff old new stands moved l g h =

@@ -1,12 +1,14 @@
 -- How what comes to a server ends, as an event of a world.
-use Rattle.std.proofs.Common.{◌≡◌, refl, sym, ◌∙◌, ap, subst, inl, inr, ◌⊎◌, ℕ, true, false, List, ◌∷◌, length, Option, Some, None, Ok, Err}
+use Rattle.std.proofs.Common.{◌≡◌, refl, sym, ◌∙◌, ap, subst, inl, inr, ◌⊎◌, ℕ, Bool, true, false, ◌&&◌, List, ◌∷◌, length, Option, Some, None, Ok, Err}
 use Rattle.fc_base.specs.declared.fault.Fault.{Fault}
 use Rattle.fc_base.specs.declared.fault.Fault.TheVariants.{NoSave}
 use Rattle.fc_base.specs.declared.fault.FaultSort.{FaultSort}
 use Rattle.fc_base.specs.declared.fault.FaultSort.TheVariants as sorts
 use Rattle.fc_base.specs.Fault.{sort_of}
 use Rattle.messages.specs.declared.refusal.Act.{Act}
+use Rattle.messages.specs.declared.node.Node.{Node}
 use Rattle.messages.specs.declared.node.Node.TheVariants as nodes
+use Rattle.disk_model.specs.Steps.{is_answer}
 use Rattle.server_core.specs.declared.event.Event.{Event}
 use Rattle.server_core.specs.declared.event.Event.TheVariants as events
 use Rattle.fc_base.specs.declared.record.JobParts.{JobParts}
@@ -37,7 +39,7 @@ use Rattle.net_world.specs.Writes.{open_at}
 use Rattle.net_world.specs.Events.{happening_of_end}
 use Rattle.net_world.specs.Finding.{IsOpen, FindsWrite}
 use Rattle.net_world.specs.Outcomes.{Does, Refuses, outcome_of_step, where_saved, met_by_server, comes_to_server}
-use Rattle.net_world.specs.Outcomes.{said_to_server, comes_to, delivery, end_of_write, brings, unless_barred, outcome}
+use Rattle.net_world.specs.Outcomes.{said_to_server, lost_by, comes_to, delivery, end_of_write, brings, unless_barred, outcome}
 use Rattle.net_world.specs.World.{answer, and_outcome, told_by, told_of_happening, answer_of_issue, act, frame_count}
 use Rattle.net_world.specs.Telling.{told_of, issue_told}
 use Rattle.net_world.specs.Stands.{StandsFor}
@@ -82,6 +84,14 @@ some_save (Some a) y h = refl
 pub no_save : {X Y : Type 0} (x : Option X) (y : Y) → is_some x ≡ false → where_saved x y ≡ Err NoSave
 no_save None y h = refl
 no_save (Some a) y h = absurd cc
+
+-- A save that is cut off answers nothing.
+pub no_answer : {D : Type 0} (free : Bool) (x : Option D) (landed : Bool) → (free && is_answer x (lost_by landed)) ≡ false
+no_answer true None true = refl
+no_answer true None false = refl
+no_answer true (Some a) true = refl
+no_answer true (Some a) false = refl
+no_answer false x landed = refl
 
 -- ---- an event that a server meets
 
@@ -219,26 +229,26 @@ end_unopen w past s j k end fault new h stands =
 
 -- ---- a frame comes to a server
 
--- It has this number, and goes to server s.
-pub record GoesTo (w : Setup) (past : List Change) (number : ℕ) (f : Frame) (s : ℕ) : Type 0 where
+-- It has this number, and goes to this node.
+pub record GoesTo (w : Setup) (past : List Change) (number : ℕ) (f : Frame) (node : Node) : Type 0 where
   pub is_sent : slice_get (frames_sent w (steps past)) number ≡ Some f
-  pub goes_to : to_of f ≡ nodes.Server s
+  pub goes_to : to_of f ≡ node
 
-frame_bar : (w : Setup) (past : List Change) (number : ℕ) (f : Frame) (s : ℕ) → GoesTo w past number f s
-    → barring_fault w (trace w past) (frames_sent w (steps past)) (happenings.Deliver number) ≡ unless_on w (trace w past) (nodes.Server s)
-frame_bar w past number f s g = ap (unless_sent w (trace w past)) g.is_sent ∙ ap (unless_on w (trace w past)) g.goes_to
+pub frame_bar : (w : Setup) (past : List Change) (number : ℕ) (f : Frame) (node : Node) → GoesTo w past number f node
+    → barring_fault w (trace w past) (frames_sent w (steps past)) (happenings.Deliver number) ≡ unless_on w (trace w past) node
+frame_bar w past number f node g = ap (unless_sent w (trace w past)) g.is_sent ∙ ap (unless_on w (trace w past)) g.goes_to
 
-frame_comes : (w : Setup) (past : List Change) (number : ℕ) (f : Frame) (s : ℕ) → GoesTo w past number f s
+frame_comes : (w : Setup) (past : List Change) (number : ℕ) (f : Frame) (s : ℕ) → GoesTo w past number f (nodes.Server s)
     → brings w past (happenings.Deliver number) ≡ comes_to_server (trace w past) s f (said_to_server (steps past) s f)
 frame_comes w past number f s g = ap (delivery w past) g.is_sent ∙ ap (λ node. comes_to w past node f) g.goes_to
 
-pub delivery_ends : (w : Setup) (past : List Change) (number : ℕ) (f : Frame) (s : ℕ) (served : Served) (t : Told) (new : World) → GoesTo w past number f s
-    → ServerEnds w past s (inputs.Deliver f) new (Ok served)
+pub delivery_ends : (w : Setup) (past : List Change) (number : ℕ) (f : Frame) (s : ℕ) (served : Served) (t : Told) (new : World)
+    → GoesTo w past number f (nodes.Server s) → ServerEnds w past s (inputs.Deliver f) new (Ok served)
     → t ≡ told_of served answers_told.Plain → Ends w past (happenings.Deliver number) new (Ok t)
 delivery_ends w past number f s served t new g h tells =
     let e = happenings.Deliver number in
     does w past e (Met (step_by past s (inputs.Deliver f))) t new
-    (goes w past e (frame_bar w past number f s g ∙ h.on) ∙ frame_comes w past number f s g ∙ frame_ok w past s f h.free)
+    (goes w past e (frame_bar w past number f (nodes.Server s) g ∙ h.on) ∙ frame_comes w past number f s g ∙ frame_ok w past s f h.free)
     (told_is w past s e (inputs.Deliver f) served answers_told.Plain new h refl ∙ ap (λ x. Ok x) (sym tells)) h.stands
 
 dropped : (w : Setup) (past : List Change) (s : ℕ) (f : Frame) (fault : Fault) (e : Happening) (new : World)
@@ -254,24 +264,25 @@ dropped w past s f fault e new is r (inr d) = (
   subst (λ x. StandsFor w (and_outcome x past) new) (sym (is ∙ d.2)) r.stands,
 )
 
-unanswered : (w : Setup) (past : List Change) (number : ℕ) (f : Frame) (s : ℕ) (fault : Fault) (new : World) → GoesTo w past number f s
+unanswered : (w : Setup) (past : List Change) (number : ℕ) (f : Frame) (s : ℕ) (fault : Fault) (new : World) → GoesTo w past number f (nodes.Server s)
     → IsBarred w past s fault new ⊎ ServerRefuses w past s (inputs.Deliver f) fault new
     → (told_of_happening w past (happenings.Deliver number) ≡ Err fault) × StandsFor w (changes_after w past (happenings.Deliver number)) new
 unanswered w past number f s fault new g (inl b) =
-    refusing w past (happenings.Deliver number) fault new (stops w past (happenings.Deliver number) fault (frame_bar w past number f s g ∙ b.why)) b.unchanged
+    refusing w past (happenings.Deliver number) fault new
+    (stops w past (happenings.Deliver number) fault (frame_bar w past number f (nodes.Server s) g ∙ b.why)) b.unchanged
 unanswered w past number f s fault new g (inr r) =
     dropped w past s f fault (happenings.Deliver number) new
-    (goes w past (happenings.Deliver number) (frame_bar w past number f s g ∙ r.on) ∙ frame_comes w past number f s g) r
+    (goes w past (happenings.Deliver number) (frame_bar w past number f (nodes.Server s) g ∙ r.on) ∙ frame_comes w past number f s g) r
     (frame_err w past s f fault (up_of w past s r.on) r.why)
 
-delivery_sort : (w : Setup) (past : List Change) (number : ℕ) (f : Frame) (s : ℕ) (fault : Fault) (new : World) → GoesTo w past number f s → (sort : FaultSort)
-    → serving.Faults w past s (inputs.Deliver f) sort fault new
+delivery_sort : (w : Setup) (past : List Change) (number : ℕ) (f : Frame) (s : ℕ) (fault : Fault) (new : World) → GoesTo w past number f (nodes.Server s)
+    → (sort : FaultSort) → serving.Faults w past s (inputs.Deliver f) sort fault new
     → ends.Faults w past (happenings.Deliver number) sort fault new
 delivery_sort w past number f s fault new g sorts.Memory h = h
 delivery_sort w past number f s fault new g sorts.Save h = h
 delivery_sort w past number f s fault new g sorts.Refusal h = unanswered w past number f s fault new g h
 
-pub delivery_fails : (w : Setup) (past : List Change) (number : ℕ) (f : Frame) (s : ℕ) (fault : Fault) (new : World) → GoesTo w past number f s
+pub delivery_fails : (w : Setup) (past : List Change) (number : ℕ) (f : Frame) (s : ℕ) (fault : Fault) (new : World) → GoesTo w past number f (nodes.Server s)
     → ServerEnds w past s (inputs.Deliver f) new (Err fault)
     → Ends w past (happenings.Deliver number) new (Err fault)
 delivery_fails w past number f s fault new g h = delivery_sort w past number f s fault new g (sort_of fault) h

@@ -1,16 +1,16 @@
 -- How a cut within a save of the mirror ends, as an event of a world.
-use Rattle.std.proofs.Common.{◌≡◌, refl, ◌∙◌, ap, ℕ, Bool, true, false}
-use Rattle.std.proofs.Common.{◌&&◌, List, [], length, Option, Some, None, Ok, Err}
+use Rattle.std.proofs.Common.{◌≡◌, refl, ◌∙◌, ap, ℕ, Bool}
+use Rattle.std.proofs.Common.{List, [], length, Ok, Err}
 use Rattle.std.specs.Prelude.{if◌then◌else◌, is_none}
 use Rattle.std.specs.List.{flat_map}
 use Rattle.fc_base.specs.declared.fault.Fault.{Fault}
 use Rattle.fc_base.specs.declared.fault.Fault.TheVariants.{NoMemory, NodeOff, NoSave}
 use Rattle.messages.specs.Pieces.{frames_of}
 use Rattle.messages.specs.declared.frame.Frame.{Frame}
+use Rattle.messages.specs.declared.node.Node.TheVariants.{Mirror}
 use Rattle.mirror_core.specs.History.{Entry, Met}
 use Rattle.mirror_core.specs.Words as words
 use Rattle.mirror_core.specs.Words.{refusal, due}
-use Rattle.mirror_core.specs.Saves.{Addition, is_answer}
 use Rattle.mirror_core.specs.Packets.{packets, packets_for}
 use Rattle.mirror_core.specs.Requests.{request_in}
 use Rattle.net_world.specs.declared.mirror_node.MirrorNode.{MirrorNode}
@@ -29,22 +29,15 @@ use Rattle.net_world.specs.Nodes as any_node
 use Rattle.net_world.specs.MirrorNodes.{mirror_nodes}
 use Rattle.net_world.specs.Stands.{StandsFor}
 use Rattle.net_world.specs.Ends.{Ends}
-use Rattle.net_world.proofs.EndsLemmas.{goes, stops, refuses, some_save, no_save}
-use Rattle.net_world.proofs.MirrorEndsLemmas.{heard_is, is_there, is_off, HasHeard, mirror_kept, plain_ends, GoesTo, frame_bar}
-
-no_answer : (free : Bool) (x : Option Addition) (landed : Bool) → (free && is_answer x (lost_by landed)) ≡ false
-no_answer true None true = refl
-no_answer true None false = refl
-no_answer true (Some a) true = refl
-no_answer true (Some a) false = refl
-no_answer false x landed = refl
+use Rattle.net_world.proofs.EndsLemmas.{GoesTo, frame_bar, goes, stops, refuses, some_save, no_save, no_answer}
+use Rattle.net_world.proofs.MirrorEndsLemmas.{heard_is, is_there, is_off, HasHeard, mirror_kept, plain_ends}
 
 cut_silent : (list : List Entry) (f : Frame) (landed : Bool) → flat_map frames_of (packets mirror_opening list (Met f (lost_by landed))) ≡ []
 cut_silent list f landed =
     ap (λ b. flat_map frames_of (if b then packets_for (words.words_noted mirror_opening list) (request_in f) else []))
     (no_answer (is_none (refusal mirror_opening list f)) (due mirror_opening list f) landed)
 
-cut_brings : (w : Setup) (past : List Change) (landed : Bool) (number : ℕ) (f : Frame) → GoesTo w past number f
+cut_brings : (w : Setup) (past : List Change) (landed : Bool) (number : ℕ) (f : Frame) → GoesTo w past number f Mirror
     → brings w past (CutIn landed (Deliver number)) ≡ outcome_of_step
     (where_saved (due mirror_opening (of_mirror (steps past)) f) (OfMirror (Met f (lost_by landed))))
 cut_brings w past landed number f g =
@@ -53,14 +46,14 @@ cut_brings w past landed number f g =
 
 -- It was cut.
 pub cut_ends : (w : Setup) (past : List Change) (landed : Bool) (number : ℕ) (f : Frame) (node : MirrorNode) (first : ℕ) (t : Told) (old new : World)
-    → StandsFor w past old → HasHeard node [] old new → GoesTo w past number f
+    → StandsFor w past old → HasHeard node [] old new → GoesTo w past number f Mirror
     → any_node.CutsIn (mirror_nodes mirror_opening) (of_mirror (steps past)) landed f node (Ok tt) → first ≡ length (sent_in old.sent) → t ≡ plainly_told first
     → Ends w past (CutIn landed (Deliver number)) new (Ok t)
 cut_ends w past landed number f node first t old new stands h g cut is tells =
     plain_ends w past (CutIn landed (Deliver number)) (Met f (lost_by landed)) node first t old new stands h cut.2
     (record {
       comes =
-          goes w past (CutIn landed (Deliver number)) (frame_bar w past number f g ∙ is_there w past (h.has w past stands) cut.0)
+          goes w past (CutIn landed (Deliver number)) (frame_bar w past number f Mirror g ∙ is_there w past (h.has w past stands) cut.0)
           ∙ cut_brings w past landed number f g ∙ ap outcome_of_step
           (some_save (due mirror_opening (of_mirror (steps past)) f) (OfMirror (Met f (lost_by landed))) cut.1);
       answered = refl;
@@ -70,16 +63,16 @@ cut_ends w past landed number f node first t old new stands h g cut is tells =
 
 -- It wasn't.
 pub uncut_ends : (w : Setup) (past : List Change) (landed : Bool) (number : ℕ) (f : Frame) (node : MirrorNode) (fault : Fault) (old new : World)
-    → StandsFor w past old → HasHeard node [] old new → GoesTo w past number f
+    → StandsFor w past old → HasHeard node [] old new → GoesTo w past number f Mirror
     → any_node.CutsIn (mirror_nodes mirror_opening) (of_mirror (steps past)) landed f node (Err fault)
     → Ends w past (CutIn landed (Deliver number)) new (Err fault)
 uncut_ends w past landed number f node NodeOff old new stands h g cut =
     refuses w past (CutIn landed (Deliver number)) NodeOff new refl
-    (stops w past (CutIn landed (Deliver number)) NodeOff (frame_bar w past number f g ∙ is_off w past (h.has w past stands) cut.0))
+    (stops w past (CutIn landed (Deliver number)) NodeOff (frame_bar w past number f Mirror g ∙ is_off w past (h.has w past stands) cut.0))
     (mirror_kept w past node old new stands h cut.1)
 uncut_ends w past landed number f node NoSave old new stands h g cut =
     refuses w past (CutIn landed (Deliver number)) NoSave new refl
-    (goes w past (CutIn landed (Deliver number)) (frame_bar w past number f g ∙ is_there w past (h.has w past stands) cut.0)
+    (goes w past (CutIn landed (Deliver number)) (frame_bar w past number f Mirror g ∙ is_there w past (h.has w past stands) cut.0)
     ∙ cut_brings w past landed number f g ∙ ap outcome_of_step
     (no_save (due mirror_opening (of_mirror (steps past)) f) (OfMirror (Met f (lost_by landed))) cut.1))
     (mirror_kept w past node old new stands h cut.2)

@@ -36,10 +36,10 @@ use Rattle.net_world.specs.Happenings.{Happening, Deliver}
 use Rattle.net_world.specs.Happenings as happenings
 use Rattle.net_world.specs.Trace as traces
 use Rattle.net_world.specs.Trace.{client_opening, mirror_opening}
-use Rattle.net_world.specs.Frames.{OfMirror, of_mirror, frames_sent, frames_of_step, client_entries, to_of}
+use Rattle.net_world.specs.Frames.{OfMirror, of_mirror, frames_sent, frames_of_step, client_entries}
 use Rattle.net_world.specs.Changes as changes
 use Rattle.net_world.specs.Changes.{Change, steps, trace}
-use Rattle.net_world.specs.Barred.{unless, unless_on, unless_off, is_on, barring_fault, unless_sent}
+use Rattle.net_world.specs.Barred.{unless, unless_on, unless_off, is_on}
 use Rattle.net_world.specs.Outcomes.{outcome_of_step, unless_fault, comes_to}
 use Rattle.net_world.specs.Outcomes.{comes_to_mirror, delivery, brings}
 use Rattle.net_world.specs.World.{frames, told_of_happening}
@@ -56,7 +56,7 @@ use Rattle.net_world.specs.Ends.{Ends, changes_after}
 use Rattle.net_world.proofs.HearingLemmas.{mirror_hears}
 use Rattle.net_world.proofs.MetLemmas.{frames_more}
 use Rattle.net_world.proofs.ServeLemmas.{first_is}
-use Rattle.net_world.proofs.EndsLemmas.{goes, stops, does, refusing, refuses}
+use Rattle.net_world.proofs.EndsLemmas.{GoesTo, frame_bar, goes, stops, does, refusing, refuses}
 use Rattle.net_world.proofs.PlainLemmas.{IsPlain, told_plainly}
 
 -- ---- its list, and whether it is there and on
@@ -175,16 +175,7 @@ restart_ends w past node _ old new stands h r = absurd r
 
 -- ---- a frame
 
--- It has this number, and goes to the mirror.
-pub record GoesTo (w : Setup) (past : List Change) (number : ℕ) (f : Frame) : Type 0 where
-  pub is_sent : slice_get (frames_sent w (steps past)) number ≡ Some f
-  pub goes_to : to_of f ≡ Mirror
-
-pub frame_bar : (w : Setup) (past : List Change) (number : ℕ) (f : Frame) → GoesTo w past number f
-    → barring_fault w (trace w past) (frames_sent w (steps past)) (Deliver number) ≡ unless_on w (trace w past) Mirror
-frame_bar w past number f g = ap (unless_sent w (trace w past)) g.is_sent ∙ ap (unless_on w (trace w past)) g.goes_to
-
-frame_brings : (w : Setup) (past : List Change) (number : ℕ) (f : Frame) → GoesTo w past number f
+frame_brings : (w : Setup) (past : List Change) (number : ℕ) (f : Frame) → GoesTo w past number f Mirror
     → brings w past (Deliver number) ≡ outcome_of_step (comes_to_mirror (trace w past) f)
 frame_brings w past number f g = ap (delivery w past) g.is_sent ∙ ap (λ node. comes_to w past node f) g.goes_to
 
@@ -215,7 +206,7 @@ told_same first first' sent sent' e f = rw (e, f) refl
 
 -- A frame is answered.
 pub heard_ends : (w : Setup) (past : List Change) (number : ℕ) (f : Frame) (node : MirrorNode) (sent : List (List ℕ)) (first : ℕ) (t : Told) (old new : World)
-    → StandsFor w past old → HasHeard node sent old new → GoesTo w past number f
+    → StandsFor w past old → HasHeard node sent old new → GoesTo w past number f Mirror
     → any_node.Answers (mirror_nodes mirror_opening) (of_mirror (steps past)) f node sent → first ≡ length (sent_in old.sent)
     → t ≡ told_with first (length sent) → Ends w past (Deliver number) new (Ok t)
 heard_ends w past number f node sent first t old new stands h g a is tells =
@@ -224,28 +215,29 @@ heard_ends w past number f node sent first t old new stands h g a is tells =
     a.sends ∙ spelled (packets mirror_opening (of_mirror (steps past)) (answered_entry mirror_opening (of_mirror (steps past)) f)) in
     let number_is = ap (λ (fs : List (List ℕ)). length fs) frames ∙ length-map (frames_of_step w (steps past) step) frame_spelling in
     does w past (Deliver number) (changes.Met step) t new
-    (goes w past (Deliver number) (frame_bar w past number f g ∙ is_there w past (h.has w past stands) a.on)
+    (goes w past (Deliver number) (frame_bar w past number f Mirror g ∙ is_there w past (h.has w past stands) a.on)
     ∙ frame_brings w past number f g ∙ ap outcome_of_step (comes_same w past f ∙ met (of_mirror (steps past)) f a.free))
     (ap (λ x. Ok x) (sym (tells ∙ told_same first (length (frames_sent w (steps past))) (length sent) (length (frames_of_step w (steps past) step))
     (is ∙ first_is w past old stands) number_is)))
     (mirror_stepped w past (answered_entry mirror_opening (of_mirror (steps past)) f) node sent old new stands h frames a.stands)
 
 refused : (w : Setup) (past : List Change) (number : ℕ) (f : Frame) (node : MirrorNode) (fault : Fault) (old new : World) → StandsFor w past old
-    → HasHeard node [] old new → GoesTo w past number f
+    → HasHeard node [] old new → GoesTo w past number f Mirror
     → any_node.IsOff (mirror_nodes mirror_opening) (of_mirror (steps past)) fault node
     ⊎ any_node.Refuses (mirror_nodes mirror_opening) (of_mirror (steps past)) f fault node
     → (told_of_happening w past (Deliver number) ≡ Err fault) × StandsFor w (changes_after w past (Deliver number)) new
 refused w past number f node fault old new stands h g (inl o) =
     refusing w past (Deliver number) fault new (stops w past (Deliver number) fault
-    (frame_bar w past number f g ∙ is_off w past (h.has w past stands) o.off ∙ ap Some (sym o.why))) (mirror_kept w past node old new stands h o.unchanged)
+    (frame_bar w past number f Mirror g ∙ is_off w past (h.has w past stands) o.off ∙ ap Some (sym o.why)))
+    (mirror_kept w past node old new stands h o.unchanged)
 refused w past number f node fault old new stands h g (inr r) =
     refusing w past (Deliver number) fault new
-    (goes w past (Deliver number) (frame_bar w past number f g ∙ is_there w past (h.has w past stands) r.on)
+    (goes w past (Deliver number) (frame_bar w past number f Mirror g ∙ is_there w past (h.has w past stands) r.on)
     ∙ frame_brings w past number f g ∙ ap outcome_of_step (comes_same w past f ∙ met_err (of_mirror (steps past)) f fault r.why))
     (mirror_kept w past node old new stands h r.unchanged)
 
 by_sort : (w : Setup) (past : List Change) (number : ℕ) (f : Frame) (node : MirrorNode) (fault : Fault) (old new : World) → StandsFor w past old
-    → HasHeard node [] old new → GoesTo w past number f
+    → HasHeard node [] old new → GoesTo w past number f Mirror
     → (sort : FaultSort) → any_node.Faults (mirror_nodes mirror_opening) (of_mirror (steps past)) f sort fault node
     → ends.Faults w past (Deliver number) sort fault new
 by_sort w past number f node fault old new stands h g sorts.Memory r = (r.0, mirror_kept w past node old new stands h r.1)
@@ -254,6 +246,6 @@ by_sort w past number f node fault old new stands h g sorts.Refusal r = refused 
 
 -- It isn't.
 pub unheard_ends : (w : Setup) (past : List Change) (number : ℕ) (f : Frame) (node : MirrorNode) (fault : Fault) (old new : World) → StandsFor w past old
-    → HasHeard node [] old new → GoesTo w past number f
+    → HasHeard node [] old new → GoesTo w past number f Mirror
     → any_node.Ends (mirror_nodes mirror_opening) (of_mirror (steps past)) f node (Err fault) → Ends w past (Deliver number) new (Err fault)
 unheard_ends w past number f node fault old new stands h g r = by_sort w past number f node fault old new stands h g (sort_of fault) r
