@@ -11,7 +11,7 @@ use Rattle.fc_base.specs.declared.fault.Fault.{Fault}
 use Rattle.disk_model.specs.Notes.{Note}
 use Rattle.messages.specs.declared.node.Node.TheVariants as nodes
 use Rattle.messages.specs.FrameBytes.{frame_spelling}
-use Rattle.messages.specs.Hearing.{with_entry}
+use Rattle.messages.specs.Hearing.{frames_by, with_entry}
 use Rattle.hub.specs.Laws.{FramesAreSpelled}
 use Rattle.hub.specs.Network.{Network, Room, HasRoom, IsSpelled}
 use Rattle.client_core.specs.declared.input.Input.{Input}
@@ -23,7 +23,7 @@ use Rattle.client_core.specs.History.{Opening}
 use Rattle.client_core.specs.Laws.{PacketsAreInRange}
 use Rattle.client_core.specs.Ranges.{OpensInRange, CameInRange}
 use Rattle.client_core.specs.Hearing.{FrameEntry, packets_heard}
-use Rattle.client_core.specs.FrameAnswers.{answered_entry, entry_heard, frames_by}
+use Rattle.client_core.specs.FrameAnswers.{answered_entry, entry_heard}
 use Rattle.client_core.specs.FrameEnds.{StandsFor, most_packets}
 use Rattle.node_history.specs.declared.answer.CallerAnswer.{CallerAnswer}
 use Rattle.node_history.specs.declared.came.Came.{Came}
@@ -93,7 +93,7 @@ one_more sent i f bytes more is so_far sum =
 -- ---- its frames are spelled
 
 by_entry : FramesAreSpelled → PacketsAreInRange → (o : Opening) (past : List history.Entry) → OpensInRange o → (heard : Option history.Entry)
-    → (came : (x : history.Entry) → heard ≡ Some x → CameInRange (x ∷ past)) → All IsSpelled (map frame_spelling (frames_by o past heard))
+    → (came : (x : history.Entry) → heard ≡ Some x → CameInRange (x ∷ past)) → All IsSpelled (map frame_spelling (frames_by (packets o) past heard))
 by_entry law ranges o past i None came = All-nil IsSpelled
 by_entry law ranges o past i (Some x) came = hub.packets_spelled law (packets o past x) (ranges o past x i (came x refl))
 

@@ -10,16 +10,17 @@ use Rattle.disk_model.specs.Notes.{Note}
 use Rattle.disk_model.specs.Steps as steps
 use Rattle.messages.specs.declared.frame.Frame.TheVariants.{Whole, Piece}
 use Rattle.messages.specs.Hearing.{Meaning, Says as Speaks, Waits, Spoils, Strays, meaning, heard_by, with_entry}
+use Rattle.messages.specs.Senses.{Sense, Hears, Keeps, Drops, Misses, sense_of, is_drop, refusal_of_sense, SenseInRange, UnlessMemory, HearsInRange}
 use Rattle.client_core.specs.declared.client.Client.{Client}
+use Rattle.client_core.specs.declared.call.Call.{Call}
+use Rattle.client_core.specs.declared.call.Call.TheVariants as calls
 use Rattle.client_core.specs.declared.input.Input.{Input}
 use Rattle.client_core.specs.declared.input.Input.TheVariants as inputs
 use Rattle.client_core.specs.History as packets
 use Rattle.client_core.specs.History.{Opening}
-use Rattle.client_core.specs.Ranges.{CameInRange}
+use Rattle.client_core.specs.Ranges.{IsInRange, CameInRange}
 use Rattle.client_core.specs.Hearing.{FrameEntry, Met, packets_heard, heard_at, rules as hearing}
-use Rattle.client_core.specs.FrameAnswers as answers
-use Rattle.client_core.specs.FrameAnswers.{Sense, Hears, Keeps, Drops, Misses, sense, sense_of, is_drop}
-use Rattle.client_core.specs.HeardRange.{SenseInRange, UnlessMemory, HearsInRange}
+use Rattle.client_core.specs.FrameAnswers.{sense}
 use Rattle.client_core.specs.FrameEnds as ends
 use Rattle.node_history.specs.declared.answer.Answer.TheVariants.{Plain}
 use Rattle.node_history.specs.declared.power.Power.TheVariants.{On}
@@ -33,17 +34,17 @@ use Rattle.client_cell.specs.Stands.{reply_and_frames, outs_of, ways}
 
 -- ---- what came stays within its ranges
 
-by_meaning : (o : Opening) (past : List packets.Entry) (left : Left) (q : _) (m : Meaning) → SenseInRange (sense_of q m) → CameInRange past
+by_meaning : (o : Opening) (past : List packets.Entry) (left : Left) (m : Meaning) → SenseInRange IsInRange (sense_of calls.Deliver m) → CameInRange past
     → CameInRange (with_entry (heard_by (hearing o) left m) past)
-by_meaning o past left q (Speaks p) h came = (h, came)
-by_meaning o past left q Waits h came = came
-by_meaning o past left q Spoils h came = came
-by_meaning o past left q Strays h came = came
+by_meaning o past left (Speaks p) h came = (h, came)
+by_meaning o past left Waits h came = came
+by_meaning o past left Spoils h came = came
+by_meaning o past left Strays h came = came
 
-came_after : (o : Opening) (past : List FrameEntry) (e : Input) (left : Left) → SenseInRange (sense o past e) → CameInRange (packets_heard o past)
+came_after : (o : Opening) (past : List FrameEntry) (e : Input) (left : Left) → SenseInRange IsInRange (sense o past e) → CameInRange (packets_heard o past)
     → CameInRange (packets_heard o (Met e left ∷ past))
 came_after o past (inputs.Deliver (Whole p)) left h came = (h, came)
-came_after o past (inputs.Deliver (Piece q)) left h came = by_meaning o (packets_heard o past) left q (meaning (hearing o) (heard_at o past) (Piece q)) h came
+came_after o past (inputs.Deliver (Piece q)) left h came = by_meaning o (packets_heard o past) left (meaning (hearing o) (heard_at o past) (Piece q)) h came
 came_after o past (inputs.Begin text) left h came = came
 came_after o past (inputs.Trigger run act) left h came = came
 came_after o past (inputs.Stop run) left h came = came
@@ -52,18 +53,18 @@ came_after o past inputs.Tick left h came = came
 
 -- ---- a step
 
-no_drop : (o : Opening) (past : List FrameEntry) (s : Sense) (fault : Fault) → answers.refusal_in o (packets_heard o past) s ≡ Some fault
+no_drop : (o : Opening) (past : List FrameEntry) (s : Sense Call) (fault : Fault) → refusal_of_sense (hearing o) (packets_heard o past) s ≡ Some fault
     → (fault ≡ FrameBadField → ⊥) → is_drop s ≡ false
 no_drop o past (Hears c) fault h k = refl
-no_drop o past (Keeps q) fault h k = refl
-no_drop o past (Drops q) fault h k = absurd (k (same FrameBadField fault h))
+no_drop o past Keeps fault h k = refl
+no_drop o past Drops fault h k = absurd (k (same FrameBadField fault h))
   where
     same : (x y : Fault) → Some x ≡ Some y → y ≡ x
     same x y h = cc
 no_drop o past Misses fault h k = refl
 
 fits : {T : Type 0} (note : T → Note) (o : Opening) (past : List FrameEntry) (e : Input)
-    → Fits (client_kind note o) (ends.steps note o) past e (λ sort. UnlessMemory sort (sense o past e))
+    → Fits (client_kind note o) (ends.steps note o) past e (λ sort. UnlessMemory IsInRange sort (sense o past e))
 fits note o past e = record {
   refusal_is = refl;
   answered_is = refl;
@@ -76,22 +77,23 @@ fits note o past e = record {
 }
 
 -- What its caller asks is heard for sure.
-pub unasked : (o : Opening) (past : List FrameEntry) (e : Input) (fault : Fault) → SenseInRange (sense o past e) → UnlessMemory (sort_of fault) (sense o past e)
+pub unasked : (o : Opening) (past : List FrameEntry) (e : Input) (fault : Fault) → SenseInRange IsInRange (sense o past e)
+    → UnlessMemory IsInRange (sort_of fault) (sense o past e)
 unasked o past e fault h = by_sort (sort_of fault)
   where
-    by_sort : (sort : FaultSort) → UnlessMemory sort (sense o past e)
+    by_sort : (sort : FaultSort) → UnlessMemory IsInRange sort (sense o past e)
     by_sort sorts.Memory = tt
     by_sort sorts.Save = h
     by_sort sorts.Refusal = h
 
-pub heard : {X : Type 0} (o : Opening) (past : List FrameEntry) (e : Input) (result : Result X Fault) → SenseInRange (sense o past e)
-    → HearsInRange o past e result
+pub heard : {X : Type 0} (o : Opening) (past : List FrameEntry) (e : Input) (result : Result X Fault) → SenseInRange IsInRange (sense o past e)
+    → HearsInRange IsInRange (sense o past e) result
 heard o past e (Ok x) h = h
 heard o past e (Err fault) h = unasked o past e fault h
 
 -- A client that is on answers what comes,
 pub answered : {T : Type 0} (note : T → Note) (o : Opening) (past : List FrameEntry) (e : Input) (old client : Client T) (outs : Outs) → is_up o past ≡ true
-    → outs.answer ≡ answer_to o past e → SenseInRange (sense o past e) → steps.Answers (ends.steps note o) past e old client outs.frames
+    → outs.answer ≡ answer_to o past e → SenseInRange IsInRange (sense o past e) → steps.Answers (ends.steps note o) past e old client outs.frames
     → StepEnds (ways note o) past e (On client) (reply_and_frames (Ok outs))
 answered note o past e old client outs on said h a =
     answered_ends (client_kind note o) (ends.steps note o) past e (fits note o past e) on old client outs.frames _ outs.frames a h
@@ -99,7 +101,7 @@ answered note o past e old client outs on said h a =
 
 -- or doesn't.
 pub unanswered : {T : Type 0} (note : T → Note) (o : Opening) (past : List FrameEntry) (e : Input) (old client : Client T) (fault : Fault) → is_up o past ≡ true
-    → UnlessMemory (sort_of fault) (sense o past e) → steps.Faults (ends.steps note o) past e (sort_of fault) fault old client
+    → UnlessMemory IsInRange (sort_of fault) (sense o past e) → steps.Faults (ends.steps note o) past e (sort_of fault) fault old client
     → StepEnds (ways note o) past e (On client) (Err fault)
 unanswered note o past e old client fault on h f =
     unanswered_ends (client_kind note o) (ends.steps note o) past e (fits note o past e) on old client fault (sort_of fault) f h refl
@@ -107,7 +109,7 @@ unanswered note o past e old client fault on h f =
 -- What has no number ends so.
 pub sent_ends : {T : Type 0} (note : T → Note) (o : Opening) (past : List FrameEntry) (e : Input) (old client : Client T) (sent : Result (List (List ℕ)) Fault)
     → is_up o past ≡ true
-    → Plain ≡ answer_to o past e → HearsInRange o past e sent → steps.Ends (ends.steps note o) past e old client sent
+    → Plain ≡ answer_to o past e → HearsInRange IsInRange (sense o past e) sent → steps.Ends (ends.steps note o) past e old client sent
     → StepEnds (ways note o) past e (On client) (reply_and_frames (outs_of sent))
 sent_ends note o past e old client (Ok sent) on said h a = answered note o past e old client (record { answer = Plain; frames = sent }) on said h a
 sent_ends note o past e old client (Err fault) on said h f = unanswered note o past e old client fault on h f

@@ -12,8 +12,6 @@ mod FrameEndLemmas
 mod FrameLemmas
 mod FreshLemmas
 mod HeardLemmas
-mod HeardRangeLemmas
-mod HearingLemmas
 mod KeptLemmas
 mod LifeLemmas
 mod Looked

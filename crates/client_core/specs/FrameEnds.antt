@@ -7,6 +7,7 @@ use Rattle.disk_model.specs.declared.left.Left.TheVariants.{Saved}
 use Rattle.disk_model.specs.Notes.{Note}
 use Rattle.disk_model.specs.Steps.{Steps}
 use Rattle.messages.specs.FrameBytes.{frame_spelling}
+use Rattle.messages.specs.Senses.{is_drop}
 use Rattle.messages.specs.Ranges.{is_generation}
 use Rattle.client_core.specs.declared.client.Client.{Client}
 use Rattle.client_core.specs.declared.input.Input.{Input}
@@ -20,7 +21,7 @@ use Rattle.client_core.specs.Bounds.{AreShort, requests, most_copies}
 use Rattle.client_core.specs.Ranges.{OpensInRange, CameInRange}
 use Rattle.client_core.specs.Stands as whole
 use Rattle.client_core.specs.Hearing.{FrameEntry, Met, Restart, Renew, packets_heard, assembly}
-use Rattle.client_core.specs.FrameAnswers.{is_drop, sense, frames, refusal, due, answered_entry}
+use Rattle.client_core.specs.FrameAnswers.{sense, frames, refusal, due, answered_entry}
 
 -- A client stands for a list of frames where its core stands for the packets that are heard in it,
 -- and, while it is on, keeps what has come together of pieces.

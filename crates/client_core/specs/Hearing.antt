@@ -1,11 +1,13 @@
 -- A client's list of frames, and the list of packets that it hears in them.
-use Rattle.std.specs.Prelude.{ℕ, Bool, true, false, ◌&&◌, List, map, is_some}
+use Rattle.std.specs.Prelude.{ℕ, Bool, true, false, ◌&&◌, List, map}
 use Rattle.messages.specs.Kinds.{is_of_server}
 use Rattle.messages.specs.Nodes.{is_client}
 use Rattle.messages.specs.declared.piece.PieceParts.{PieceParts}
 use Rattle.messages.specs.Assemblies.{Row}
-use Rattle.messages.specs.Hearing.{Rules, Heard, Coming, Comes, Happens, heard}
+use Rattle.messages.specs.Hearing.{Rules, Heard, Coming, Happens, heard}
+use Rattle.messages.specs.Senses.{Arrival, Framed, Unframed, coming}
 use Rattle.disk_model.specs.declared.left.Left.{Left}
+use Rattle.client_core.specs.declared.call.Call.{Call}
 use Rattle.client_core.specs.declared.call.Call.TheVariants as calls
 use Rattle.client_core.specs.declared.input.Input.{Input}
 use Rattle.client_core.specs.declared.input.Input.TheVariants.{Begin, Trigger, Stop, Verify, Deliver, Tick}
@@ -37,22 +39,28 @@ is_end (history.Renew g left) = true
 is_end history.Lose = true
 
 -- How a client hears.
-abbrev pub rules : Opening → Rules history.Entry Left
+abbrev pub rules : Opening → Rules Call history.Entry Left
 rules o = record {
-  delivers = λ p left. history.Met (calls.Deliver p) left;
-  refuses = λ past p. is_some (refusal o past (calls.Deliver p));
-  takes = λ past q. is_on past && is_piece_for o.servers q;
+  delivers = calls.Deliver;
+  met = history.Met;
+  refusal = refusal o;
+  is_on = is_on;
+  is_for = is_piece_for o.servers;
   ends = is_end;
 }
 
+-- What comes to a client is a frame, or a call past the network.
+abbrev pub arrival : Input → Arrival Call
+arrival (Begin text) = Unframed (calls.Begin text)
+arrival (Trigger run act) = Unframed (calls.Trigger run act)
+arrival (Stop run) = Unframed (calls.Stop run)
+arrival (Verify run text) = Unframed (calls.Verify run text)
+arrival (Deliver f) = Framed f
+arrival Tick = Unframed calls.Tick
+
 -- What happens to a client, in the terms of hearing.
 abbrev pub coming_of : FrameEntry → Coming history.Entry Left
-coming_of (Met (Begin text) left) = Happens (history.Met (calls.Begin text) left)
-coming_of (Met (Trigger run act) left) = Happens (history.Met (calls.Trigger run act) left)
-coming_of (Met (Stop run) left) = Happens (history.Met (calls.Stop run) left)
-coming_of (Met (Verify run text) left) = Happens (history.Met (calls.Verify run text) left)
-coming_of (Met (Deliver f) left) = Comes f left
-coming_of (Met Tick left) = Happens (history.Met calls.Tick left)
+coming_of (Met e left) = coming history.Met (arrival e) left
 coming_of Cut = Happens history.Cut
 coming_of (Restart mirror) = Happens (history.Restart mirror)
 coming_of (Renew g left) = Happens (history.Renew g left)

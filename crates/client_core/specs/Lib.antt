@@ -25,4 +25,3 @@ pub mod Standing
 pub mod Stands
 pub mod Told
 pub mod Words
-pub mod HeardRange

@@ -25,3 +25,4 @@ pub mod FrameSaid
 pub mod FrameLooks
 pub mod ReadableLemmas
 pub mod HearingLemmas
+pub mod SenseLemmas

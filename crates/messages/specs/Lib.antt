@@ -17,3 +17,4 @@ pub mod Assemblies
 pub mod PieceLaws
 pub mod FrameLaws
 pub mod Hearing
+pub mod Senses

@@ -5,6 +5,7 @@ use Rattle.fc_base.specs.declared.fault.Fault.{Fault}
 use Rattle.fc_base.specs.declared.fault.FaultSort.{FaultSort}
 use Rattle.fc_base.specs.declared.fault.FaultSort.TheVariants as sorts
 use Rattle.fc_base.specs.Fault.{sort_of}
+use Rattle.messages.specs.Senses.{is_drop}
 use Rattle.disk_model.specs.declared.left.Left.{Left}
 use Rattle.disk_model.specs.Left.{saved_for}
 use Rattle.messages.specs.declared.node.Node.TheVariants.{Client}
@@ -18,7 +19,7 @@ use Rattle.client_core.specs.declared.input.Input.TheVariants as inputs
 use Rattle.client_core.specs.History as client
 use Rattle.client_core.specs.Words as words
 use Rattle.client_core.specs.Hearing.{coming_of, packets_heard}
-use Rattle.client_core.specs.FrameAnswers.{is_drop, sense, refusal, answered_entry}
+use Rattle.client_core.specs.FrameAnswers.{sense, refusal, answered_entry}
 use Rattle.net_world.specs.declared.told.WorldAnswer.TheVariants as answers
 use Rattle.net_world.specs.declared.told.Told.{Told}
 use Rattle.net_world.specs.declared.world.World.{World}

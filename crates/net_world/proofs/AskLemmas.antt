@@ -14,15 +14,16 @@ use Rattle.disk_model.specs.declared.left.Left.TheVariants.{NoSave}
 use Rattle.disk_model.specs.declared.mem_disk.MemDisk.{MemDisk}
 use Rattle.messages.specs.FrameBytes.{frame_spelling}
 use Rattle.messages.specs.declared.node.Node.TheVariants.{Client}
-use Rattle.messages.specs.declared.piece.PieceParts.{PieceParts}
 use Rattle.messages.specs.declared.frame.Frame.TheVariants.{Whole, Piece}
-use Rattle.messages.specs.Hearing.{Meaning, Says, Waits, Spoils, Strays, meaning, heard_by}
+use Rattle.messages.specs.Hearing.{Meaning, Says, Waits, Spoils, Strays, meaning, heard_by, frames_by}
+use Rattle.messages.specs.Senses.{sense_of, refusal_of_sense}
 use Rattle.client_core.specs.declared.call.Call.{Call}
 use Rattle.client_core.specs.declared.call.Call.TheVariants as calls
 use Rattle.client_core.specs.declared.input.Input.{Input}
 use Rattle.client_core.specs.declared.input.Input.TheVariants as inputs
 use Rattle.client_core.specs.History as client
 use Rattle.client_core.specs.Words as words
+use Rattle.client_core.specs.Packets.{packets}
 use Rattle.client_core.specs.Hearing.{FrameEntry, Met, rules, heard_at, packets_heard}
 use Rattle.client_core.specs.FrameAnswers as answers
 use Rattle.net_world.specs.declared.asked.Asked.{Asked}
@@ -64,16 +65,16 @@ is_off w past h = ap (λ on. unless on NodeOff) (sym (up_is w past) ∙ h)
 -- ---- what is refused sends nothing
 
 none_sent : (o : client.Opening) (list : List client.Entry) (c : Call) (fault : Fault) → words.refusal o list c ≡ Some fault
-    → answers.frames_by o list (Some (client.Met c NoSave)) ≡ []
+    → frames_by (packets o) list (Some (client.Met c NoSave)) ≡ []
 none_sent o list c fault h = rw h refl
 
-piece_sends : (o : client.Opening) (list : List client.Entry) (q : PieceParts) (m : Meaning) (fault : Fault)
-    → answers.refusal_in o list (answers.sense_of q m) ≡ Some fault
-    → answers.frames_by o list (heard_by (rules o) NoSave m) ≡ []
-piece_sends o list q (Says p) fault h = none_sent o list (calls.Deliver p) fault h
-piece_sends o list q Waits fault h = refl
-piece_sends o list q Spoils fault h = refl
-piece_sends o list q Strays fault h = refl
+piece_sends : (o : client.Opening) (list : List client.Entry) (m : Meaning) (fault : Fault)
+    → refusal_of_sense (rules o) list (sense_of calls.Deliver m) ≡ Some fault
+    → frames_by (packets o) list (heard_by (rules o) NoSave m) ≡ []
+piece_sends o list (Says p) fault h = none_sent o list (calls.Deliver p) fault h
+piece_sends o list Waits fault h = refl
+piece_sends o list Spoils fault h = refl
+piece_sends o list Strays fault h = refl
 
 refused_sends : (o : client.Opening) (past : List FrameEntry) (e : Input) (fault : Fault) → answers.refusal o past e ≡ Some fault
     → answers.frames o past (Met e NoSave) ≡ []
@@ -82,7 +83,7 @@ refused_sends o past (inputs.Trigger run act) fault h = none_sent o (packets_hea
 refused_sends o past (inputs.Stop run) fault h = none_sent o (packets_heard o past) (calls.Stop run) fault h
 refused_sends o past (inputs.Verify run text) fault h = none_sent o (packets_heard o past) (calls.Verify run text) fault h
 refused_sends o past (inputs.Deliver (Whole p)) fault h = none_sent o (packets_heard o past) (calls.Deliver p) fault h
-refused_sends o past (inputs.Deliver (Piece q)) fault h = piece_sends o (packets_heard o past) q (meaning (rules o) (heard_at o past) (Piece q)) fault h
+refused_sends o past (inputs.Deliver (Piece q)) fault h = piece_sends o (packets_heard o past) (meaning (rules o) (heard_at o past) (Piece q)) fault h
 refused_sends o past inputs.Tick fault h = none_sent o (packets_heard o past) calls.Tick fault h
 
 -- ---- the world behind a call

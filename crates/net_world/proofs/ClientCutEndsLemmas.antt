@@ -7,14 +7,15 @@ use Rattle.fc_base.specs.declared.fault.Fault.TheVariants.{NodeOff, NoMemory, No
 use Rattle.messages.specs.declared.packet.PacketParts.{PacketParts}
 use Rattle.messages.specs.declared.piece.PieceParts.{PieceParts}
 use Rattle.messages.specs.Pieces.{frames_of}
-use Rattle.messages.specs.Hearing.{Meaning, Says, Waits, Spoils, Strays, Comes, Happens, meaning, heard_by}
+use Rattle.messages.specs.Hearing.{Meaning, Says, Waits, Spoils, Strays, Comes, Happens, meaning, heard_by, frames_by}
+use Rattle.messages.specs.Senses.{sense_of, heard_or}
 use Rattle.messages.specs.declared.frame.Frame.{Frame}
 use Rattle.messages.specs.declared.frame.Frame.TheVariants.{Whole, Piece}
 use Rattle.messages.specs.declared.node.Node.TheVariants.{Client}
 use Rattle.messages.specs.declared.refusal.Act.TheVariants as acts
 use Rattle.client_core.specs.History as client
 use Rattle.client_core.specs.Life.{life}
-use Rattle.client_core.specs.Packets.{packets_for}
+use Rattle.client_core.specs.Packets.{packets, packets_for}
 use Rattle.client_core.specs.Words as words
 use Rattle.client_core.specs.declared.call.Call.{Call}
 use Rattle.client_core.specs.declared.call.Call.TheVariants as calls
@@ -22,7 +23,7 @@ use Rattle.client_core.specs.declared.input.Input.TheVariants as inputs
 use Rattle.client_core.specs.declared.input.Input.{Input}
 use Rattle.client_core.specs.Hearing.{Met, rules, heard_at, packets_heard}
 use Rattle.client_core.specs.FrameAnswers as framed
-use Rattle.client_core.specs.FrameAnswers.{due, due_in, sense_of}
+use Rattle.client_core.specs.FrameAnswers.{due}
 use Rattle.net_world.specs.declared.told.Told.{Told}
 use Rattle.net_world.specs.declared.world.World.{World}
 use Rattle.net_world.specs.Happenings.{Happening, Begin, Verify, Deliver, CutIn}
@@ -89,13 +90,14 @@ uncut_ends w past landed e i _ old new stands moved c cut = absurd cut
 
 -- ---- a save that is lost sends nothing
 
-call_silent : (o : client.Opening) (list : List client.Entry) (c : Call) (landed : Bool) → framed.frames_by o list (Some (client.Met c (lost_by landed))) ≡ []
+call_silent : (o : client.Opening) (list : List client.Entry) (c : Call) (landed : Bool)
+    → frames_by (packets o) list (Some (client.Met c (lost_by landed))) ≡ []
 call_silent o list c landed =
     ap (λ b. flat_map frames_of (if b then packets_for (words.peers o list) (words.words_noted o list) (life o list) c else []))
     (no_answer (is_none (words.refusal o list c)) (words.due o list c) landed)
 
 piece_silent : (o : client.Opening) (list : List client.Entry) (landed : Bool) (m : Meaning)
-    → framed.frames_by o list (heard_by (rules o) (lost_by landed) m) ≡ []
+    → frames_by (packets o) list (heard_by (rules o) (lost_by landed) m) ≡ []
 piece_silent o list landed (Says p) = call_silent o list (calls.Deliver p) landed
 piece_silent o list landed Waits = refl
 piece_silent o list landed Spoils = refl
@@ -153,14 +155,16 @@ module _ (w : Setup) (past : List Change) (landed : Bool) where
       no_save (words.due (client_opening w) (of_client w (trace w past)) (calls.Deliver p)) (OfClient (Comes f (lost_by landed)))
       (ap (λ l. is_some (words.due (client_opening w) l (calls.Deliver p))) (sym (heard_is w past)) ∙ h)
 
-  piece_saves : (q : PieceParts) (m : Meaning) → is_some (due_in (client_opening w) (packets_heard (client_opening w) (entries w past)) (sense_of q m)) ≡ true
+  piece_saves : (q : PieceParts) (m : Meaning)
+      → is_some (heard_or None (words.due (client_opening w) (packets_heard (client_opening w) (entries w past))) (sense_of calls.Deliver m)) ≡ true
       → client_frame_cut w (trace w past) landed (Piece q) m ≡ Ok (OfClient (Comes (Piece q) (lost_by landed)))
   piece_saves q (Says p) h = said_saves (Piece q) p h
   piece_saves q Waits h = absurd cc
   piece_saves q Spoils h = absurd cc
   piece_saves q Strays h = absurd cc
 
-  piece_none : (q : PieceParts) (m : Meaning) → is_some (due_in (client_opening w) (packets_heard (client_opening w) (entries w past)) (sense_of q m)) ≡ false
+  piece_none : (q : PieceParts) (m : Meaning)
+      → is_some (heard_or None (words.due (client_opening w) (packets_heard (client_opening w) (entries w past))) (sense_of calls.Deliver m)) ≡ false
       → client_frame_cut w (trace w past) landed (Piece q) m ≡ Err NoSave
   piece_none q (Says p) h = said_none (Piece q) p h
   piece_none q Waits h = refl

@@ -7,8 +7,8 @@ use Rattle.disk_model.specs.declared.left.Left.{Left}
 use Rattle.disk_model.specs.declared.left.Left.TheVariants.{Saved, LostNew, LostOld}
 use Rattle.disk_model.specs.Left.{saved_for, is_lost, has_new}
 use Rattle.messages.specs.declared.frame.Frame.TheVariants.{Whole, Piece}
-use Rattle.messages.specs.declared.piece.PieceParts.{PieceParts}
 use Rattle.messages.specs.Hearing.{Meaning, Says, Waits, Spoils, Strays, meaning, heard_by, with_entry}
+use Rattle.messages.specs.Senses.{Sense, Hears, Keeps, Drops, Misses, sense_of, refusal_of_sense, heard_or}
 use Rattle.client_core.specs.declared.call.Call.{Call}
 use Rattle.client_core.specs.declared.call.Call.TheVariants as calls
 use Rattle.client_core.specs.declared.input.Input.{Input}
@@ -22,7 +22,7 @@ use Rattle.client_core.specs.Words as words
 use Rattle.client_core.specs.Words.{words_noted}
 use Rattle.client_core.specs.Saves.{Addition, unless_refused, due_by, noted_after}
 use Rattle.client_core.specs.Hearing.{FrameEntry, Met, Cut, rules, heard_at, packets_heard}
-use Rattle.client_core.specs.FrameAnswers.{Sense, Hears, Keeps, Drops, Misses, sense, sense_of, refusal_in, due, due_in, answered_entry}
+use Rattle.client_core.specs.FrameAnswers.{sense, due, answered_entry}
 use Rattle.net_world.specs.declared.client_node.ClientNode.{ClientNode}
 use Rattle.net_world.specs.declared.client_node.ClientNode.TheVariants.{On, Off}
 use Rattle.net_world.specs.ClientNodes.{client_nodes, is_up, Stands, IsEmptyIfBlank}
@@ -81,12 +81,12 @@ falls true true h = refl
 falls false true h = refl
 falls on false h = absurd cc
 
-piece_falls : (o : Opening) (list : List client.Entry) (q : PieceParts) (left : Left) (m : Meaning) → is_lost left ≡ true
-    → is_some (due_in o list (sense_of q m)) ≡ true → words.is_on (with_entry (heard_by (rules o) left m) list) ≡ false
-piece_falls o list q left (Says p) h d = falls (words.is_on list) (is_lost left) h
-piece_falls o list q left Waits h d = absurd cc
-piece_falls o list q left Spoils h d = absurd cc
-piece_falls o list q left Strays h d = absurd cc
+piece_falls : (o : Opening) (list : List client.Entry) (left : Left) (m : Meaning) → is_lost left ≡ true
+    → is_some (heard_or None (words.due o list) (sense_of calls.Deliver m)) ≡ true → words.is_on (with_entry (heard_by (rules o) left m) list) ≡ false
+piece_falls o list left (Says p) h d = falls (words.is_on list) (is_lost left) h
+piece_falls o list left Waits h d = absurd cc
+piece_falls o list left Spoils h d = absurd cc
+piece_falls o list left Strays h d = absurd cc
 
 down : (o : Opening) (past : List FrameEntry) (e : Input) (left : Left) → is_lost left ≡ true → is_some (due o past e) ≡ true
     → is_up o (Met e left ∷ past) ≡ false
@@ -95,7 +95,7 @@ down o past (inputs.Trigger run act) left h d = falls (is_up o past) (is_lost le
 down o past (inputs.Stop run) left h d = falls (is_up o past) (is_lost left) h
 down o past (inputs.Verify run text) left h d = falls (is_up o past) (is_lost left) h
 down o past (inputs.Deliver (Whole p)) left h d = falls (is_up o past) (is_lost left) h
-down o past (inputs.Deliver (Piece q)) left h d = piece_falls o (packets_heard o past) q left (meaning (rules o) (heard_at o past) (Piece q)) h d
+down o past (inputs.Deliver (Piece q)) left h d = piece_falls o (packets_heard o past) left (meaning (rules o) (heard_at o past) (Piece q)) h d
 down o past inputs.Tick left h d = falls (is_up o past) (is_lost left) h
 
 -- ---- a node that is off stands for each list that says so, with what its note says
@@ -120,10 +120,11 @@ free_by : (r : Option Fault) (x : Option Addition) → is_some (unless_refused r
 free_by None x h = refl
 free_by (Some fault) x h = cc
 
-free_in : (o : Opening) (list : List client.Entry) (s : Sense) → is_some (due_in o list s) ≡ true → refusal_in o list s ≡ None
+free_in : (o : Opening) (list : List client.Entry) (s : Sense Call) → is_some (heard_or None (words.due o list) s) ≡ true
+    → refusal_of_sense (rules o) list s ≡ None
 free_in o list (Hears c) h = free_by (words.refusal o list c) _ h
-free_in o list (Keeps q) h = absurd cc
-free_in o list (Drops q) h = absurd cc
+free_in o list Keeps h = absurd cc
+free_in o list Drops h = absurd cc
 free_in o list Misses h = absurd cc
 
 -- What is due comes to a client that is on.
@@ -131,10 +132,10 @@ up_call : (on : Bool) (peers : Peers) (n : Noted) (c : Call) → is_some (due_by
 up_call true peers n c h = refl
 up_call false peers n c h = absurd cc
 
-up_in : (o : Opening) (list : List client.Entry) (s : Sense) → is_some (due_in o list s) ≡ true → words.is_on list ≡ true
+up_in : (o : Opening) (list : List client.Entry) (s : Sense Call) → is_some (heard_or None (words.due o list) s) ≡ true → words.is_on list ≡ true
 up_in o list (Hears c) h = up_call (words.is_on list) (words.peers o list) (words_noted o list) c h
-up_in o list (Keeps q) h = absurd cc
-up_in o list (Drops q) h = absurd cc
+up_in o list Keeps h = absurd cc
+up_in o list Drops h = absurd cc
 up_in o list Misses h = absurd cc
 
 -- An input that is due to make a save.

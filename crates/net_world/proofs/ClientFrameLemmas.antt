@@ -14,13 +14,14 @@ use Rattle.messages.specs.declared.frame.Frame.{Frame}
 use Rattle.messages.specs.declared.frame.Frame.TheVariants.{Whole, Piece}
 use Rattle.messages.specs.declared.node.Node.TheVariants.{Client}
 use Rattle.messages.specs.Hearing.{Heard, Meaning, Says, Waits, Spoils, Strays, Comes, meaning}
+use Rattle.messages.specs.Senses.{sense_of, is_drop, refusal_of_sense, heard_or}
 use Rattle.client_core.specs.declared.call.Call.TheVariants as calls
 use Rattle.client_core.specs.declared.input.Input.TheVariants as inputs
 use Rattle.client_core.specs.History as client
 use Rattle.client_core.specs.Words as words
 use Rattle.client_core.specs.Hearing.{rules, heard_at, packets_heard}
 use Rattle.client_core.specs.FrameAnswers as framed
-use Rattle.client_core.specs.FrameAnswers.{is_drop, sense_of, sense, refusal_in, due_in}
+use Rattle.client_core.specs.FrameAnswers.{sense}
 use Rattle.net_world.specs.declared.told.Told.{Told}
 use Rattle.net_world.specs.declared.world.World.{World}
 use Rattle.net_world.specs.Setup.{Setup}
@@ -69,8 +70,8 @@ says_err : (w : Setup) (t : List Step) (f : Frame) (p : PacketParts) (list : Lis
 says_err w t f p list fault is h = refused_here w t f p fault (ap (λ l. words.refusal (client_opening w) l (calls.Deliver p)) (sym is) ∙ h)
 
 piece_ok : (w : Setup) (t : List Step) (q : PieceParts) (list : List client.Entry) → list ≡ of_client w t → (m : Meaning)
-    → refusal_in (client_opening w) list (sense_of q m) ≡ None
-    → comes_to_client w t (Piece q) m ≡ come (Piece q) (saved_for (due_in (client_opening w) list (sense_of q m)))
+    → refusal_of_sense (rules (client_opening w)) list (sense_of calls.Deliver m) ≡ None
+    → comes_to_client w t (Piece q) m ≡ come (Piece q) (saved_for (heard_or None (words.due (client_opening w) list) (sense_of calls.Deliver m)))
 unfolding come
 piece_ok w t q list is (Says p) h = says_ok w t (Piece q) p list is h
 piece_ok w t q list is Waits h = refl
@@ -82,8 +83,8 @@ DroppedOr : Frame → Fault → Bool → Outcome → Type 0
 DroppedOr f fault drops out = ((drops ≡ false) × (out ≡ Refuses fault)) ⊎ ((drops ≡ true) × (fault ≡ FrameBadField) × (out ≡ Drops (OfClient (Comes f NoSave))))
 
 piece_err : (w : Setup) (t : List Step) (q : PieceParts) (list : List client.Entry) (fault : Fault) → list ≡ of_client w t → words.is_on list ≡ true
-    → (m : Meaning) → refusal_in (client_opening w) list (sense_of q m) ≡ Some fault
-    → DroppedOr (Piece q) fault (is_drop (sense_of q m)) (comes_to_client w t (Piece q) m)
+    → (m : Meaning) → refusal_of_sense (rules (client_opening w)) list (sense_of calls.Deliver m) ≡ Some fault
+    → DroppedOr (Piece q) fault (is_drop (sense_of calls.Deliver m)) (comes_to_client w t (Piece q) m)
 unfolding DroppedOr
 piece_err w t q list fault is on (Says p) h = inl (refl, says_err w t (Piece q) p list fault is h)
 piece_err w t q list fault is on Waits h = absurd cc
@@ -112,7 +113,7 @@ frame_err w past (Whole p) fault on h =
     unfold DroppedOr in inl (refl, says_err w (trace w past) (Whole p) p (packets_heard (client_opening w) (entries w past)) fault (heard_is w past) h)
 frame_err w past (Piece q) fault on h =
     let m = meaning (rules (client_opening w)) (heard_at (client_opening w) (entries w past)) (Piece q) in
-    subst (λ x. DroppedOr (Piece q) fault (is_drop (sense_of q m)) (comes_to_client w (trace w past) (Piece q) x)) (said_is w past (Piece q))
+    subst (λ x. DroppedOr (Piece q) fault (is_drop (sense_of calls.Deliver m)) (comes_to_client w (trace w past) (Piece q) x)) (said_is w past (Piece q))
     (piece_err w (trace w past) q (packets_heard (client_opening w) (entries w past)) fault (heard_is w past) on m h)
 
 -- ---- its delivery

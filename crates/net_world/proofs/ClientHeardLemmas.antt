@@ -1,7 +1,7 @@
 -- The client's list of frames says what the client hears in the trace.
-use Rattle.std.proofs.Common.{◌≡◌, refl, sym, ◌∙◌, ap, List, [], ◌∷◌, Option, None, Some}
+use Rattle.std.proofs.Common.{◌≡◌, refl, sym, ◌∙◌, ap, List, [], ◌∷◌}
 use Rattle.std.specs.Prelude.{map}
-use Rattle.messages.specs.Hearing.{Heard, Coming, Comes, Happens, entry_of, rows_of, with_entry, heard}
+use Rattle.messages.specs.Hearing.{Heard, Coming, Comes, Happens, entry_of, rows_of, with_entry, heard, frames_by}
 use Rattle.disk_model.specs.declared.left.Left.{Left}
 use Rattle.client_core.specs.declared.call.Call.TheVariants as calls
 use Rattle.client_core.specs.declared.input.Input.TheVariants as inputs
@@ -13,7 +13,7 @@ use Rattle.client_core.specs.Packets as packets
 use Rattle.net_world.specs.Setup.{Setup}
 use Rattle.net_world.specs.Trace as traces
 use Rattle.net_world.specs.Trace.{client_opening}
-use Rattle.net_world.specs.Frames.{FrameStep, OfClient, of_client, at_client, frames_by, frames_of_step, client_frame_entry, client_entries}
+use Rattle.net_world.specs.Frames.{FrameStep, OfClient, of_client, at_client, frames_of_step, client_frame_entry, client_entries}
 use Rattle.net_world.specs.Changes.{Change, steps, trace}
 use Rattle.net_world.proofs.HearingLemmas.{nodes_hear_their_own}
 
@@ -55,11 +55,6 @@ unfolding next
 hears_same w [] = refl
 hears_same w (c ∷ past) = ap (λ h. next w h (coming_of (client_frame_entry c))) (hears_same w past) ∙ next_same w (heard (at_client w) past) c
 
-frames_same : (w : Setup) (list : List client.Entry) (x : Option client.Entry)
-    → answers.frames_by (client_opening w) list x ≡ frames_by (packets.packets (client_opening w)) list x
-frames_same w list None = refl
-frames_same w list (Some e) = refl
-
 -- The packets that the client hears are its own in the trace.
 pub heard_is : (w : Setup) (past : List Change) → packets_heard (client_opening w) (client_entries w (steps past)) ≡ traces.of_client w (trace w past)
 heard_is w past =
@@ -71,9 +66,8 @@ sends_same : (w : Setup) (t : List FrameStep) (c : Coming client.Entry Left)
 sends_same w t c =
     let same = hears_same w (of_client w t) in
     let h = heard (at_client w) (of_client w t) in
-    ap (λ (k : Heard client.Entry). answers.frames_by (client_opening w) k.entries (entry_of (at_client w) k (coming_of (client_frame_entry c)))) same
-    ∙ ap (λ x. answers.frames_by (client_opening w) h.entries x) (entry_same w h c)
-    ∙ frames_same w h.entries (entry_of (at_client w) h c)
+    ap (λ (k : Heard client.Entry). frames_by (packets.packets (client_opening w)) k.entries (entry_of (at_client w) k (coming_of (client_frame_entry c)))) same
+    ∙ ap (λ x. frames_by (packets.packets (client_opening w)) h.entries x) (entry_same w h c)
 
 pub entry_again : (e : FrameEntry) → client_frame_entry (coming_of e) ≡ e
 entry_again (hearing.Met (inputs.Begin text) left) = refl

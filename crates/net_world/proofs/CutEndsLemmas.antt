@@ -16,7 +16,8 @@ use Rattle.messages.specs.declared.body.Body.{Body}
 use Rattle.messages.specs.declared.node.Node.TheVariants as nodes
 use Rattle.messages.specs.declared.refusal.Act.TheVariants as acts
 use Rattle.messages.specs.Pieces.{frames_of}
-use Rattle.messages.specs.Hearing.{Meaning, Says, Waits, Spoils, Strays, meaning, heard_by}
+use Rattle.messages.specs.Hearing.{Meaning, Says, Waits, Spoils, Strays, meaning, heard_by, frames_by}
+use Rattle.messages.specs.Senses.{sense_of, heard_or}
 use Rattle.server_core.specs.declared.event.Event.{Event}
 use Rattle.server_core.specs.declared.event.Event.TheVariants as events
 use Rattle.server_core.specs.declared.input.Input.TheVariants as inputs
@@ -30,7 +31,7 @@ use Rattle.server_core.specs.Answers.{to_client, sent_by}
 use Rattle.server_core.specs.Hearing as hearing
 use Rattle.server_core.specs.Hearing.{FrameEntry, rules, heard_at, packets_heard}
 use Rattle.server_core.specs.FrameAnswers as framed
-use Rattle.server_core.specs.FrameAnswers.{sense_of, due_of_sense, would_save}
+use Rattle.server_core.specs.FrameAnswers.{would_save}
 use Rattle.net_world.specs.declared.server_node.ServerNode.{ServerNode}
 use Rattle.net_world.specs.declared.world.World.{World}
 use Rattle.net_world.specs.Setup.{Setup}
@@ -64,11 +65,11 @@ lost_sends me b None bodies h = ap (λ t. flat_map frames_of (to_client me (if t
 lost_sends me b (Some fault) bodies h = refl
 
 event_silent : (o : Opening) (list : List server.Entry) (e : Event) (left : Left) → is_lost left ≡ true
-    → framed.frames_by o list (Some (server.Met e left)) ≡ []
+    → frames_by (answers.packets o) list (Some (server.Met e left)) ≡ []
 event_silent o list e left h = lost_sends o.me (is_lost left) (answers.refusal o list e) (replies (answers.now o list) (request_of o.me e)) h
 
 piece_silent : (o : Opening) (list : List server.Entry) (m : Meaning) (left : Left) → is_lost left ≡ true
-    → framed.frames_by o list (heard_by (rules o) left m) ≡ []
+    → frames_by (answers.packets o) list (heard_by (rules o) left m) ≡ []
 piece_silent o list (Says p) left h = event_silent o list (events.Deliver p) left h
 piece_silent o list Waits left h = refl
 piece_silent o list Spoils left h = refl
@@ -99,7 +100,7 @@ says_none t s landed f p list is h =
     (ap (λ l. is_some (words.due (opening_of s) l (events.Deliver p))) (sym is) ∙ h)
 
 piece_cut : (t : List Step) (s : ℕ) (landed : Bool) (q : PieceParts) (list : List server.Entry) → list ≡ of_server s t → (m : Meaning)
-    → is_some (due_of_sense (opening_of s) list (sense_of q m)) ≡ true
+    → is_some (heard_or None (words.due (opening_of s) list) (sense_of events.Deliver m)) ≡ true
     → server_frame_cut t s landed (Piece q) m ≡ Ok (step_of s (hearing.Met (inputs.Deliver (Piece q)) (lost_by landed)))
 piece_cut t s landed q list is (Says p) h = says_cut t s landed (Piece q) p list is h
 piece_cut t s landed q list is Waits h = absurd (false≢true h)
@@ -107,7 +108,7 @@ piece_cut t s landed q list is Spoils h = absurd (false≢true h)
 piece_cut t s landed q list is Strays h = absurd (false≢true h)
 
 piece_none : (t : List Step) (s : ℕ) (landed : Bool) (q : PieceParts) (list : List server.Entry) → list ≡ of_server s t → (m : Meaning)
-    → is_some (due_of_sense (opening_of s) list (sense_of q m)) ≡ false
+    → is_some (heard_or None (words.due (opening_of s) list) (sense_of events.Deliver m)) ≡ false
     → server_frame_cut t s landed (Piece q) m ≡ Err NoSave
 piece_none t s landed q list is (Says p) h = says_none t s landed (Piece q) p list is h
 piece_none t s landed q list is Waits h = refl

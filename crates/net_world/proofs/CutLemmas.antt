@@ -12,8 +12,8 @@ use Rattle.disk_model.specs.declared.left.Left.TheVariants.{Saved, LostNew, Lost
 use Rattle.disk_model.specs.Left.{saved_for, has_new}
 use Rattle.messages.specs.declared.frame.Frame.{Frame}
 use Rattle.messages.specs.declared.frame.Frame.TheVariants.{Whole, Piece}
-use Rattle.messages.specs.declared.piece.PieceParts.{PieceParts}
 use Rattle.messages.specs.Hearing.{Meaning, Says, Waits, Spoils, Strays, meaning, heard_by, with_entry}
+use Rattle.messages.specs.Senses.{sense_of, refusal_of_sense, heard_or}
 use Rattle.server_core.specs.declared.event.Event.{Event}
 use Rattle.server_core.specs.declared.event.Event.TheVariants as events
 use Rattle.server_core.specs.declared.input.Input.TheVariants as inputs
@@ -29,7 +29,7 @@ use Rattle.server_core.specs.Words as words
 use Rattle.server_core.specs.Answers.{now, refusal_of}
 use Rattle.server_core.specs.Answers as answers
 use Rattle.server_core.specs.Hearing.{FrameEntry, Met, Cut, Restart, rules, heard_at, packets_heard}
-use Rattle.server_core.specs.FrameAnswers.{sense_of, refusal, refusal_of_sense, due, due_of_sense, would_save, answered_entry}
+use Rattle.server_core.specs.FrameAnswers.{refusal, due, would_save, answered_entry}
 use Rattle.net_world.specs.declared.server_node.ServerNode.{ServerNode}
 use Rattle.net_world.specs.declared.server_node.ServerNode.TheVariants.{On, Off}
 use Rattle.net_world.specs.ServerNodes.{server_nodes, words_noted, is_up, has_boot, Stands, Restarts, CutsInRestart, no_save, boots}
@@ -89,17 +89,18 @@ record LostPiece (o : Opening) (list : List server.Entry) (m : Meaning) : Type 0
   new : words_noted o (heard_list o list Saved m) ≡ words_noted o (heard_list o list LostNew m)
   old : words_noted o list ≡ words_noted o (heard_list o list LostOld m)
 
-lost_piece : (o : Opening) (list : List server.Entry) (q : PieceParts) (m : Meaning) → is_some (due_of_sense o list (sense_of q m)) ≡ true → LostPiece o list m
+lost_piece : (o : Opening) (list : List server.Entry) (m : Meaning) → is_some (heard_or None (words.due o list) (sense_of events.Deliver m)) ≡ true
+    → LostPiece o list m
 unfolding heard_list
-lost_piece o list q (Says p) h = record {
+lost_piece o list (Says p) h = record {
   off_new = and_false (is_on list);
   off_old = and_false (is_on list);
   new = same_new o list (events.Deliver p) Saved LostNew refl;
   old = same_old o list (events.Deliver p);
 }
-lost_piece o list q Waits h = absurd (false≢true h)
-lost_piece o list q Spoils h = absurd (false≢true h)
-lost_piece o list q Strays h = absurd (false≢true h)
+lost_piece o list Waits h = absurd (false≢true h)
+lost_piece o list Spoils h = absurd (false≢true h)
+lost_piece o list Strays h = absurd (false≢true h)
 
 is_lost_in : (o : Opening) (past : List FrameEntry) (f : Frame) → would_save o past f ≡ true → IsLost o past f
 unfolding heard_list
@@ -110,7 +111,7 @@ is_lost_in o past (Whole p) h = record {
   old = same_old o (packets_heard o past) (events.Deliver p);
 }
 is_lost_in o past (Piece q) h =
-    let l = lost_piece o (packets_heard o past) q (meaning (rules o) (heard_at o past) (Piece q)) h in
+    let l = lost_piece o (packets_heard o past) (meaning (rules o) (heard_at o past) (Piece q)) h in
     record { off_new = l.off_new; off_old = l.off_old; new = l.new; old = l.old }
 
 -- ---- what is due isn't refused
@@ -124,16 +125,16 @@ due_free on w last s x _ h = absurd (false≢true h)
 event_free : (o : Opening) (list : List server.Entry) (e : Event) → is_some (words.due o list e) ≡ true → answers.refusal o list e ≡ None
 event_free o list e h = due_free (is_on list) (now o list) (last_run o list) (staged_run o list) (work o list) (request_of o.me e) h
 
-piece_free : (o : Opening) (list : List server.Entry) (q : PieceParts) (m : Meaning) → is_some (due_of_sense o list (sense_of q m)) ≡ true
-    → refusal_of_sense o list (sense_of q m) ≡ None
-piece_free o list q (Says p) h = event_free o list (events.Deliver p) h
-piece_free o list q Waits h = refl
-piece_free o list q Spoils h = absurd (false≢true h)
-piece_free o list q Strays h = absurd (false≢true h)
+piece_free : (o : Opening) (list : List server.Entry) (m : Meaning) → is_some (heard_or None (words.due o list) (sense_of events.Deliver m)) ≡ true
+    → refusal_of_sense (rules o) list (sense_of events.Deliver m) ≡ None
+piece_free o list (Says p) h = event_free o list (events.Deliver p) h
+piece_free o list Waits h = refl
+piece_free o list Spoils h = absurd (false≢true h)
+piece_free o list Strays h = absurd (false≢true h)
 
 save_free : (o : Opening) (past : List FrameEntry) (f : Frame) → would_save o past f ≡ true → refusal o past (inputs.Deliver f) ≡ None
 save_free o past (Whole p) h = event_free o (packets_heard o past) (events.Deliver p) h
-save_free o past (Piece q) h = piece_free o (packets_heard o past) q (meaning (rules o) (heard_at o past) (Piece q)) h
+save_free o past (Piece q) h = piece_free o (packets_heard o past) (meaning (rules o) (heard_at o past) (Piece q)) h
 
 saved_by : (x : Option Staged) → is_some x ≡ true → saved_for x ≡ Saved
 saved_by None h = absurd (false≢true h)

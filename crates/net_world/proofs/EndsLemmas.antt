@@ -8,6 +8,7 @@ use Rattle.fc_base.specs.Fault.{sort_of}
 use Rattle.messages.specs.declared.refusal.Act.{Act}
 use Rattle.messages.specs.declared.node.Node.{Node}
 use Rattle.messages.specs.declared.node.Node.TheVariants as nodes
+use Rattle.messages.specs.Senses.{is_drop}
 use Rattle.disk_model.specs.Steps.{is_answer}
 use Rattle.server_core.specs.declared.event.Event.{Event}
 use Rattle.server_core.specs.declared.event.Event.TheVariants as events
@@ -19,7 +20,6 @@ use Rattle.server_core.specs.declared.input.Input.{Input}
 use Rattle.server_core.specs.declared.input.Input.TheVariants as inputs
 use Rattle.server_core.specs.Hearing.{packets_heard}
 use Rattle.server_core.specs.FrameAnswers.{sense}
-use Rattle.server_core.specs.FrameEnds.{is_drop}
 use Rattle.server_core.specs.Answers as answers
 use Rattle.net_world.specs.declared.served.Served.{Served}
 use Rattle.net_world.specs.declared.told.WorldAnswer.{WorldAnswer}

@@ -7,7 +7,7 @@ use Rattle.std.proofs.lemmas.Bool.{eqb-true}
 use Rattle.std.proofs.lemmas.List.Concat.{flat_map-append}
 use Rattle.messages.specs.declared.packet.PacketParts.{PacketParts}
 use Rattle.messages.specs.Pieces.{frames_of}
-use Rattle.messages.specs.Hearing.{Coming, entry_of, with_entry, heard}
+use Rattle.messages.specs.Hearing.{Coming, entry_of, with_entry, heard, frames_by}
 use Rattle.disk_model.specs.declared.left.Left.{Left}
 use Rattle.server_core.specs.History as server
 use Rattle.server_core.specs.Answers as servers
@@ -18,7 +18,7 @@ use Rattle.net_world.specs.Setup.{Setup}
 use Rattle.net_world.specs.Trace as packets
 use Rattle.net_world.specs.Trace.{Step, AtServer, AtClient, opening_of, client_opening, mirror_opening, packets_of, sent_packets}
 use Rattle.net_world.specs.Frames.{FrameStep, OfServer, OfClient, OfMirror, of_server, of_client, of_mirror, at_server}
-use Rattle.net_world.specs.Frames.{at_client, frames_by, frames_of_step, frames_sent, step_heard, trace_heard}
+use Rattle.net_world.specs.Frames.{at_client, frames_of_step, frames_sent, step_heard, trace_heard}
 use Rattle.net_world.specs.FrameLaws.{NodesHearTheirOwn, FramesAreOfPackets}
 
 if_same : {X : Type 0} (t : Bool) (x : X) → x ≡ (if t then x else x)

@@ -1,6 +1,6 @@
 -- Only packets that were sent are heard.
-use Rattle.std.proofs.Common.{◌≡◌, refl, sym, ◌∙◌, ap, subst, ◌⊎◌, inl, inr, ℕ, ◌<◌, Bool, true, false, ◌==◌, List, [], ◌∷◌, Option, None, Some}
-use Rattle.std.specs.Prelude.{if◌then◌else◌, map, Contains}
+use Rattle.std.proofs.Common.{◌≡◌, refl, sym, ◌∙◌, ap, subst, ◌⊎◌, inl, inr, ℕ, ◌<◌, Bool, true, false, ◌&&◌, ◌==◌, List, [], ◌∷◌, Option, None, Some}
+use Rattle.std.specs.Prelude.{if◌then◌else◌, is_some, map, Contains}
 use Rattle.std.specs.List.{AllByRecursion, flat_map}
 use Rattle.std.specs.Option.{option_map}
 use Rattle.std.proofs.lemmas.Bool.{eqb-true}
@@ -104,19 +104,19 @@ either : (ps : List PacketParts) (b : Bool) (xs ys : List Row) → WasSent ps xs
 either ps true xs ys v w = v
 either ps false xs ys v w = w
 
-rows_kept : {E L : Type 0} (r : Rules E L) (ps : List PacketParts) (h : Heard E) (q : PieceParts) → WasSent ps h.rows → WasSent ps (rows_after_piece h.rows q)
-    → (m : Meaning) → WasSent ps (rows_by r h q m)
-rows_kept r ps h q w v (Says p) = either ps (r.refuses h.entries p) h.rows (rows_after_piece h.rows q) w v
+rows_kept : {X E L : Type 0} (r : Rules X E L) (ps : List PacketParts) (h : Heard E) (q : PieceParts) → WasSent ps h.rows
+    → WasSent ps (rows_after_piece h.rows q) → (m : Meaning) → WasSent ps (rows_by r h q m)
+rows_kept r ps h q w v (Says p) = either ps (is_some (r.refusal h.entries (r.delivers p))) h.rows (rows_after_piece h.rows q) w v
 rows_kept r ps h q w v Waits = v
 rows_kept r ps h q w v Spoils = v
 rows_kept r ps h q w v Strays = w
 
 -- What a frame that was sent to the node leaves and says is of packets that were sent.
-pub record Keeps {E L : Type 0} (r : Rules E L) (ps : List PacketParts) (node : Node) (h : Heard E) (f : Frame) (left : L) : Type 0 where
+pub record Keeps {X E L : Type 0} (r : Rules X E L) (ps : List PacketParts) (node : Node) (h : Heard E) (f : Frame) (left : L) : Type 0 where
   pub rows : WasSent ps (rows_of r h (Comes f left))
   pub says : SaysSent ps node (meaning r h f)
 
-pub keeps : OnlySentComesTogether → {E L : Type 0} (r : Rules E L) (ps : List PacketParts) → ArePackets ps → OneBodyOfEachTag ps → (h : Heard E)
+pub keeps : OnlySentComesTogether → {X E L : Type 0} (r : Rules X E L) (ps : List PacketParts) → ArePackets ps → OneBodyOfEachTag ps → (h : Heard E)
     → WasSent ps h.rows
     → (node : Node) (f : Frame) → IsFrameOf ps f → to_of f ≡ node → (left : L) → Keeps r ps node h f left
 keeps law r ps are one h w node (Whole p) i to left = record { rows = w; says = (i, to) }
@@ -126,13 +126,14 @@ keeps law r ps are one h w node (Piece q) i to left =
     let goes : p.to ≡ node = piece_goes p q (i.2).1 ∙ to in
     record {
       rows = rows_kept r ps h q w told.1 (meaning r h (Piece q));
-      says = if_taken ps node (r.takes h.entries q) (said_by (look_at_piece h.rows q)) (look_sent ps node p i.1 goes (look_at_piece h.rows q) told.0);
+      says = if_taken ps node (r.is_on h.entries && r.is_for q) (said_by (look_at_piece h.rows q))
+          (look_sent ps node p i.1 goes (look_at_piece h.rows q) told.0);
     }
 
 -- ---- each step keeps the trace, and what has come together
 
 -- What has come together at a node is of sent packets, and with the step the trace is one.
-record Kept {E L : Type 0} (r : Rules E L) (w : Setup) (t : List Step) (h : Heard E) (c : Coming E L) (step : E → Step) : Type 0 where
+record Kept {X E L : Type 0} (r : Rules X E L) (w : Setup) (t : List Step) (h : Heard E) (c : Coming E L) (step : E → Step) : Type 0 where
   pub rows : WasSent (sent_packets w t) (rows_of r h c)
   pub trace : IsTrace w (with_entry (option_map step (entry_of r h c)) t)
 

@@ -13,6 +13,7 @@ use Rattle.messages.specs.declared.frame.Frame.{Frame}
 use Rattle.messages.specs.declared.frame.Frame.TheVariants.{Whole, Piece}
 use Rattle.messages.specs.declared.refusal.Act.TheVariants as acts
 use Rattle.messages.specs.Hearing.{Heard, Meaning, Says, Waits, Spoils, Strays, Comes, Happens, meaning, heard_by}
+use Rattle.messages.specs.Senses.{sense_of, is_drop, refusal_of_sense, heard_or}
 use Rattle.server_core.specs.declared.event.Event.{Event}
 use Rattle.server_core.specs.declared.event.Event.TheVariants as events
 use Rattle.server_core.specs.declared.input.Input.{Input}
@@ -23,8 +24,7 @@ use Rattle.server_core.specs.Words.{Staged}
 use Rattle.server_core.specs.Answers as answers
 use Rattle.server_core.specs.Hearing.{rules, heard_at, packets_heard}
 use Rattle.server_core.specs.FrameAnswers as framed
-use Rattle.server_core.specs.FrameAnswers.{sense_of, sense, refusal_of_sense, due_of_sense, act_of_sense}
-use Rattle.server_core.specs.FrameEnds.{is_drop}
+use Rattle.server_core.specs.FrameAnswers.{sense}
 use Rattle.net_world.specs.Setup.{Setup}
 use Rattle.net_world.specs.Trace.{Step, AtServer, of_server, opening_of}
 use Rattle.net_world.specs.Frames.{OfServer, at_server}
@@ -94,8 +94,8 @@ misdirected true fault h k = cc
 misdirected false fault h k = cc
 
 piece_ok : (t : List Step) (s : ℕ) (q : PieceParts) (list : List server.Entry) → list ≡ of_server s t → (m : Meaning)
-    → refusal_of_sense (opening_of s) list (sense_of q m) ≡ None
-    → comes_to_server t s (Piece q) m ≡ come s (Piece q) (saved_for (due_of_sense (opening_of s) list (sense_of q m)))
+    → refusal_of_sense (rules (opening_of s)) list (sense_of events.Deliver m) ≡ None
+    → comes_to_server t s (Piece q) m ≡ come s (Piece q) (saved_for (heard_or None (words.due (opening_of s) list) (sense_of events.Deliver m)))
 unfolding come
 piece_ok t s q list is (Says p) h = says_ok t s (Piece q) p list is h
 piece_ok t s q list is Waits h = refl
@@ -111,8 +111,8 @@ pub bad_field : (fault : Fault) → Some FrameBadField ≡ Some fault → fault 
 bad_field fault h = cc
 
 piece_err : (t : List Step) (s : ℕ) (q : PieceParts) (list : List server.Entry) (fault : Fault) → list ≡ of_server s t → words.is_on list ≡ true → (m : Meaning)
-    → refusal_of_sense (opening_of s) list (sense_of q m) ≡ Some fault
-    → DroppedOr s (Piece q) fault (is_drop (sense_of q m)) (comes_to_server t s (Piece q) m)
+    → refusal_of_sense (rules (opening_of s)) list (sense_of events.Deliver m) ≡ Some fault
+    → DroppedOr s (Piece q) fault (is_drop (sense_of events.Deliver m)) (comes_to_server t s (Piece q) m)
 unfolding DroppedOr
 piece_err t s q list fault is on (Says p) h = inl (refl, says_err t s (Piece q) p list fault is h)
 piece_err t s q list fault is on Waits h = absurd cc
@@ -141,7 +141,7 @@ frame_err w past s (Whole p) fault on h =
     unfold DroppedOr in inl (refl, says_err (trace w past) s (Whole p) p (packets_heard (opening_of s) (entries past s)) fault (heard_is w past s) h)
 frame_err w past s (Piece q) fault on h =
     let m = meaning (rules (opening_of s)) (heard_at (opening_of s) (entries past s)) (Piece q) in
-    subst (λ x. DroppedOr s (Piece q) fault (is_drop (sense_of q m)) (comes_to_server (trace w past) s (Piece q) x)) (said_is w s past (Piece q))
+    subst (λ x. DroppedOr s (Piece q) fault (is_drop (sense_of events.Deliver m)) (comes_to_server (trace w past) s (Piece q) x)) (said_is w s past (Piece q))
     (piece_err (trace w past) s q (packets_heard (opening_of s) (entries past s)) fault (heard_is w past s) on m h)
 
 -- ---- what the server asks of its caller
@@ -151,13 +151,14 @@ act_here : (t : List Step) (s : ℕ) (e : Event) (x : Option Staged) (list : Lis
 act_here t s e x list is =
     ap (λ lost. if lost then acts.None else answers.act (opening_of s) (of_server s t) e) (not_lost x) ∙ ap (λ l. answers.act (opening_of s) l e) (sym is)
 
-act_said : (t : List Step) (s : ℕ) (q : PieceParts) (list : List server.Entry) → list ≡ of_server s t → (m : Meaning)
-    → act_of t (option_map (AtServer s) (heard_by (rules (opening_of s)) (saved_for (due_of_sense (opening_of s) list (sense_of q m))) m))
-    ≡ act_of_sense (opening_of s) list (sense_of q m)
-act_said t s q list is (Says p) = act_here t s (events.Deliver p) (words.due (opening_of s) list (events.Deliver p)) list is
-act_said t s q list is Waits = refl
-act_said t s q list is Spoils = refl
-act_said t s q list is Strays = refl
+act_said : (t : List Step) (s : ℕ) (list : List server.Entry) → list ≡ of_server s t → (m : Meaning)
+    → act_of t (option_map (AtServer s)
+    (heard_by (rules (opening_of s)) (saved_for (heard_or None (words.due (opening_of s) list) (sense_of events.Deliver m))) m))
+    ≡ heard_or acts.None (answers.act (opening_of s) list) (sense_of events.Deliver m)
+act_said t s list is (Says p) = act_here t s (events.Deliver p) (words.due (opening_of s) list (events.Deliver p)) list is
+act_said t s list is Waits = refl
+act_said t s list is Spoils = refl
+act_said t s list is Strays = refl
 
 pub act_is : (w : Setup) (past : List Change) (s : ℕ) (e : Input) → act w past (Changed (step_by past s e)) ≡ framed.act (opening_of s) (entries past s) e
 act_is w past s (inputs.Deliver (Whole p)) = act_here (trace w past) s (events.Deliver p)
@@ -166,9 +167,9 @@ act_is w past s (inputs.Deliver (Piece q)) =
     let o = opening_of s in
     let list = packets_heard o (entries past s) in
     let m = meaning (rules o) (heard_at o (entries past s)) (Piece q) in
-    ap (λ x. act_of (trace w past) (option_map (AtServer s) (heard_by (rules o) (saved_for (due_of_sense o list (sense_of q m))) x)))
+    ap (λ x. act_of (trace w past) (option_map (AtServer s) (heard_by (rules o) (saved_for (heard_or None (words.due o list) (sense_of events.Deliver m))) x)))
     (sym (said_is w s past (Piece q)))
-    ∙ act_said (trace w past) s q list (heard_is w past s) m
+    ∙ act_said (trace w past) s list (heard_is w past s) m
 act_is w past s (inputs.Issue j) = act_here (trace w past) s (events.Issue j) (framed.due (opening_of s) (entries past s) (inputs.Issue j))
     (packets_heard (opening_of s) (entries past s)) (heard_is w past s)
 act_is w past s (inputs.WriteDone ticket end) = act_here (trace w past) s (events.WriteDone ticket end)

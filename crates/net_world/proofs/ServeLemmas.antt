@@ -19,10 +19,10 @@ use Rattle.disk_model.specs.declared.left.Left.TheVariants.{NoSave}
 use Rattle.messages.specs.FrameBytes.{frame_spelling}
 use Rattle.messages.specs.declared.node.Node.TheVariants as nodes
 use Rattle.messages.specs.declared.body.Body.{Body}
-use Rattle.messages.specs.declared.piece.PieceParts.{PieceParts}
 use Rattle.messages.specs.declared.frame.Frame.TheVariants.{Whole, Piece}
 use Rattle.messages.specs.Pieces.{frames_of}
-use Rattle.messages.specs.Hearing.{Heard, Meaning, Says, Waits, Spoils, Strays, meaning, heard_by}
+use Rattle.messages.specs.Hearing.{Heard, Meaning, Says, Waits, Spoils, Strays, meaning, heard_by, frames_by}
+use Rattle.messages.specs.Senses.{sense_of, refusal_of_sense}
 use Rattle.server_core.specs.declared.event.Event.{Event}
 use Rattle.server_core.specs.declared.event.Event.TheVariants as events
 use Rattle.server_core.specs.declared.input.Input.{Input}
@@ -111,21 +111,21 @@ none_sent : (me : ℕ) (lost : Bool) (x : Option Fault) (fault : Fault) (bodies 
 none_sent me lost x fault bodies h = rw h refl
 
 event_sends : (o : server.Opening) (list : List server.Entry) (e : Event) (fault : Fault) → packet_answers.refusal o list e ≡ Some fault
-    → answers.frames_by o list (Some (server.Met e NoSave)) ≡ []
+    → frames_by (packet_answers.packets o) list (Some (server.Met e NoSave)) ≡ []
 event_sends o list e fault h = none_sent o.me false (packet_answers.refusal o list e) fault (replies (packet_answers.now o list) (request_of o.me e)) h
 
-piece_sends : (o : server.Opening) (list : List server.Entry) (q : PieceParts) (m : Meaning) (fault : Fault)
-    → answers.refusal_of_sense o list (answers.sense_of q m) ≡ Some fault
-    → answers.frames_by o list (heard_by (rules o) NoSave m) ≡ []
-piece_sends o list q (Says p) fault h = event_sends o list (events.Deliver p) fault h
-piece_sends o list q Waits fault h = refl
-piece_sends o list q Spoils fault h = refl
-piece_sends o list q Strays fault h = refl
+piece_sends : (o : server.Opening) (list : List server.Entry) (m : Meaning) (fault : Fault)
+    → refusal_of_sense (rules o) list (sense_of events.Deliver m) ≡ Some fault
+    → frames_by (packet_answers.packets o) list (heard_by (rules o) NoSave m) ≡ []
+piece_sends o list (Says p) fault h = event_sends o list (events.Deliver p) fault h
+piece_sends o list Waits fault h = refl
+piece_sends o list Spoils fault h = refl
+piece_sends o list Strays fault h = refl
 
 refused_sends : (o : server.Opening) (past : List FrameEntry) (e : Input) (fault : Fault) → answers.refusal o past e ≡ Some fault
     → answers.frames o past (Met e NoSave) ≡ []
 refused_sends o past (inputs.Deliver (Whole p)) fault h = event_sends o (packets_heard o past) (events.Deliver p) fault h
-refused_sends o past (inputs.Deliver (Piece q)) fault h = piece_sends o (packets_heard o past) q (meaning (rules o) (heard_at o past) (Piece q)) fault h
+refused_sends o past (inputs.Deliver (Piece q)) fault h = piece_sends o (packets_heard o past) (meaning (rules o) (heard_at o past) (Piece q)) fault h
 refused_sends o past (inputs.Issue j) fault h = event_sends o (packets_heard o past) (events.Issue j) fault h
 refused_sends o past (inputs.WriteDone ticket end) fault h = event_sends o (packets_heard o past) (events.WriteDone ticket end) fault h
 refused_sends o past (inputs.CheckDone boot a j report) fault h = event_sends o (packets_heard o past) (events.CheckDone boot a j report) fault h

@@ -1,7 +1,7 @@
 -- A server's list of frames says what the server hears in the trace.
-use Rattle.std.proofs.Common.{◌≡◌, refl, ◌∙◌, ap, ℕ, List, [], ◌∷◌, Option, None, Some}
+use Rattle.std.proofs.Common.{◌≡◌, refl, ◌∙◌, ap, ℕ, List, [], ◌∷◌}
 use Rattle.std.specs.Prelude.{map}
-use Rattle.messages.specs.Hearing.{Heard, Coming, Comes, Happens, entry_of, rows_of, with_entry, heard}
+use Rattle.messages.specs.Hearing.{Heard, Coming, Comes, Happens, entry_of, rows_of, with_entry, heard, frames_by}
 use Rattle.disk_model.specs.declared.left.Left.{Left}
 use Rattle.server_core.specs.declared.event.Event.TheVariants as events
 use Rattle.server_core.specs.History as server
@@ -9,7 +9,7 @@ use Rattle.server_core.specs.Hearing.{coming_of}
 use Rattle.server_core.specs.Answers as answers
 use Rattle.server_core.specs.FrameAnswers as sends
 use Rattle.net_world.specs.Trace.{opening_of}
-use Rattle.net_world.specs.Frames.{of_server, at_server, frames_by, frame_entry}
+use Rattle.net_world.specs.Frames.{of_server, at_server, frame_entry}
 use Rattle.net_world.specs.FrameLaws.{ServersStand}
 
 -- What is heard with one more.
@@ -40,11 +40,6 @@ unfolding next
 hears_same s [] = refl
 hears_same s (c ∷ past) = ap (λ h. next s h (coming_of (frame_entry c))) (hears_same s past) ∙ next_same s (heard (at_server s) past) c
 
-frames_same : (s : ℕ) (list : List server.Entry) (x : Option server.Entry)
-    → sends.frames_by (opening_of s) list x ≡ frames_by (answers.packets (opening_of s)) list x
-frames_same s list None = refl
-frames_same s list (Some e) = refl
-
 pub servers_stand : ServersStand
 servers_stand w s t =
     let h = heard (at_server s) (of_server s t) in
@@ -52,7 +47,6 @@ servers_stand w s t =
     record {
       hears = same;
       sends = λ c.
-          ap (λ (k : Heard server.Entry). sends.frames_by (opening_of s) k.entries (entry_of (at_server s) k (coming_of (frame_entry c)))) same
-          ∙ ap (λ x. sends.frames_by (opening_of s) h.entries x) (entry_same s h c)
-          ∙ frames_same s h.entries (entry_of (at_server s) h c);
+          ap (λ (k : Heard server.Entry). frames_by (answers.packets (opening_of s)) k.entries (entry_of (at_server s) k (coming_of (frame_entry c)))) same
+          ∙ ap (λ x. frames_by (answers.packets (opening_of s)) h.entries x) (entry_same s h c);
     }

@@ -5,12 +5,13 @@ use Rattle.fc_base.specs.declared.fault.Fault.TheVariants.{NoMemory}
 use Rattle.fc_base.specs.declared.fault.FaultSort.{FaultSort}
 use Rattle.fc_base.specs.declared.fault.FaultSort.TheVariants as sorts
 use Rattle.fc_base.specs.Fault.{sort_of}
+use Rattle.messages.specs.Senses.{is_drop}
 use Rattle.disk_model.specs.declared.left.Left.TheVariants.{NoSave}
 use Rattle.messages.specs.declared.node.Node.TheVariants.{Client}
 use Rattle.messages.specs.declared.refusal.Act.TheVariants as acts
 use Rattle.client_core.specs.declared.input.Input.{Input}
 use Rattle.client_core.specs.Hearing.{FrameEntry, Met, coming_of}
-use Rattle.client_core.specs.FrameAnswers.{is_drop, sense, refusal, answered_entry}
+use Rattle.client_core.specs.FrameAnswers.{sense, refusal, answered_entry}
 use Rattle.net_world.specs.declared.asked.Asked.{Asked}
 use Rattle.net_world.specs.declared.told.Told.{Told}
 use Rattle.net_world.specs.declared.world.World.{World}

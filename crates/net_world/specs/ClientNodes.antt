@@ -4,6 +4,7 @@ use Rattle.std.specs.Prelude.{Result, Ok, Err}
 use Rattle.fc_base.specs.declared.fault.Fault.{Fault}
 use Rattle.fc_base.specs.declared.fault.Fault.TheVariants.{BadNote, NodeOn, NoSave}
 use Rattle.fc_base.specs.Fault.{sort_of}
+use Rattle.messages.specs.Senses.{is_drop}
 use Rattle.disk_model.specs.MemNotes.{Saved as Kept, note_of}
 use Rattle.disk_model.specs.declared.left.Left.TheVariants.{Saved}
 use Rattle.client_core.specs.declared.client.Client.{Client}
@@ -15,7 +16,7 @@ use Rattle.client_core.specs.Note.{Says, is_blank}
 use Rattle.client_core.specs.Words.{is_on, words_noted}
 use Rattle.client_core.specs.Saves.{Addition}
 use Rattle.client_core.specs.Hearing.{FrameEntry, Restart, Renew, Lose, packets_heard}
-use Rattle.client_core.specs.FrameAnswers.{is_drop, sense}
+use Rattle.client_core.specs.FrameAnswers.{sense}
 use Rattle.client_core.specs.FrameEnds.{StandsFor, steps}
 use Rattle.net_world.specs.declared.asked.Asked.{Asked}
 use Rattle.net_world.specs.declared.client_node.ClientNode.{ClientNode}

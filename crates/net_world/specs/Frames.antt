@@ -1,6 +1,6 @@
 -- The steps of a client, its servers and its mirror with frames in one list, the newest first, and
 -- the trace of packets that it says.
-use Rattle.std.specs.Prelude.{◌≡◌, ℕ, ◌==◌, if◌then◌else◌, List, [], ◌∷◌, ◌++◌, map, Option, Some, None, Contains, Bool, true, IsTrue}
+use Rattle.std.specs.Prelude.{◌≡◌, ℕ, ◌==◌, if◌then◌else◌, List, [], ◌∷◌, ◌++◌, map, Option, Some, Contains, Bool, true, IsTrue}
 use Rattle.std.specs.List.{flat_map}
 use Rattle.std.specs.Option.{option_map}
 use Rattle.messages.specs.declared.packet.PacketParts.{PacketParts}
@@ -9,14 +9,16 @@ use Rattle.messages.specs.declared.node.Node.TheVariants.{Server, Client, Mirror
 use Rattle.messages.specs.declared.frame.Frame.{Frame}
 use Rattle.messages.specs.declared.frame.Frame.TheVariants.{Whole, Piece}
 use Rattle.messages.specs.Pieces.{frames_of}
-use Rattle.messages.specs.Hearing.{Rules, Coming, Comes, Happens, entry_of, with_entry, heard}
+use Rattle.messages.specs.Hearing.{Rules, Coming, Comes, Happens, entry_of, frames_by, with_entry, heard}
 use Rattle.disk_model.specs.declared.left.Left.{Left}
 use Rattle.disk_model.specs.declared.left.Left.TheVariants.{Saved}
+use Rattle.server_core.specs.declared.event.Event.{Event}
 use Rattle.server_core.specs.declared.event.Event.TheVariants as events
 use Rattle.server_core.specs.declared.input.Input.TheVariants as inputs
 use Rattle.server_core.specs.History as server
 use Rattle.server_core.specs.Hearing as server_hearing
 use Rattle.server_core.specs.Answers as servers
+use Rattle.client_core.specs.declared.call.Call.{Call}
 use Rattle.client_core.specs.declared.call.Call.TheVariants as calls
 use Rattle.client_core.specs.declared.input.Input.TheVariants as client_inputs
 use Rattle.client_core.specs.History as client
@@ -56,22 +58,16 @@ of_mirror (OfClient c ∷ past) = of_mirror past
 of_mirror (OfMirror e ∷ past) = e ∷ of_mirror past
 
 -- How each node hears.
-abbrev pub at_server : ℕ → Rules server.Entry Left
+abbrev pub at_server : ℕ → Rules Event server.Entry Left
 at_server s = server_hearing.rules (opening_of s)
 
 -- How the client of a setup hears frames.
-abbrev pub at_client : Setup → Rules client.Entry Left
+abbrev pub at_client : Setup → Rules Call client.Entry Left
 at_client w = client_hearing.rules (client_opening w)
-
--- The frames of the packets that a node sends with what it hears; none where it hears nothing.
-abbrev pub frames_by : {E : Type 0} → (List E → E → List PacketParts) → List E → Option E
-    → List Frame
-frames_by sends past None = []
-frames_by sends past (Some e) = flat_map frames_of (sends past e)
 
 -- The frames that a node sends, to which this has happened, with what happens now.
 abbrev pub frames_of_coming :
-    {E : Type 0} → Rules E Left → (List E → E → List PacketParts) → List (Coming E Left)
+    {X E : Type 0} → Rules X E Left → (List E → E → List PacketParts) → List (Coming E Left)
     → Coming E Left → List Frame
 frames_of_coming r sends past c =
     frames_by sends (heard r past).entries (entry_of r (heard r past) c)

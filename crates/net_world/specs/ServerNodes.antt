@@ -3,6 +3,7 @@ use Rattle.std.specs.Prelude.{◌≡◌, ◌+◌, ◌^◌, nat_lt, if◌then◌e
 use Rattle.std.specs.Prelude.{Result, Ok, Err}
 use Rattle.fc_base.specs.declared.fault.Fault.{Fault}
 use Rattle.fc_base.specs.declared.fault.Fault.TheVariants.{NoSave, NumbersSpent}
+use Rattle.messages.specs.Senses.{is_drop}
 use Rattle.disk_model.specs.MemNotes.{Saved as Kept, note_of}
 use Rattle.disk_model.specs.declared.left.Left.TheVariants.{Saved}
 use Rattle.server_core.specs.declared.input.Input.{Input}
@@ -15,7 +16,7 @@ use Rattle.server_core.specs.Note.{Says}
 use Rattle.server_core.specs.Words.{Staged, is_on, boot, last_run}
 use Rattle.server_core.specs.Hearing.{FrameEntry, Restart, packets_heard}
 use Rattle.server_core.specs.FrameAnswers.{sense}
-use Rattle.server_core.specs.FrameEnds.{StandsFor, is_drop, steps}
+use Rattle.server_core.specs.FrameEnds.{StandsFor, steps}
 use Rattle.net_world.specs.declared.server_node.ServerNode.{ServerNode}
 use Rattle.net_world.specs.declared.server_node.ServerNode.TheVariants.{On, Off}
 use Rattle.net_world.specs.Nodes.{Nodes, Starts}

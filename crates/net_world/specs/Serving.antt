@@ -5,12 +5,12 @@ use Rattle.fc_base.specs.declared.fault.Fault.TheVariants.{NoMemory}
 use Rattle.fc_base.specs.declared.fault.FaultSort.{FaultSort}
 use Rattle.fc_base.specs.declared.fault.FaultSort.TheVariants as sorts
 use Rattle.fc_base.specs.Fault.{sort_of}
+use Rattle.messages.specs.Senses.{is_drop}
 use Rattle.disk_model.specs.declared.left.Left.TheVariants.{NoSave}
 use Rattle.messages.specs.declared.node.Node.TheVariants as nodes
 use Rattle.server_core.specs.declared.input.Input.{Input}
 use Rattle.server_core.specs.Hearing.{FrameEntry, Met, coming_of}
 use Rattle.server_core.specs.FrameAnswers.{sense, refusal, issue, act, answered_entry}
-use Rattle.server_core.specs.FrameEnds.{is_drop}
 use Rattle.net_world.specs.declared.served.Served.{Served}
 use Rattle.net_world.specs.declared.world.World.{World}
 use Rattle.net_world.specs.Setup.{Setup}

@@ -14,9 +14,9 @@ use Rattle.messages.specs.declared.frame.Frame.TheVariants.{Whole, Piece}
 use Rattle.messages.specs.declared.node.Node.{Node}
 use Rattle.messages.specs.declared.node.Node.TheVariants.{Server, Client, Mirror}
 use Rattle.messages.specs.declared.packet.PacketParts.{PacketParts}
-use Rattle.messages.specs.declared.piece.PieceParts.{PieceParts}
 use Rattle.messages.specs.FrameBytes.{frame_at}
-use Rattle.messages.specs.Hearing.{Meaning, Says, Waits, Spoils, Strays, meaning, heard_by, said_by}
+use Rattle.messages.specs.Hearing.{Meaning, Says, Waits, Spoils, Strays, meaning, heard_by, said_by, frames_by}
+use Rattle.messages.specs.Senses.{sense_of, refusal_of_sense}
 use Rattle.messages.specs.Assemblies.{look_at_piece}
 use Rattle.messages.specs.Kinds.{is_of_server}
 use Rattle.messages.specs.Nodes.{is_client}
@@ -28,7 +28,7 @@ use Rattle.client_core.specs.declared.input.Input.TheVariants as inputs
 use Rattle.client_core.specs.History as history
 use Rattle.client_core.specs.History.{Opening}
 use Rattle.client_core.specs.Life.{life}
-use Rattle.client_core.specs.Packets.{packets_for}
+use Rattle.client_core.specs.Packets.{packets, packets_for}
 use Rattle.client_core.specs.Refusals.{is_for_client, is_from_server, is_from_mirror, is_server_of, faults_of_body}
 use Rattle.client_core.specs.declared.peers.Peers.{Peers}
 use Rattle.client_core.specs.Saves.{Addition, is_answer}
@@ -67,11 +67,11 @@ whole_to true true others h = refl
 whole_to true false others h = absurd (no_pass Misdirected refl h)
 whole_to false good others h = absurd (no_pass Down refl h)
 
-piece_to : (o : Opening) (past : List history.Entry) (q : PieceParts) (on a b : Bool) (m : Meaning)
-    → MayPass (answers.refusal_in o past (answers.sense_of q (if on && (a && b) then m else Strays))) → a ≡ true
-piece_to o past q true true b m h = refl
-piece_to o past q true false b m h = absurd (strays (is_on past) Misdirected Down refl refl h)
-piece_to o past q false a b m h = absurd (strays (is_on past) Misdirected Down refl refl h)
+piece_to : (o : Opening) (past : List history.Entry) (on a b : Bool) (m : Meaning)
+    → MayPass (refusal_of_sense (hearing o) past (sense_of calls.Deliver (if on && (a && b) then m else Strays))) → a ≡ true
+piece_to o past true true b m h = refl
+piece_to o past true false b m h = absurd (strays (is_on past) Misdirected Down refl refl h)
+piece_to o past false a b m h = absurd (strays (is_on past) Misdirected Down refl refl h)
 
 to_me : (o : Opening) (past : List FrameEntry) (f : Frame) → MayPass (answers.refusal o past (inputs.Deliver f)) → to_of f ≡ Client
 to_me o past (Whole p) h =
@@ -79,7 +79,7 @@ to_me o past (Whole p) h =
     (whole_to (is_on (packets_heard o past)) (is_for_client (words.peers o (packets_heard o past)) p)
     (faults_of_body (words_noted o (packets_heard o past)) p.body) h))
 to_me o past (Piece q) h =
-    to_client q.to (piece_to o (packets_heard o past) q (is_on (packets_heard o past)) (is_client q.to)
+    to_client q.to (piece_to o (packets_heard o past) (is_on (packets_heard o past)) (is_client q.to)
     (is_server_of o.servers q.from && is_of_server q.tag.whole) (said_by (look_at_piece (heard_at o past).rows q)) h)
 
 -- ---- what is refused, or whose save failed, sends nothing
@@ -100,17 +100,17 @@ unanswered None y left (inl h) = no_answer y left h
 unanswered None y left (inr h) = cc
 
 call_quiet : (o : Opening) (list : List history.Entry) (c : Call) (left : Left) → Quiet (is_lost left) (words.refusal o list c)
-    → answers.frames_by o list (Some (history.Met c left)) ≡ []
+    → frames_by (packets o) list (Some (history.Met c left)) ≡ []
 call_quiet o list c left h =
     ap (λ b. flat_map frames_of (if b then packets_for (words.peers o list) (words_noted o list) (life o list) c else []))
     (unanswered (words.refusal o list c) (words.due o list c) left h)
 
-piece_quiet : (o : Opening) (list : List history.Entry) (q : PieceParts) (left : Left) (m : Meaning)
-    → Quiet (is_lost left) (answers.refusal_in o list (answers.sense_of q m)) → answers.frames_by o list (heard_by (hearing o) left m) ≡ []
-piece_quiet o list q left (Says p) h = call_quiet o list (calls.Deliver p) left h
-piece_quiet o list q left Waits h = refl
-piece_quiet o list q left Spoils h = refl
-piece_quiet o list q left Strays h = refl
+piece_quiet : (o : Opening) (list : List history.Entry) (left : Left) (m : Meaning)
+    → Quiet (is_lost left) (refusal_of_sense (hearing o) list (sense_of calls.Deliver m)) → frames_by (packets o) list (heard_by (hearing o) left m) ≡ []
+piece_quiet o list left (Says p) h = call_quiet o list (calls.Deliver p) left h
+piece_quiet o list left Waits h = refl
+piece_quiet o list left Spoils h = refl
+piece_quiet o list left Strays h = refl
 
 quiet : (o : Opening) (past : List FrameEntry) (e : Input) (left : Left) → Quiet (is_lost left) (answers.refusal o past e)
     → answers.frames o past (Met e left) ≡ []
@@ -119,7 +119,7 @@ quiet o past (inputs.Trigger run act) left h = call_quiet o (packets_heard o pas
 quiet o past (inputs.Stop run) left h = call_quiet o (packets_heard o past) (calls.Stop run) left h
 quiet o past (inputs.Verify run text) left h = call_quiet o (packets_heard o past) (calls.Verify run text) left h
 quiet o past (inputs.Deliver (Whole p)) left h = call_quiet o (packets_heard o past) (calls.Deliver p) left h
-quiet o past (inputs.Deliver (Piece q)) left h = piece_quiet o (packets_heard o past) q left (meaning (hearing o) (heard_at o past) (Piece q)) h
+quiet o past (inputs.Deliver (Piece q)) left h = piece_quiet o (packets_heard o past) left (meaning (hearing o) (heard_at o past) (Piece q)) h
 quiet o past inputs.Tick left h = call_quiet o (packets_heard o past) calls.Tick left h
 
 -- ---- the entry of an event

@@ -1,5 +1,5 @@
 -- Both kinds of node in one form: their entries, their rules, and their steps in a trace.
-use Rattle.std.proofs.Common.{◌≡◌, refl, sym, ◌∙◌, ap, subst, ℕ, ◌<◌, arith, Bool, true, false, ◌==◌, List, [], ◌∷◌, Option, Some, None}
+use Rattle.std.proofs.Common.{◌≡◌, refl, sym, ◌∙◌, ap, subst, ℕ, ◌<◌, arith, Bool, true, false, ◌==◌, List, [], ◌∷◌, Some, None}
 use Rattle.std.specs.Prelude.{map, if◌then◌else◌}
 use Rattle.std.proofs.lemmas.Bool.{eqb-true}
 use Rattle.std.proofs.lemmas.Bool.Decides.{nat_tests}
@@ -10,18 +10,16 @@ use Rattle.messages.specs.declared.node.Node.TheVariants.{Server, Client, Mirror
 use Rattle.messages.specs.declared.frame.Frame.{Frame}
 use Rattle.messages.specs.declared.refusal.Act.TheVariants as acts
 use Rattle.messages.specs.FrameBytes.{frame_spelling}
-use Rattle.messages.specs.Hearing.{Coming, entry_of, heard}
+use Rattle.messages.specs.Hearing.{Coming, entry_of, frames_by, heard}
 use Rattle.hub.specs.Waiting.{is_same_node}
 use Rattle.server_core.specs.History as server
 use Rattle.server_core.specs.Answers.{packets as server_packets}
 use Rattle.server_core.specs.declared.input.Input.{Input as ServerInput}
 use Rattle.server_core.specs.Hearing.{FrameEntry as ServerEntry, coming_of as server_coming}
-use Rattle.server_core.specs.FrameAnswers as server_answers
 use Rattle.client_core.specs.History as client
 use Rattle.client_core.specs.Packets.{packets as client_packets}
 use Rattle.client_core.specs.declared.input.Input.{Input as ClientInput}
 use Rattle.client_core.specs.Hearing.{FrameEntry as ClientEntry, coming_of as client_coming}
-use Rattle.client_core.specs.FrameAnswers as client_answers
 use Rattle.node_history.specs.declared.answer.Answer.TheVariants.{Plain}
 use Rattle.node_history.specs.declared.logged.Logged.{Logged}
 use Rattle.node_history.specs.AtHub.{is_left_out}
@@ -31,7 +29,7 @@ use Rattle.node_history.specs.ServerRules.{core as server_core, rules as server_
 use Rattle.node_history.specs.ClientRules.{core as client_core, rules as client_rules}
 use Rattle.net_world.specs.Setup.{without_mirror}
 use Rattle.net_world.specs.Trace.{opening_of, client_opening}
-use Rattle.net_world.specs.Frames.{FrameStep, OfServer, OfClient, of_server, of_client, at_server, at_client, frames_by, frames_of_step, MayHappen, is_allowed}
+use Rattle.net_world.specs.Frames.{FrameStep, OfServer, OfClient, of_server, of_client, at_server, at_client, frames_of_step, MayHappen, is_allowed}
 use Rattle.net_world.specs.InRange.{FrameStepFits}
 use Rattle.node_traces.specs.Marks.{frame_of}
 use Rattle.node_traces.specs.Names.{node_of}
@@ -123,30 +121,16 @@ opens n (Server s) = refl
 opens n Client = refl
 opens n Mirror = refl
 
-server_frames : (s : ℕ) (list : List server.Entry) (x : Option server.Entry)
-    → frames_by (server_packets (opening_of s)) list x ≡ server_answers.frames_by (opening_of s) list x
-server_frames s list None = refl
-server_frames s list (Some e) = refl
-
-client_frames : (n : ℕ) (list : List client.Entry) (x : Option client.Entry)
-    → frames_by (client_packets (client_opening (without_mirror n))) list x ≡ client_answers.frames_by (client_opening (without_mirror n)) list x
-client_frames n list None = refl
-client_frames n list (Some e) = refl
-
 -- A step sends the frames of its entry.
 pub frames_at : (n : ℕ) (node : Node) (t : List FrameStep) (past : List (EntryOf node)) (e : EntryOf node) → happened_to n node t ≡ map (coming_to node) past
     → frames_of_step (without_mirror n) t (step_at node (coming_to node e)) ≡ (rules_of n node).frames past e
 frames_at n (Server s) t past e h =
     ap (λ (list : List (Coming server.Entry Left)). frames_by (server_packets (opening_of s)) (heard (at_server s) list).entries
     (entry_of (at_server s) (heard (at_server s) list) (server_coming e))) h
-    ∙ server_frames s (heard (at_server s) (map server_coming past)).entries
-    (entry_of (at_server s) (heard (at_server s) (map server_coming past)) (server_coming e))
 frames_at n Client t past e h =
     ap (λ (list : List (Coming client.Entry Left)). frames_by (client_packets (client_opening (without_mirror n)))
     (heard (at_client (without_mirror n)) list).entries
     (entry_of (at_client (without_mirror n)) (heard (at_client (without_mirror n)) list) (client_coming e))) h
-    ∙ client_frames n (heard (at_client (without_mirror n)) (map client_coming past)).entries
-    (entry_of (at_client (without_mirror n)) (heard (at_client (without_mirror n)) (map client_coming past)) (client_coming e))
 frames_at n Mirror t past e h = absurd e
 
 -- ---- the events of a node

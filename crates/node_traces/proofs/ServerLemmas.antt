@@ -17,9 +17,9 @@ use Rattle.messages.specs.declared.frame.Frame.{Frame}
 use Rattle.messages.specs.declared.frame.Frame.TheVariants.{Whole, Piece}
 use Rattle.messages.specs.declared.node.Node.{Node}
 use Rattle.messages.specs.declared.node.Node.TheVariants.{Server, Client, Mirror}
-use Rattle.messages.specs.declared.piece.PieceParts.{PieceParts}
 use Rattle.messages.specs.FrameBytes.{frame_at}
-use Rattle.messages.specs.Hearing.{Meaning, Says, Waits, Spoils, Strays, meaning, heard_by, said_by}
+use Rattle.messages.specs.Hearing.{Meaning, Says, Waits, Spoils, Strays, meaning, heard_by, said_by, frames_by}
+use Rattle.messages.specs.Senses.{sense_of, refusal_of_sense}
 use Rattle.messages.specs.Assemblies.{look_at_piece}
 use Rattle.messages.specs.Kinds.{is_of_client}
 use Rattle.messages.specs.Nodes.{is_client, is_server}
@@ -63,18 +63,18 @@ whole_to now true true false body h = absurd (no_pass Misdirected refl h)
 whole_to now true false b body h = absurd (no_pass Misdirected refl h)
 whole_to now false a b body h = absurd (no_pass Down refl h)
 
-piece_to : (o : Opening) (past : List history.Entry) (q : PieceParts) (on a b c : Bool) (m : Meaning)
-    → MayPass (answers.refusal_of_sense o past (answers.sense_of q (if on && (a && (b && c)) then m else Strays))) → b ≡ true
-piece_to o past q true true true c m h = refl
-piece_to o past q true true false c m h = absurd (strays (is_on past) Misdirected Down refl refl h)
-piece_to o past q true false b c m h = absurd (strays (is_on past) Misdirected Down refl refl h)
-piece_to o past q false a b c m h = absurd (strays (is_on past) Misdirected Down refl refl h)
+piece_to : (o : Opening) (past : List history.Entry) (on a b c : Bool) (m : Meaning)
+    → MayPass (refusal_of_sense (hearing o) past (sense_of events.Deliver (if on && (a && (b && c)) then m else Strays))) → b ≡ true
+piece_to o past true true true c m h = refl
+piece_to o past true true false c m h = absurd (strays (is_on past) Misdirected Down refl refl h)
+piece_to o past true false b c m h = absurd (strays (is_on past) Misdirected Down refl refl h)
+piece_to o past false a b c m h = absurd (strays (is_on past) Misdirected Down refl refl h)
 
 to_me : (o : Opening) (past : List FrameEntry) (f : Frame) → MayPass (answers.refusal o past (inputs.Deliver f)) → to_of f ≡ Server o.me
 to_me o past (Whole p) h =
     to_server o.me p.to (whole_to (words.now o (packets_heard o past)) (is_on (packets_heard o past)) (is_client p.from) (is_server o.me p.to) p.body h)
 to_me o past (Piece q) h =
-    to_server o.me q.to (piece_to o (packets_heard o past) q (is_on (packets_heard o past)) (is_client q.from) (is_server o.me q.to) (is_of_client q.tag.whole)
+    to_server o.me q.to (piece_to o (packets_heard o past) (is_on (packets_heard o past)) (is_client q.from) (is_server o.me q.to) (is_of_client q.tag.whole)
     (said_by (look_at_piece (heard_at o past).rows q)) h)
 
 -- ---- what is refused, or whose save failed, sends nothing
@@ -85,20 +85,20 @@ none_sent me gone None bodies (inl h) = ap (λ b. flat_map frames_of (to_client 
 none_sent me gone None bodies (inr h) = cc
 
 event_quiet : (o : Opening) (list : List history.Entry) (e : Event) (left : Left) → Quiet (is_lost left) (words.refusal o list e)
-    → answers.frames_by o list (Some (history.Met e left)) ≡ []
+    → frames_by (words.packets o) list (Some (history.Met e left)) ≡ []
 event_quiet o list e left h = none_sent o.me (is_lost left) (words.refusal o list e) (replies (words.now o list) (requests.request_of o.me e)) h
 
-piece_quiet : (o : Opening) (list : List history.Entry) (q : PieceParts) (left : Left) (m : Meaning)
-    → Quiet (is_lost left) (answers.refusal_of_sense o list (answers.sense_of q m)) → answers.frames_by o list (heard_by (hearing o) left m) ≡ []
-piece_quiet o list q left (Says p) h = event_quiet o list (events.Deliver p) left h
-piece_quiet o list q left Waits h = refl
-piece_quiet o list q left Spoils h = refl
-piece_quiet o list q left Strays h = refl
+piece_quiet : (o : Opening) (list : List history.Entry) (left : Left) (m : Meaning)
+    → Quiet (is_lost left) (refusal_of_sense (hearing o) list (sense_of events.Deliver m)) → frames_by (words.packets o) list (heard_by (hearing o) left m) ≡ []
+piece_quiet o list left (Says p) h = event_quiet o list (events.Deliver p) left h
+piece_quiet o list left Waits h = refl
+piece_quiet o list left Spoils h = refl
+piece_quiet o list left Strays h = refl
 
 quiet : (o : Opening) (past : List FrameEntry) (e : Input) (left : Left) → Quiet (is_lost left) (answers.refusal o past e)
     → answers.frames o past (Met e left) ≡ []
 quiet o past (inputs.Deliver (Whole p)) left h = event_quiet o (packets_heard o past) (events.Deliver p) left h
-quiet o past (inputs.Deliver (Piece q)) left h = piece_quiet o (packets_heard o past) q left (meaning (hearing o) (heard_at o past) (Piece q)) h
+quiet o past (inputs.Deliver (Piece q)) left h = piece_quiet o (packets_heard o past) left (meaning (hearing o) (heard_at o past) (Piece q)) h
 quiet o past (inputs.Issue j) left h = event_quiet o (packets_heard o past) (events.Issue j) left h
 quiet o past (inputs.WriteDone ticket end) left h = event_quiet o (packets_heard o past) (events.WriteDone ticket end) left h
 quiet o past (inputs.CheckDone boot a j report) left h = event_quiet o (packets_heard o past) (events.CheckDone boot a j report) left h

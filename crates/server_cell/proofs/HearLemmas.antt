@@ -7,7 +7,7 @@ use Rattle.std.proofs.lemmas.List.Sums.{sum_by-le}
 use Rattle.fc_base.specs.declared.fault.Fault.{Fault}
 use Rattle.disk_model.specs.Notes.{Note}
 use Rattle.messages.specs.FrameBytes.{frame_spelling}
-use Rattle.messages.specs.Hearing.{with_entry}
+use Rattle.messages.specs.Hearing.{frames_by, with_entry}
 use Rattle.hub.specs.Laws.{FramesAreSpelled}
 use Rattle.hub.specs.Network.{Room, HasRoom, IsSpelled}
 use Rattle.server_core.specs.declared.input.Input.{Input}
@@ -20,7 +20,7 @@ use Rattle.server_core.specs.History.{Opening}
 use Rattle.server_core.specs.Laws.{PacketsAreInRange}
 use Rattle.server_core.specs.Ranges.{OpensInRange, CameInRange}
 use Rattle.server_core.specs.Hearing.{FrameEntry, packets_heard}
-use Rattle.server_core.specs.FrameAnswers.{answered_entry, entry_heard, frames_by}
+use Rattle.server_core.specs.FrameAnswers.{answered_entry, entry_heard}
 use Rattle.node_history.specs.declared.came.Came.{Came}
 use Rattle.node_history.specs.declared.logged.Logged.{Logged}
 use Rattle.node_history.specs.AtHub.{is_left_out, Hears}
@@ -56,7 +56,7 @@ has_room room frames has few = record {
 -- ---- its frames are spelled
 
 by_entry : FramesAreSpelled → PacketsAreInRange → (o : Opening) (past : List history.Entry) → OpensInRange o → (heard : Option history.Entry)
-    → (came : (x : history.Entry) → heard ≡ Some x → CameInRange (x ∷ past)) → All IsSpelled (map frame_spelling (frames_by o past heard))
+    → (came : (x : history.Entry) → heard ≡ Some x → CameInRange (x ∷ past)) → All IsSpelled (map frame_spelling (frames_by (packets o) past heard))
 by_entry law ranges o past i None came = All-nil IsSpelled
 by_entry law ranges o past i (Some x) came = packets_spelled law (packets o past x) (ranges o past x i (came x refl))
 

@@ -8,19 +8,19 @@ use Rattle.disk_model.specs.Notes.{Note}
 use Rattle.disk_model.specs.Steps as steps
 use Rattle.messages.specs.declared.frame.Frame.TheVariants.{Whole, Piece}
 use Rattle.messages.specs.Hearing.{Meaning, Says as Speaks, Waits, Spoils, Strays, meaning, heard_by, with_entry}
+use Rattle.messages.specs.Senses.{Sense, Hears, Keeps, Drops, Misses, sense_of, is_drop, refusal_of_sense, SenseInRange, UnlessMemory, HearsInRange}
+use Rattle.server_core.specs.declared.event.Event.{Event}
+use Rattle.server_core.specs.declared.event.Event.TheVariants as events
 use Rattle.server_core.specs.declared.input.Input.{Input}
 use Rattle.server_core.specs.declared.input.Input.TheVariants as inputs
 use Rattle.server_core.specs.declared.outs.Outs.{Outs}
 use Rattle.server_core.specs.declared.server.Server.{Server}
 use Rattle.server_core.specs.History as packets
 use Rattle.server_core.specs.History.{Opening}
-use Rattle.server_core.specs.Ranges.{CameInRange}
+use Rattle.server_core.specs.Ranges.{IsInRange, CameInRange}
 use Rattle.server_core.specs.Hearing.{FrameEntry, Met, packets_heard, heard_at, rules as hearing}
-use Rattle.server_core.specs.FrameAnswers as answers
-use Rattle.server_core.specs.FrameAnswers.{Sense, Hears, Keeps, Drops, Misses, sense, sense_of}
-use Rattle.server_core.specs.HeardRange.{SenseInRange, UnlessMemory, HearsInRange}
+use Rattle.server_core.specs.FrameAnswers.{sense}
 use Rattle.server_core.specs.FrameEnds as ends
-use Rattle.server_core.specs.FrameEnds.{is_drop}
 use Rattle.node_history.specs.declared.power.Power.TheVariants.{On}
 use Rattle.node_history.specs.Failures.{Counts}
 use Rattle.node_history.specs.Moves.{StepEnds}
@@ -31,35 +31,35 @@ use Rattle.server_cell.specs.Stands.{reply_and_frames, ways}
 
 -- ---- what came stays within its ranges
 
-by_meaning : (o : Opening) (past : List packets.Entry) (left : Left) (q : _) (m : Meaning) → SenseInRange (sense_of q m) → CameInRange past
+by_meaning : (o : Opening) (past : List packets.Entry) (left : Left) (m : Meaning) → SenseInRange IsInRange (sense_of events.Deliver m) → CameInRange past
     → CameInRange (with_entry (heard_by (hearing o) left m) past)
-by_meaning o past left q (Speaks p) h came = (h, came)
-by_meaning o past left q Waits h came = came
-by_meaning o past left q Spoils h came = came
-by_meaning o past left q Strays h came = came
+by_meaning o past left (Speaks p) h came = (h, came)
+by_meaning o past left Waits h came = came
+by_meaning o past left Spoils h came = came
+by_meaning o past left Strays h came = came
 
-came_after : (o : Opening) (past : List FrameEntry) (e : Input) (left : Left) → SenseInRange (sense o past e) → CameInRange (packets_heard o past)
+came_after : (o : Opening) (past : List FrameEntry) (e : Input) (left : Left) → SenseInRange IsInRange (sense o past e) → CameInRange (packets_heard o past)
     → CameInRange (packets_heard o (Met e left ∷ past))
 came_after o past (inputs.Deliver (Whole p)) left h came = (h, came)
-came_after o past (inputs.Deliver (Piece q)) left h came = by_meaning o (packets_heard o past) left q (meaning (hearing o) (heard_at o past) (Piece q)) h came
+came_after o past (inputs.Deliver (Piece q)) left h came = by_meaning o (packets_heard o past) left (meaning (hearing o) (heard_at o past) (Piece q)) h came
 came_after o past (inputs.Issue j) left h came = (h, came)
 came_after o past (inputs.WriteDone ticket end) left h came = (h, came)
 came_after o past (inputs.CheckDone now a j report) left h came = (h, came)
 
 -- ---- a step
 
-no_drop : (o : Opening) (past : List FrameEntry) (s : Sense) (fault : Fault) → answers.refusal_of_sense o (packets_heard o past) s ≡ Some fault
+no_drop : (o : Opening) (past : List FrameEntry) (s : Sense Event) (fault : Fault) → refusal_of_sense (hearing o) (packets_heard o past) s ≡ Some fault
     → (fault ≡ FrameBadField → ⊥) → is_drop s ≡ false
 no_drop o past (Hears e) fault h k = refl
-no_drop o past (Keeps q) fault h k = refl
-no_drop o past (Drops q) fault h k = absurd (k (same FrameBadField fault h))
+no_drop o past Keeps fault h k = refl
+no_drop o past Drops fault h k = absurd (k (same FrameBadField fault h))
   where
     same : (x y : Fault) → Some x ≡ Some y → y ≡ x
     same x y h = cc
 no_drop o past Misses fault h k = refl
 
 fits : {T : Type 0} (note : T → Note) (o : Opening) (past : List FrameEntry) (e : Input)
-    → Fits (server_kind note o) (ends.steps note o) past e (λ sort. UnlessMemory sort (sense o past e))
+    → Fits (server_kind note o) (ends.steps note o) past e (λ sort. UnlessMemory IsInRange sort (sense o past e))
 fits note o past e = record {
   refusal_is = refl;
   answered_is = refl;
@@ -74,7 +74,7 @@ fits note o past e = record {
 -- A server that is on takes what comes.
 pub step_ends : {T : Type 0} (note : T → Note) (o : Opening) (past : List FrameEntry) (e : Input) (old server : Server T) (result : Result Outs Fault)
     → is_up o past ≡ true
-    → steps.Ends (ends.steps note o) past e old server result → HearsInRange o past e result
+    → steps.Ends (ends.steps note o) past e old server result → HearsInRange IsInRange (sense o past e) result
     → StepEnds (ways note o) past e (On server) (reply_and_frames result)
 step_ends note o past e old server (Ok outs) on a h =
     answered_ends (server_kind note o) (ends.steps note o) past e (fits note o past e) on old server outs _ outs.frames a h

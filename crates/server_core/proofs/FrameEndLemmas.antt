@@ -1,7 +1,7 @@
 -- A server takes what comes over a network of frames as its list does.
 use Rattle.std.proofs.Common.{◌≡◌, refl, sym, ◌∙◌, ap, subst, ℕ, ◌≤◌, arith, length, Bool, true}
 use Rattle.std.proofs.Common.{false, ◌&&◌, List, [], ◌∷◌, Option, Some, None, Result, Ok, Err}
-use Rattle.std.specs.Prelude.{if◌then◌else◌, map, not, is_some}
+use Rattle.std.specs.Prelude.{map, not}
 use Rattle.std.specs.Result.{is_ok}
 use Rattle.std.proofs.lemmas.List.Elements.{All-nil}
 use Rattle.fc_base.specs.declared.fault.Fault.{Fault}
@@ -19,10 +19,14 @@ use Rattle.disk_model.proofs.StepLemmas.{on_before, off_lost}
 use Rattle.messages.specs.declared.packet.PacketParts.{PacketParts}
 use Rattle.messages.specs.declared.piece.PieceParts.{PieceParts}
 use Rattle.messages.specs.declared.frame.Frame.TheVariants.{Piece}
-use Rattle.messages.specs.Assemblies.{Row, Look, Gives, look_at_piece, rows_after_piece, without_tag}
+use Rattle.messages.specs.declared.refusal.Act.TheVariants as acts
+use Rattle.messages.specs.Assemblies.{Row, Look, look_at_piece, rows_after_piece, without_tag}
 use Rattle.messages.specs.FrameBytes.{frame_spelling}
-use Rattle.messages.specs.Hearing.{Meaning, Says, Waits, Spoils, Strays, meaning, said_by, rows_by, with_entry}
-use Rattle.messages.proofs.HearingLemmas.{frames_spelled, given_gone}
+use Rattle.messages.specs.Hearing.{said_by, frames_by, with_entry}
+use Rattle.messages.specs.Senses.{Sense, Hears, Keeps, Drops, sense_of, is_drop, refusal_of_sense, heard_or}
+use Rattle.messages.proofs.HearingLemmas.{frames_spelled}
+use Rattle.messages.proofs.SenseLemmas as senses
+use Rattle.messages.proofs.SenseLemmas.{NeverEnds, entry_by, entry_is, entries_are, same_rows, taken_by, refused_rows, piece_sense, given_rows, dropped_rows}
 use Rattle.server_core.specs.declared.event.Event.{Event}
 use Rattle.server_core.specs.declared.event.Event.TheVariants as events
 use Rattle.server_core.specs.declared.input.Input.{Input}
@@ -37,11 +41,23 @@ use Rattle.server_core.specs.Answers as answers
 use Rattle.server_core.specs.Handles.{sent_alone}
 use Rattle.server_core.specs.Serves as whole
 use Rattle.server_core.specs.Note.{spelling}
-use Rattle.server_core.specs.Hearing.{FrameEntry, Met, is_piece_for, rules, heard_at, packets_heard, assembly}
-use Rattle.server_core.specs.FrameAnswers.{Sense, Hears, Keeps, Drops, sense_of, sense, refusal, refusal_of_sense, due}
-use Rattle.server_core.specs.FrameAnswers.{due_of_sense, issue_of_sense, act_of_sense, answered_entry, entry_heard, frames_by}
-use Rattle.server_core.specs.FrameEnds.{StandsFor, steps, is_drop}
-use Rattle.server_core.proofs.HearingLemmas.{rows_after, entry_by, entry_is, heard_is, kept_rows, dropped_rows, same_rows, refused_rows, piece_sense}
+use Rattle.server_core.specs.Hearing.{FrameEntry, Met, is_piece_for, rules, arrival, heard_at, packets_heard, assembly}
+use Rattle.server_core.specs.FrameAnswers.{sense, refusal, due, answered_entry, entry_heard}
+use Rattle.server_core.specs.FrameEnds.{StandsFor, steps}
+
+-- ---- what is heard, and what has come together
+
+-- What has come together behind an input.
+abbrev pub rows_after : Opening → List FrameEntry → Input → Left → List Row
+rows_after o past e left = senses.rows_after (rules o) (heard_at o past) (arrival e) left
+
+never_ends : (o : Opening) → NeverEnds (rules o)
+never_ends o x left = refl
+
+-- The packets that are heard behind an input.
+heard_is : (o : Opening) (past : List FrameEntry) (e : Input) (left : Left) (s : Sense Event) → sense o past e ≡ s
+    → packets_heard o (Met e left ∷ past) ≡ with_entry (entry_by (rules o) left s) (packets_heard o past)
+heard_is o past e left s is = entries_are (rules o) (heard_at o past) (arrival e) left s is
 
 -- ---- whether the server is on
 
@@ -67,25 +83,26 @@ heard_answers : {T : Type 0} (note : T → Note) (o : Opening) (past : List Fram
 heard_answers note o past e x old new outs is a k =
     let list = packets_heard o past in
     let left = saved_for (words.due o list x) in
-    let same_entry : answered_entry o past e ≡ Met e left = ap (λ y. Met e (saved_for (due_of_sense o list y))) is in
+    let same_entry : answered_entry o past e ≡ Met e left = ap (λ y. Met e (saved_for (heard_or None (words.due o list) y))) is in
     let says : entry_heard o past (answered_entry o past e) ≡ Some (history.Met x left) =
-    ap (entry_heard o past) same_entry ∙ entry_is o past e left ∙ ap (λ y. entry_by y left) is in
+    ap (entry_heard o past) same_entry ∙ entry_is (rules o) (heard_at o past) (arrival e) left ∙ ap (entry_by (rules o) left) is in
     record {
-      free = ap (refusal_of_sense o list) is ∙ a.free;
+      free = ap (refusal_of_sense (rules o) list) is ∙ a.free;
       sends = record {
         frames_are = a.sends.frames_are ∙ frames_spelled (answers.packets o list (history.Met x left))
-            ∙ ap (λ y. map frame_spelling (frames_by o list y)) (sym says);
-        issue_is = a.sends.issue_is ∙ sym (ap (issue_of_sense o list) is);
-        act_is = a.sends.act_is ∙ sym (ap (act_of_sense o list) is);
+            ∙ ap (λ y. map frame_spelling (frames_by (answers.packets o) list y)) (sym says);
+        issue_is = a.sends.issue_is ∙ sym (ap (heard_or None (answers.issue o list)) is);
+        act_is = a.sends.act_is ∙ sym (ap (heard_or acts.None (answers.act o list)) is);
         short = a.sends.short;
       };
       leaves = subst (λ d. LeavesNote d (spelling (words.words_noted o (packets_heard o (answered_entry o past e ∷ past)))) (note old.core.notes)
-          (note new.core.notes)) (sym (ap (due_of_sense o list) is))
+          (note new.core.notes)) (sym (ap (heard_or None (words.due o list)) is))
           (subst (λ (l : List history.Entry). LeavesNote (words.due o list x) (spelling (words.words_noted o l)) (note old.core.notes) (note new.core.notes))
           (sym (ap (λ y. packets_heard o (y ∷ past)) same_entry ∙ heard_is o past e left (Hears x) is)) a.leaves);
       stands = subst (λ y. StandsFor note new o (y ∷ past)) (sym same_entry)
           (heard_stands note o past e x left new is a.stands
-          (λ on. k (on_before (words.is_on list) (is_lost left) (sym (on_is o past e x left is) ∙ on)) ∙ same_rows o past e NoSave left));
+          (λ on. k (on_before (words.is_on list) (is_lost left) (sym (on_is o past e x left is) ∙ on))
+          ∙ same_rows (rules o) (heard_at o past) (arrival e) NoSave left (never_ends o)));
     }
 
 heard_faults : {T : Type 0} (note : T → Note) (o : Opening) (past : List FrameEntry) (e : Input) (x : Event) (old new : Server T) (fault : Fault)
@@ -96,9 +113,9 @@ heard_faults note o past e x old new fault is w sorts.Memory h k =
     record { why = h.why; same_note = h.same_note; unchanged = record { core = h.unchanged; pieces = λ on. k ∙ w.pieces on } }
 heard_faults note o past e x old new fault is w sorts.Save h k = record {
   cause = h.cause;
-  free = ap (refusal_of_sense o (packets_heard o past)) is ∙ h.free;
+  free = ap (refusal_of_sense (rules o) (packets_heard o past)) is ∙ h.free;
   addition = h.addition;
-  makes_one = ap (due_of_sense o (packets_heard o past)) is ∙ h.makes_one;
+  makes_one = ap (heard_or None (words.due o (packets_heard o past))) is ∙ h.makes_one;
   left = h.left;
   lost = h.lost;
   bytes_are = subst (λ (l : List history.Entry). (note new.core.notes).bytes ≡ bytes_left h.left (spelling (words.words_noted o l)) (note old.core.notes).bytes)
@@ -107,8 +124,8 @@ heard_faults note o past e x old new fault is w sorts.Save h k = record {
       (λ on. absurd (off_lost (words.is_on (packets_heard o past)) (is_lost h.left) h.lost (sym (on_is o past e x h.left is) ∙ on)));
 }
 heard_faults note o past e x old new fault is w sorts.Refusal h k =
-    let why : refusal o past e ≡ Some fault = ap (refusal_of_sense o (packets_heard o past)) is ∙ h.why in
-    let rows = refused_rows o past e NoSave fault why (ap is_drop is) in
+    let why : refusal o past e ≡ Some fault = ap (refusal_of_sense (rules o) (packets_heard o past)) is ∙ h.why in
+    let rows = refused_rows (rules o) (heard_at o past) (arrival e) NoSave fault (never_ends o) why (ap is_drop is) in
     record {
       why = why;
       same_note = h.same_note;
@@ -146,8 +163,8 @@ whole_ends note o past e x old core result is same w h =
 abbrev with_pieces : {T : Type 0} → Server T → List Row → Server T
 with_pieces server rows = record server { pieces = rows }
 
-silent_stands : {T : Type 0} (note : T → Note) (o : Opening) (past : List FrameEntry) (e : Input) (s : Sense) (left : Left) (old : Server T) (rows : List Row)
-    → sense o past e ≡ s → entry_by s left ≡ None
+silent_stands : {T : Type 0} (note : T → Note) (o : Opening) (past : List FrameEntry) (e : Input) (s : Sense Event) (left : Left) (old : Server T)
+    (rows : List Row) → sense o past e ≡ s → entry_by (rules o) left s ≡ None
     → StandsFor note old o past → (old.pieces ≡ assembly o past → rows ≡ rows_after o past e left) → StandsFor note (with_pieces old rows) o (Met e left ∷ past)
 silent_stands note o past e s left old rows is none w k =
     let same = heard_is o past e left s is ∙ ap (λ (y : Option history.Entry). with_entry y (packets_heard o past)) none in
@@ -156,34 +173,36 @@ silent_stands note o past e s left old rows is none w k =
       pieces = λ on. k (w.pieces (sym (ap words.is_on same) ∙ on));
     }
 
-pub kept_ends : {T : Type 0} (note : T → Note) (o : Opening) (past : List FrameEntry) (e : Input) (q : PieceParts) (old : Server T) → sense o past e ≡ Keeps q
-    → StandsFor note old o past
-    → Ends (steps note o) past e old (with_pieces old (rows_after_piece old.pieces q)) (Ok (sent_alone []))
-kept_ends note o past e q old is w =
+pub kept_ends : {T : Type 0} (note : T → Note) (o : Opening) (past : List FrameEntry) (q : PieceParts) (old : Server T)
+    → sense o past (Deliver (Piece q)) ≡ Keeps → StandsFor note old o past
+    → Ends (steps note o) past (Deliver (Piece q)) old (with_pieces old (rows_after_piece old.pieces q)) (Ok (sent_alone []))
+kept_ends note o past q old is w =
+    let e = Deliver (Piece q) in
     let list = packets_heard o past in
     let left = saved_for (due o past e) in
     record {
-      free = ap (refusal_of_sense o list) is;
+      free = ap (refusal_of_sense (rules o) list) is;
       sends = record {
-        frames_are = ap (λ y. map frame_spelling (frames_by o list y)) (sym (entry_is o past e left ∙ ap (λ y. entry_by y left) is));
-        issue_is = sym (ap (issue_of_sense o list) is);
-        act_is = sym (ap (act_of_sense o list) is);
+        frames_are = ap (λ y. map frame_spelling (frames_by (answers.packets o) list y))
+            (sym (entry_is (rules o) (heard_at o past) (arrival e) left ∙ ap (entry_by (rules o) left) is));
+        issue_is = sym (ap (heard_or None (answers.issue o list)) is);
+        act_is = sym (ap (heard_or acts.None (answers.act o list)) is);
         short = λ i h. record { few = omega arith; short = All-nil (λ (frame : List ℕ). length frame ≤ MAX_FRAME) };
       };
       leaves = subst (λ d. LeavesNote d (spelling (words.words_noted o (packets_heard o (answered_entry o past e ∷ past)))) (note old.core.notes)
-          (note old.core.notes)) (sym (ap (due_of_sense o list) is)) refl;
-      stands = silent_stands note o past e (Keeps q) left old (rows_after_piece old.pieces q) is refl w
-          (λ r. ap (λ x. rows_after_piece x q) r ∙ sym (kept_rows o past e q left is));
+          (note old.core.notes)) (sym (ap (heard_or None (words.due o list)) is)) refl;
+      stands = silent_stands note o past e Keeps left old (rows_after_piece old.pieces q) is refl w
+          (λ r. ap (λ x. rows_after_piece x q) r ∙ sym (taken_by (rules o) (heard_at o past) q left Keeps is));
     }
 
-pub dropped_ends : {T : Type 0} (note : T → Note) (o : Opening) (past : List FrameEntry) (e : Input) (q : PieceParts) (old : Server T)
-    → sense o past e ≡ Drops q → StandsFor note old o past
-    → Ends (steps note o) past e old (with_pieces old (rows_after_piece old.pieces q)) (Err FrameBadField)
-dropped_ends note o past e q old is w = record {
-  why = ap (refusal_of_sense o (packets_heard o past)) is;
+pub dropped_ends : {T : Type 0} (note : T → Note) (o : Opening) (past : List FrameEntry) (q : PieceParts) (old : Server T)
+    → sense o past (Deliver (Piece q)) ≡ Drops → StandsFor note old o past
+    → Ends (steps note o) past (Deliver (Piece q)) old (with_pieces old (without_tag q.tag old.pieces)) (Err FrameBadField)
+dropped_ends note o past q old is w = record {
+  why = ap (refusal_of_sense (rules o) (packets_heard o past)) is;
   same_note = refl;
-  stands = silent_stands note o past e (Drops q) NoSave old (rows_after_piece old.pieces q) is refl w
-      (λ r. ap (λ x. rows_after_piece x q) r ∙ sym (dropped_rows o past e q NoSave is));
+  stands = silent_stands note o past (Deliver (Piece q)) Drops NoSave old (without_tag q.tag old.pieces) is refl w
+      (λ r. ap (without_tag q.tag) r ∙ sym (dropped_rows (rules o) (heard_at o past) q NoSave is));
   unchanged = λ d. absurd (no_drop (sym (ap is_drop is) ∙ d));
 }
   where
@@ -195,39 +214,23 @@ dropped_ends note o past e q old is w = record {
 -- What a piece is to a server that is on, where it is for that server.
 pub arrives : {T : Type 0} (note : T → Note) (old : Server T) (o : Opening) (past : List FrameEntry) (q : PieceParts) (me : ℕ) → StandsFor note old o past
     → {up mine : Bool} → up ≡ words.is_on (packets_heard o past) → up ≡ true → me ≡ o.me
-    → mine ≡ is_piece_for me q → mine ≡ true → (l : Look) → look_at_piece old.pieces q ≡ l → sense o past (Deliver (Piece q)) ≡ sense_of q (said_by l)
+    → mine ≡ is_piece_for me q → mine ≡ true → (l : Look) → look_at_piece old.pieces q ≡ l
+    → sense o past (Deliver (Piece q)) ≡ sense_of events.Deliver (said_by l)
 arrives note old o past q me w is_up up same is_mine mine l is =
     let on : words.is_on (packets_heard o past) ≡ true = sym is_up ∙ up in
-    piece_sense o past q old.pieces l on (ap (λ n. is_piece_for n q) (sym same) ∙ (sym is_mine ∙ mine)) (w.pieces on) is
-
--- A piece whose packet was answered is taken.
-pub given_rows : (o : Opening) (past : List FrameEntry) (q : PieceParts) (p : PacketParts) (rows : List Row)
-    → sense o past (Deliver (Piece q)) ≡ Hears (events.Deliver p) → answers.refusal o (packets_heard o past) (events.Deliver p) ≡ None
-    → rows ≡ assembly o past → look_at_piece rows q ≡ Gives p → without_tag q.tag rows ≡ rows_after o past (Deliver (Piece q)) NoSave
-given_rows o past q p rows is free same gives =
-    sym (given_gone rows q p gives) ∙ ap (λ r. rows_after_piece r q) same
-    ∙ sym (ap (λ (x : Option Fault). if is_some x then assembly o past else rows_after_piece (assembly o past) q) free)
-    ∙ sym (ap (rows_by (rules o) (heard_at o past) q) (says_it (meaning (rules o) (heard_at o past) (Piece q)) is))
-  where
-    heard_event : (p r : PacketParts) → Hears (events.Deliver p) ≡ Hears (events.Deliver r) → p ≡ r
-    heard_event p r e = cc
-
-    says_it : (m : Meaning) → sense_of q m ≡ Hears (events.Deliver p) → m ≡ Says p
-    says_it (Says r) e = ap Says (heard_event r p e)
-    says_it Waits e = cc
-    says_it Spoils e = cc
-    says_it Strays e = cc
+    piece_sense (rules o) (heard_at o past) q l on (ap (λ n. is_piece_for n q) (sym same) ∙ (sym is_mine ∙ mine))
+    (ap (λ rows. look_at_piece rows q) (sym (w.pieces on)) ∙ is)
 
 -- The packet that a piece completes is answered, and its tag is dropped; or it is refused, and the tag stays.
 pub given_ends : {T : Type 0} (note : T → Note) (old : Server T) (core : PacketServer T) (o : Opening) (past : List FrameEntry) (q : PieceParts)
     (p : PacketParts) (result : Result Outs Fault) → StandsFor note old o past
-    → sense o past (Deliver (Piece q)) ≡ Hears (events.Deliver p) → look_at_piece old.pieces q ≡ Gives p
+    → sense o past (Deliver (Piece q)) ≡ Hears (events.Deliver p)
     → Ends (whole.steps note o) (packets_heard o past) (events.Deliver p) old.core core result → is_ok result ≡ true
     → Ends (steps note o) past (Deliver (Piece q)) old (record { alloc = old.alloc; core = core; pieces = without_tag q.tag old.pieces }) result
-given_ends note old core o past q p (Ok outs) w is gives h ok =
+given_ends note old core o past q p (Ok outs) w is h ok =
     heard_ends note o past (Deliver (Piece q)) (events.Deliver p) old (record { alloc = old.alloc; core = core; pieces = without_tag q.tag old.pieces })
-    (Ok outs) is w h (λ up. given_rows o past q p old.pieces is h.free (w.pieces up) gives)
-given_ends note old core o past q p (Err fault) w is gives h ok = absurd cc
+    (Ok outs) is w h (λ up. ap (without_tag q.tag) (w.pieces up) ∙ sym (given_rows (rules o) (heard_at o past) q (events.Deliver p) NoSave is h.free))
+given_ends note old core o past q p (Err fault) w is h ok = absurd cc
 
 pub refused_ends : {T : Type 0} (note : T → Note) (old : Server T) (core : PacketServer T) (o : Opening) (past : List FrameEntry) (q : PieceParts)
     (p : PacketParts) (result : Result Outs Fault) → StandsFor note old o past

@@ -9,7 +9,6 @@ pub mod ExampleLemmas
 pub mod FewLemmas
 pub mod FrameLemmas
 pub mod HeardLemmas
-pub mod HeardRangeLemmas
 pub mod HeldLemmas
 pub mod KeyLemmas
 pub mod LegalLemmas
@@ -48,7 +47,7 @@ pub mod RefusedLemmas
 pub mod ServeLemmas
 pub mod StartedLemmas
 pub mod RestartLemmas
-pub mod HearingLemmas
+pub mod LookLemmas
 pub mod FrameEndLemmas
 pub mod UnsavedLemmas
 pub mod ShortLemmas

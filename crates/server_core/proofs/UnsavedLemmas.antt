@@ -17,13 +17,15 @@ use Rattle.messages.specs.Pieces.{tag_in}
 use Rattle.messages.specs.PieceRanges.{is_long_kind, is_tag_in_range, is_piece}
 use Rattle.messages.specs.Assemblies.{Row, Gives, NoPacket, packet_of, of_tag, look_by_body, look_at_piece, completed_body}
 use Rattle.messages.specs.Hearing.{Strays, said_by}
+use Rattle.messages.specs.Senses.{sense_of, heard_or}
+use Rattle.server_core.specs.declared.event.Event.TheVariants as events
 use Rattle.server_core.specs.History as history
 use Rattle.server_core.specs.History.{Opening}
 use Rattle.server_core.specs.Request.{request_in, ToNobody}
 use Rattle.server_core.specs.Run.{Work}
-use Rattle.server_core.specs.Words.{Staged, is_on, last_run, staged_run, work, due_by}
+use Rattle.server_core.specs.Words.{Staged, is_on, last_run, staged_run, work, due, due_by}
 use Rattle.server_core.specs.Hearing.{FrameEntry, is_piece_for, packets_heard, assembly}
-use Rattle.server_core.specs.FrameAnswers.{sense_of, due_of_sense, would_save}
+use Rattle.server_core.specs.FrameAnswers.{would_save}
 
 start_is_short : (kind : PacketKind) → is_long_kind kind ≡ true → (3 == number_of kind) ≡ false
 start_is_short kinds.Start l = cc
@@ -52,12 +54,12 @@ undue_packet on last s w b false h = refl
 
 undue_tag : (o : Opening) (past : List history.Entry) (q : PieceParts) (b : Body) (same : Bool)
     → (same ≡ true → due_by (is_on past) (last_run o past) (staged_run o past) (work o past) (request_in b) ≡ None)
-    → due_of_sense o past (sense_of q (said_by (if same then Gives (packet_of q b) else NoPacket))) ≡ None
+    → heard_or None (due o past) (sense_of events.Deliver (said_by (if same then Gives (packet_of q b) else NoPacket))) ≡ None
 undue_tag o past q b true h = undue_packet (is_on past) (last_run o past) (staged_run o past) (work o past) b (is_client q.from && is_server o.me q.to) (h refl)
 undue_tag o past q b false h = refl
 
 undue_read : (o : Opening) (past : List history.Entry) (q : PieceParts) (b : Option Body) → is_long_kind q.tag.whole ≡ true
-    → due_of_sense o past (sense_of q (said_by (of_tag q b))) ≡ None
+    → heard_or None (due o past) (sense_of events.Deliver (said_by (of_tag q b))) ≡ None
 undue_read o past q None l = refl
 undue_read o past q (Some b) l =
     let t = tag_in b q.tag.length in
@@ -65,12 +67,12 @@ undue_read o past q (Some b) l =
     (kinds_are t q.tag same))
 
 undue_look : (o : Opening) (past : List history.Entry) (q : PieceParts) (bytes : Option (List ℕ)) → is_long_kind q.tag.whole ≡ true
-    → due_of_sense o past (sense_of q (said_by (look_by_body q bytes))) ≡ None
+    → heard_or None (due o past) (sense_of events.Deliver (said_by (look_by_body q bytes))) ≡ None
 undue_look o past q None l = refl
 undue_look o past q (Some bytes) l = undue_read o past q (body_at q.tag.whole bytes) l
 
 undue_meaning : (o : Opening) (past : List history.Entry) (q : PieceParts) (rows : List Row) (takes : Bool) → is_long_kind q.tag.whole ≡ true
-    → due_of_sense o past (sense_of q (if takes then said_by (look_at_piece rows q) else Strays)) ≡ None
+    → heard_or None (due o past) (sense_of events.Deliver (if takes then said_by (look_at_piece rows q) else Strays)) ≡ None
 undue_meaning o past q rows true l = undue_look o past q (completed_body rows q) l
 undue_meaning o past q rows false l = refl
 

@@ -1,10 +1,11 @@
 -- Which lists of frames a server stands for, and how its step ends.
-use Rattle.std.specs.Prelude.{◌≡◌, ℕ, ◌+◌, Bool, true, false, List, ◌∷◌, map, Result, Ok, Err}
+use Rattle.std.specs.Prelude.{◌≡◌, ℕ, ◌+◌, true, false, List, ◌∷◌, map, Result, Ok, Err}
 use Rattle.fc_base.specs.declared.fault.Fault.{Fault}
 use Rattle.disk_model.specs.declared.left.Left.TheVariants.{Saved}
 use Rattle.disk_model.specs.Notes.{Note}
 use Rattle.disk_model.specs.Steps.{Steps}
 use Rattle.messages.specs.FrameBytes.{frame_spelling}
+use Rattle.messages.specs.Senses.{is_drop}
 use Rattle.server_core.specs.declared.input.Input.{Input}
 use Rattle.server_core.specs.declared.outs.Outs.{Outs}
 use Rattle.server_core.specs.declared.server.Server.{Server}
@@ -17,7 +18,7 @@ use Rattle.server_core.specs.Bounds.{AreShort}
 use Rattle.server_core.specs.Ranges.{OpensInRange, CameInRange}
 use Rattle.server_core.specs.Serves as whole
 use Rattle.server_core.specs.Hearing.{FrameEntry, Met, Restart, packets_heard, assembly}
-use Rattle.server_core.specs.FrameAnswers.{Sense, Hears, Keeps, Drops, Misses, sense, frames, refusal, due, issue, act, answered_entry}
+use Rattle.server_core.specs.FrameAnswers.{sense, frames, refusal, due, issue, act, answered_entry}
 
 -- A server stands for a list of frames where its core stands for the packets that are heard in it,
 -- and, while it is on, keeps what has come together of pieces.
@@ -33,13 +34,6 @@ pub record Sends (o : Opening) (past : List FrameEntry) (e : Input) (outs : Outs
   pub issue_is : outs.issue ≡ issue o past e
   pub act_is : outs.act ≡ act o past e
   pub short : OpensInRange o → CameInRange (packets_heard o past) → AreShort outs.frames
-
--- A tag is dropped.
-abbrev pub is_drop : Sense → Bool
-is_drop (Hears e) = false
-is_drop (Keeps q) = false
-is_drop (Drops q) = true
-is_drop Misses = false
 
 -- The steps of a server: its note, what its list says of what comes, and what is answered and sent.
 -- What is refused leaves it as it was, but where it drops a tag: that alone changes.

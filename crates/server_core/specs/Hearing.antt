@@ -1,11 +1,13 @@
 -- A server's list of frames, and the list of packets that it hears in them.
-use Rattle.std.specs.Prelude.{ℕ, Bool, true, false, ◌&&◌, List, map, is_some}
+use Rattle.std.specs.Prelude.{ℕ, Bool, true, false, ◌&&◌, List, map}
 use Rattle.messages.specs.Kinds.{is_of_client}
 use Rattle.messages.specs.Nodes.{is_client, is_server}
 use Rattle.messages.specs.declared.piece.PieceParts.{PieceParts}
 use Rattle.messages.specs.Assemblies.{Row}
-use Rattle.messages.specs.Hearing.{Rules, Heard, Coming, Comes, Happens, heard}
+use Rattle.messages.specs.Hearing.{Rules, Heard, Coming, Happens, heard}
+use Rattle.messages.specs.Senses.{Arrival, Framed, Unframed, coming}
 use Rattle.disk_model.specs.declared.left.Left.{Left}
+use Rattle.server_core.specs.declared.event.Event.{Event}
 use Rattle.server_core.specs.declared.event.Event.TheVariants as events
 use Rattle.server_core.specs.declared.input.Input.{Input}
 use Rattle.server_core.specs.declared.input.Input.TheVariants.{Deliver, Issue, WriteDone, CheckDone}
@@ -31,22 +33,26 @@ is_end history.Cut = true
 is_end (history.Restart left) = true
 
 -- How a server hears.
-abbrev pub rules : Opening → Rules history.Entry Left
+abbrev pub rules : Opening → Rules Event history.Entry Left
 rules o = record {
-  delivers = λ p left. history.Met (events.Deliver p) left;
-  refuses = λ past p. is_some (refusal o past (events.Deliver p));
-  takes = λ past q. is_on past && is_piece_for o.me q;
+  delivers = events.Deliver;
+  met = history.Met;
+  refusal = refusal o;
+  is_on = is_on;
+  is_for = is_piece_for o.me;
   ends = is_end;
 }
 
+-- What comes to a server is a frame, or an event past the network.
+abbrev pub arrival : Input → Arrival Event
+arrival (Deliver f) = Framed f
+arrival (Issue j) = Unframed (events.Issue j)
+arrival (WriteDone ticket end) = Unframed (events.WriteDone ticket end)
+arrival (CheckDone boot a j report) = Unframed (events.CheckDone boot a j report)
+
 -- What happens to a server, in the terms of hearing.
 abbrev pub coming_of : FrameEntry → Coming history.Entry Left
-coming_of (Met (Deliver f) left) = Comes f left
-coming_of (Met (Issue j) left) = Happens (history.Met (events.Issue j) left)
-coming_of (Met (WriteDone ticket end) left) =
-    Happens (history.Met (events.WriteDone ticket end) left)
-coming_of (Met (CheckDone boot a j report) left) =
-    Happens (history.Met (events.CheckDone boot a j report) left)
+coming_of (Met e left) = coming history.Met (arrival e) left
 coming_of Cut = Happens history.Cut
 coming_of (Restart left) = Happens (history.Restart left)
 

@@ -21,7 +21,6 @@ pub mod DueStart
 pub mod OpenCheck
 pub mod Accepted
 pub mod Heard
-pub mod HeardRange
 pub mod Ranges
 pub mod Bounds
 pub mod Sent

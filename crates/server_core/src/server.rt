@@ -39,12 +39,13 @@ impl<N: Notes> Server<N> {
     ghost use Rattle.server_core.specs.Taken.{state_taken};
     ghost use Rattle.server_core.specs.OpenWrites.{open_write};
     ghost use Rattle.server_core.specs.Hearing.{FrameEntry, packets_heard};
-    ghost use Rattle.server_core.specs.FrameAnswers.{would_save};
+    ghost use Rattle.server_core.specs.FrameAnswers.{sense, would_save};
     ghost use Rattle.disk_model.specs.Steps.{Ends};
     ghost use Rattle.server_core.specs.FrameEnds.{StandsFor, steps, Opens};
     ghost use Rattle.server_core.specs.Memory.{TakesNone, WritesTakeNone};
     ghost use Rattle.server_core.specs.Handles.{outs_of_issue, outs_of_end};
-    ghost use Rattle.server_core.specs.HeardRange.{HearsInRange};
+    ghost use Rattle.messages.specs.Senses.{HearsInRange};
+    ghost use Rattle.server_core.specs.Ranges.{IsInRange};
 
     /// Opens the server with this number over its note, where it saves the next boot before it answers;
     /// a blank note has none yet. Where it isn't opened, the notes come back.
@@ -173,7 +174,7 @@ impl<N: Notes> Server<N> {
         ensures ends { (o : Opening) (past : List FrameEntry) → StandsFor N.note self.old o past →
             Ends (steps N.note o) past input self.old self.new result }
         ensures ranges { (o : Opening) (past : List FrameEntry) → StandsFor N.note self.old o past →
-            HearsInRange o past input result }
+            HearsInRange IsInRange (sense o past input) result }
         ensures memory { WritesTakeNone input result }
     {
         // A function pays for the room of all its values, so the two that come most take a way of their own.
@@ -190,7 +191,7 @@ impl<N: Notes> Server<N> {
         ensures ends { (o : Opening) (past : List FrameEntry) → StandsFor N.note self.old o past →
             Ends (steps N.note o) past (ToIssue job) self.old self.new (outs_of_issue result) }
         ensures ranges { (o : Opening) (past : List FrameEntry) → StandsFor N.note self.old o past →
-            HearsInRange o past (ToIssue job) (outs_of_issue result) }
+            HearsInRange IsInRange (sense o past (ToIssue job)) (outs_of_issue result) }
         ensures memory { TakesNone result }
     {
         self.core.issue(job)
@@ -202,7 +203,7 @@ impl<N: Notes> Server<N> {
         ensures ends { (o : Opening) (past : List FrameEntry) → StandsFor N.note self.old o past →
             Ends (steps N.note o) past (ToEnd ticket end) self.old self.new (outs_of_end result) }
         ensures ranges { (o : Opening) (past : List FrameEntry) → StandsFor N.note self.old o past →
-            HearsInRange o past (ToEnd ticket end) (outs_of_end result) }
+            HearsInRange IsInRange (sense o past (ToEnd ticket end)) (outs_of_end result) }
         ensures memory { TakesNone result }
     {
         self.core.end_write(ticket, end)
@@ -214,7 +215,7 @@ impl<N: Notes> Server<N> {
         ensures ends { (o : Opening) (past : List FrameEntry) → StandsFor N.note self.old o past →
             Ends (steps N.note o) past input self.old self.new result }
         ensures ranges { (o : Opening) (past : List FrameEntry) → StandsFor N.note self.old o past →
-            HearsInRange o past input result }
+            HearsInRange IsInRange (sense o past input) result }
     {
         match input {
             Input::Deliver(frame) => self.deliver(frame),
@@ -242,7 +243,7 @@ impl<N: Notes> Server<N> {
         ensures ends { (o : Opening) (past : List FrameEntry) → StandsFor N.note self.old o past →
             Ends (steps N.note o) past (Deliver frame) self.old self.new result }
         ensures ranges { (o : Opening) (past : List FrameEntry) → StandsFor N.note self.old o past →
-            HearsInRange o past (Deliver frame) result }
+            HearsInRange IsInRange (sense o past (Deliver frame)) result }
     {
         match frame {
             Frame::Whole(packet) => {
@@ -258,7 +259,7 @@ impl<N: Notes> Server<N> {
         ensures ends { (o : Opening) (past : List FrameEntry) → StandsFor N.note self.old o past →
             Ends (steps N.note o) past (Deliver (OfPiece piece.now)) self.old self.new result }
         ensures ranges { (o : Opening) (past : List FrameEntry) → StandsFor N.note self.old o past →
-            HearsInRange o past (Deliver (OfPiece piece.now)) result }
+            HearsInRange IsInRange (sense o past (Deliver (OfPiece piece.now))) result }
     {
         if !self.core.on() {
             return Err(Fault::Down);

@@ -2,13 +2,14 @@
 
 ghost use Rattle.std.specs.Prelude.{◌≡◌, List, IfOk, OnErr};
 ghost use Rattle.disk_model.specs.Steps.{Ends};
+ghost use Rattle.messages.specs.Senses.{HearsInRange};
 ghost use Rattle.messages.specs.declared.frame.Frame.TheVariants.{Whole, Piece as OfPiece};
 ghost use Rattle.client_core.specs.declared.input.Input.TheVariants.{Deliver};
 ghost use Rattle.client_core.specs.History.{Opening};
 ghost use Rattle.client_core.specs.Hearing.{FrameEntry, is_piece_for};
-ghost use Rattle.client_core.specs.FrameAnswers.{would_save, IsPiece};
+ghost use Rattle.client_core.specs.FrameAnswers.{sense, would_save, IsPiece};
 ghost use Rattle.client_core.specs.FrameEnds.{StandsFor, steps};
-ghost use Rattle.client_core.specs.HeardRange.{HearsInRange};
+ghost use Rattle.client_core.specs.Ranges.{IsInRange};
 ghost use Rattle.client_core.specs.Sensing.{IsSensed};
 
 use super::Client;
@@ -56,7 +57,7 @@ impl<N: Notes> Client<N> {
         ensures ends { (o : Opening) (past : List FrameEntry) → StandsFor N.note self.old o past →
             Ends (steps N.note o) past (Deliver frame) self.old self.new result }
         ensures ranges { (o : Opening) (past : List FrameEntry) → StandsFor N.note self.old o past →
-            HearsInRange o past (Deliver frame) result }
+            HearsInRange IsInRange (sense o past (Deliver frame)) result }
     {
         match frame {
             Frame::Whole(packet) => self.take(packet),
@@ -69,7 +70,7 @@ impl<N: Notes> Client<N> {
         ensures ends { (o : Opening) (past : List FrameEntry) → StandsFor N.note self.old o past →
             Ends (steps N.note o) past (Deliver (Whole packet)) self.old self.new result }
         ensures ranges { (o : Opening) (past : List FrameEntry) → StandsFor N.note self.old o past →
-            HearsInRange o past (Deliver (Whole packet)) result }
+            HearsInRange IsInRange (sense o past (Deliver (Whole packet))) result }
     {
         frames_are_short();
         packet.keeps_its_ranges();
@@ -81,7 +82,7 @@ impl<N: Notes> Client<N> {
         ensures ends { (o : Opening) (past : List FrameEntry) → StandsFor N.note self.old o past →
             Ends (steps N.note o) past (Deliver (OfPiece piece.now)) self.old self.new result }
         ensures ranges { (o : Opening) (past : List FrameEntry) → StandsFor N.note self.old o past →
-            HearsInRange o past (Deliver (OfPiece piece.now)) result }
+            HearsInRange IsInRange (sense o past (Deliver (OfPiece piece.now))) result }
     {
         frames_are_short();
         match self.look(piece) {

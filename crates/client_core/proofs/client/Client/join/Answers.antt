@@ -8,9 +8,10 @@ use Rattle.client_core.specs.declared.input.Input.TheVariants.{Deliver}
 use Rattle.client_core.specs.Hearing.{packets_heard}
 use Rattle.client_core.specs.FrameEnds.{steps}
 use Rattle.client_core.specs.Sensing.{IsSensed}
-use Rattle.client_core.specs.declared.call.Call.TheVariants as calls
-use Rattle.client_core.specs.FrameAnswers.{Hears, Keeps, Drops, Misses}
-use Rattle.client_core.proofs.HeardRangeLemmas.{hears_in_range}
+use Rattle.messages.specs.Senses.{SenseInRange}
+use Rattle.messages.proofs.SenseLemmas.{hears_in_range}
+use Rattle.client_core.specs.Ranges.{IsInRange}
+use Rattle.client_core.specs.FrameAnswers.{sense}
 use Rattle.client_core.proofs.FrameEndLemmas.{given_answers, given_refused, kept_ends, dropped_ends, down_ends, missed_ends}
 use Rattle.client_core.proofs.client.Client.join.Goals as goal
 
@@ -68,34 +69,34 @@ pub returns-then-is_ok-clause-ranges : goal.returns-then-is_ok-clause-ranges
 returns-then-is_ok-clause-ranges g c o past s =
     let q = c.args.piece.now in
     let is = subst (IsSensed o past q) (c.in-Ok-Some.is ∙ ap Ok c.in-Ok-Some.field-0-is) (c.look.ensures o past s) in
-    hears_in_range o past (Deliver (Piece q)) (Hears (calls.Deliver c.in-Ok-Some.packet)) c.deliver-sent.result is c.keeps_its_ranges.ensures
+    hears_in_range IsInRange (sense o past (Deliver (Piece q))) c.deliver-sent.result (subst (SenseInRange IsInRange) (sym is) c.keeps_its_ranges.ensures)
 
 pub returns-else-is_ok-clause-ranges : goal.returns-else-is_ok-clause-ranges
 returns-else-is_ok-clause-ranges g c o past s =
     let q = c.args.piece.now in
     let is = subst (IsSensed o past q) (c.in-Ok-Some.is ∙ ap Ok c.in-Ok-Some.field-0-is) (c.look.ensures o past s) in
-    hears_in_range o past (Deliver (Piece q)) (Hears (calls.Deliver c.in-Ok-Some.packet)) c.deliver-sent.result is c.keeps_its_ranges.ensures
+    hears_in_range IsInRange (sense o past (Deliver (Piece q))) c.deliver-sent.result (subst (SenseInRange IsInRange) (sym is) c.keeps_its_ranges.ensures)
 
 pub returns-in-Ok-clause-ranges : goal.returns-in-Ok-clause-ranges
 returns-in-Ok-clause-ranges g c o past s =
     let q = c.args.piece.now in
     let is = subst (IsSensed o past q) (c.in-Ok-None.is ∙ ap Ok c.in-Ok-None.field-0-is) (c.look.ensures o past s) in
-    hears_in_range o past (Deliver (Piece q)) (Keeps q) (Ok c.new.result) is tt
+    subst (SenseInRange IsInRange) (sym is) tt
 
 pub returns-in-Err-FrameBadField-clause-ranges : goal.returns-in-Err-FrameBadField-clause-ranges
 returns-in-Err-FrameBadField-clause-ranges g c o past s =
     let q = c.args.piece.now in
     let is = subst (IsSensed o past q) (c.in-Err-FrameBadField.is ∙ ap Err c.in-Err-FrameBadField.field-0-is) (c.look.ensures o past s) in
-    hears_in_range {X = Unit {0}} o past (Deliver (Piece q)) (Drops q) (Err FrameBadField) is tt
+    subst (SenseInRange IsInRange) (sym is) tt
 
 pub returns-in-Err-Down-clause-ranges : goal.returns-in-Err-Down-clause-ranges
 returns-in-Err-Down-clause-ranges g c o past s =
     let q = c.args.piece.now in
     let misses = subst (IsSensed o past q) (c.in-Err-Down.is ∙ ap Err c.in-Err-Down.field-0-is) (c.look.ensures o past s) in
-    hears_in_range {X = Unit {0}} o past (Deliver (Piece q)) Misses (Err FrameBadField) misses.0 tt
+    subst (SenseInRange IsInRange) (sym misses.0) tt
 
 pub returns-in-Err-Misdirected-clause-ranges : goal.returns-in-Err-Misdirected-clause-ranges
 returns-in-Err-Misdirected-clause-ranges g c o past s =
     let q = c.args.piece.now in
     let misses = subst (IsSensed o past q) (c.in-Err-Misdirected.is ∙ ap Err c.in-Err-Misdirected.field-0-is) (c.look.ensures o past s) in
-    hears_in_range {X = Unit {0}} o past (Deliver (Piece q)) Misses (Err FrameBadField) misses.0 tt
+    subst (SenseInRange IsInRange) (sym misses.0) tt

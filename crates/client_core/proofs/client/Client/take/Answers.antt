@@ -3,8 +3,9 @@ use Rattle.messages.specs.declared.frame.Frame.TheVariants.{Whole}
 use Rattle.client_core.specs.declared.call.Call.TheVariants as calls
 use Rattle.client_core.specs.declared.input.Input.TheVariants.{Deliver}
 use Rattle.client_core.specs.Hearing.{packets_heard}
-use Rattle.client_core.specs.FrameAnswers.{Hears}
-use Rattle.client_core.proofs.HeardRangeLemmas.{hears_in_range}
+use Rattle.client_core.specs.Ranges.{IsInRange}
+use Rattle.client_core.specs.FrameAnswers.{sense}
+use Rattle.messages.proofs.SenseLemmas.{hears_in_range}
 use Rattle.client_core.proofs.FrameEndLemmas.{whole_ends}
 use Rattle.client_core.proofs.client.Client.take.Goals as goal
 
@@ -16,4 +17,4 @@ returns-clause-ends g c o past s =
 
 pub returns-clause-ranges : goal.returns-clause-ranges
 returns-clause-ranges g c o past s =
-    hears_in_range o past (Deliver (Whole c.args.packet)) (Hears (calls.Deliver c.args.packet)) c.deliver.result refl c.keeps_its_ranges.ensures
+    hears_in_range IsInRange (sense o past (Deliver (Whole c.args.packet))) c.deliver.result c.keeps_its_ranges.ensures

@@ -18,3 +18,6 @@ returns-in-Whole-clause-ends g c o past s =
     subst (λ f. Ends (steps note o) past (Deliver f) old new c.step.result) (sym c.in-Whole.is)
     (whole_ends note o past (Deliver (Whole packet)) (events.Deliver packet) old c.step.new.self c.step.result refl refl s
     (c.step.ensures o (packets_heard o past) s.core))
+
+pub returns-in-Piece-clause-ranges : goal.returns-in-Piece-clause-ranges
+returns-in-Piece-clause-ranges g c o past s = rw c.in-Piece.is (c.join.ensures.ranges o past s)

@@ -8,6 +8,12 @@ use Rattle.server_core.specs.FrameEnds.{steps}
 use Rattle.server_core.proofs.FrameEndLemmas.{whole_ends}
 use Rattle.server_core.proofs.server.Server.take.Goals as goal
 
+pub returns-in-Deliver-clause-ends : goal.returns-in-Deliver-clause-ends
+returns-in-Deliver-clause-ends g c o past s = rw c.in-Deliver.is (c.deliver.ensures.ends o past s)
+
+pub returns-in-Deliver-clause-ranges : goal.returns-in-Deliver-clause-ranges
+returns-in-Deliver-clause-ranges g c o past s = rw c.in-Deliver.is (c.deliver.ensures.ranges o past s)
+
 pub returns-in-Issue-clause-ends : goal.returns-in-Issue-clause-ends
 returns-in-Issue-clause-ends g c o past s =
     let note = g.N.Notes.note in
