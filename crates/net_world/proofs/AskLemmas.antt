@@ -14,17 +14,15 @@ use Rattle.disk_model.specs.declared.left.Left.TheVariants.{NoSave}
 use Rattle.disk_model.specs.declared.mem_disk.MemDisk.{MemDisk}
 use Rattle.messages.specs.FrameBytes.{frame_spelling}
 use Rattle.messages.specs.declared.node.Node.TheVariants.{Client}
-use Rattle.messages.specs.declared.frame.Frame.TheVariants.{Whole, Piece}
-use Rattle.messages.specs.Hearing.{Meaning, Says, Waits, Spoils, Strays, meaning, heard_by, frames_by}
-use Rattle.messages.specs.Senses.{sense_of, refusal_of_sense}
+use Rattle.messages.specs.Hearing.{frames_by}
+use Rattle.messages.specs.Senses.{refusal_of_sense, Sense, Hears, Keeps, Drops, Misses}
+use Rattle.messages.proofs.SenseLemmas.{entry_by, entry_is}
 use Rattle.client_core.specs.declared.call.Call.{Call}
-use Rattle.client_core.specs.declared.call.Call.TheVariants as calls
 use Rattle.client_core.specs.declared.input.Input.{Input}
-use Rattle.client_core.specs.declared.input.Input.TheVariants as inputs
 use Rattle.client_core.specs.History as client
 use Rattle.client_core.specs.Words as words
 use Rattle.client_core.specs.Packets.{packets}
-use Rattle.client_core.specs.Hearing.{FrameEntry, Met, rules, heard_at, packets_heard}
+use Rattle.client_core.specs.Hearing.{FrameEntry, Met, rules, heard_at, packets_heard, arrival}
 use Rattle.client_core.specs.FrameAnswers as answers
 use Rattle.net_world.specs.declared.asked.Asked.{Asked}
 use Rattle.net_world.specs.declared.mirror_node.MirrorNode.{MirrorNode}
@@ -68,23 +66,18 @@ none_sent : (o : client.Opening) (list : List client.Entry) (c : Call) (fault : 
     → frames_by (packets o) list (Some (client.Met c NoSave)) ≡ []
 none_sent o list c fault h = rw h refl
 
-piece_sends : (o : client.Opening) (list : List client.Entry) (m : Meaning) (fault : Fault)
-    → refusal_of_sense (rules o) list (sense_of calls.Deliver m) ≡ Some fault
-    → frames_by (packets o) list (heard_by (rules o) NoSave m) ≡ []
-piece_sends o list (Says p) fault h = none_sent o list (calls.Deliver p) fault h
-piece_sends o list Waits fault h = refl
-piece_sends o list Spoils fault h = refl
-piece_sends o list Strays fault h = refl
+sense_sends : (o : client.Opening) (list : List client.Entry) (x : Sense Call) (fault : Fault) → refusal_of_sense (rules o) list x ≡ Some fault
+    → frames_by (packets o) list (entry_by (rules o) NoSave x) ≡ []
+sense_sends o list (Hears c) fault h = none_sent o list c fault h
+sense_sends o list Keeps fault h = refl
+sense_sends o list Drops fault h = refl
+sense_sends o list Misses fault h = refl
 
 refused_sends : (o : client.Opening) (past : List FrameEntry) (e : Input) (fault : Fault) → answers.refusal o past e ≡ Some fault
     → answers.frames o past (Met e NoSave) ≡ []
-refused_sends o past (inputs.Begin text) fault h = none_sent o (packets_heard o past) (calls.Begin text) fault h
-refused_sends o past (inputs.Trigger run act) fault h = none_sent o (packets_heard o past) (calls.Trigger run act) fault h
-refused_sends o past (inputs.Stop run) fault h = none_sent o (packets_heard o past) (calls.Stop run) fault h
-refused_sends o past (inputs.Verify run text) fault h = none_sent o (packets_heard o past) (calls.Verify run text) fault h
-refused_sends o past (inputs.Deliver (Whole p)) fault h = none_sent o (packets_heard o past) (calls.Deliver p) fault h
-refused_sends o past (inputs.Deliver (Piece q)) fault h = piece_sends o (packets_heard o past) (meaning (rules o) (heard_at o past) (Piece q)) fault h
-refused_sends o past inputs.Tick fault h = none_sent o (packets_heard o past) calls.Tick fault h
+refused_sends o past e fault h =
+    ap (frames_by (packets o) (packets_heard o past)) (entry_is (rules o) (heard_at o past) (arrival e) NoSave)
+    ∙ sense_sends o (packets_heard o past) (answers.sense o past e) fault h
 
 -- ---- the world behind a call
 

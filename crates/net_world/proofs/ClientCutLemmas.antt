@@ -1,18 +1,16 @@
 -- A client's node loses its power within a save.
-use Rattle.std.proofs.Common.{◌≡◌, refl, sym, ap, subst, Bool, true, false, ◌&&◌, List, ◌∷◌, Option, Some, None}
+use Rattle.std.proofs.Common.{◌≡◌, refl, sym, ◌∙◌, ap, subst, Bool, true, false, ◌&&◌, List, ◌∷◌, Option, Some, None}
 use Rattle.std.specs.Prelude.{not, is_some}
 use Rattle.fc_base.specs.declared.fault.Fault.{Fault}
 use Rattle.disk_model.specs.MemNotes.{note_of}
 use Rattle.disk_model.specs.declared.left.Left.{Left}
 use Rattle.disk_model.specs.declared.left.Left.TheVariants.{Saved, LostNew, LostOld}
 use Rattle.disk_model.specs.Left.{saved_for, is_lost, has_new}
-use Rattle.messages.specs.declared.frame.Frame.TheVariants.{Whole, Piece}
-use Rattle.messages.specs.Hearing.{Meaning, Says, Waits, Spoils, Strays, meaning, heard_by, with_entry}
-use Rattle.messages.specs.Senses.{Sense, Hears, Keeps, Drops, Misses, sense_of, refusal_of_sense, heard_or}
+use Rattle.messages.specs.Hearing.{with_entry}
+use Rattle.messages.specs.Senses.{Sense, Hears, Keeps, Drops, Misses, refusal_of_sense, heard_or}
+use Rattle.messages.proofs.SenseLemmas.{entry_by, entries_are}
 use Rattle.client_core.specs.declared.call.Call.{Call}
-use Rattle.client_core.specs.declared.call.Call.TheVariants as calls
 use Rattle.client_core.specs.declared.input.Input.{Input}
-use Rattle.client_core.specs.declared.input.Input.TheVariants as inputs
 use Rattle.client_core.specs.declared.noted.Noted.{Noted}
 use Rattle.client_core.specs.declared.peers.Peers.{Peers}
 use Rattle.client_core.specs.History as client
@@ -21,7 +19,7 @@ use Rattle.client_core.specs.Note.{Says as NoteSays}
 use Rattle.client_core.specs.Words as words
 use Rattle.client_core.specs.Words.{words_noted}
 use Rattle.client_core.specs.Saves.{Addition, unless_refused, due_by, noted_after}
-use Rattle.client_core.specs.Hearing.{FrameEntry, Met, Cut, rules, heard_at, packets_heard}
+use Rattle.client_core.specs.Hearing.{FrameEntry, Met, Cut, rules, heard_at, packets_heard, arrival}
 use Rattle.client_core.specs.FrameAnswers.{sense, due, answered_entry}
 use Rattle.net_world.specs.declared.client_node.ClientNode.{ClientNode}
 use Rattle.net_world.specs.declared.client_node.ClientNode.TheVariants.{On, Off}
@@ -37,42 +35,37 @@ call_left : (o : Opening) (list : List client.Entry) (c : Call) (a b : Left) →
     → words_noted o (client.Met c a ∷ list) ≡ words_noted o (client.Met c b ∷ list)
 call_left o list c a b h = ap (λ new. noted_after new (words.due o list c) (words_noted o list)) h
 
-piece_left : (o : Opening) (list : List client.Entry) (a b : Left) (m : Meaning) → has_new a ≡ has_new b
-    → words_noted o (with_entry (heard_by (rules o) a m) list) ≡ words_noted o (with_entry (heard_by (rules o) b m) list)
-piece_left o list a b (Says p) h = call_left o list (calls.Deliver p) a b h
-piece_left o list a b Waits h = refl
-piece_left o list a b Spoils h = refl
-piece_left o list a b Strays h = refl
+sense_left : (o : Opening) (list : List client.Entry) (a b : Left) (s : Sense Call) → has_new a ≡ has_new b
+    → words_noted o (with_entry (entry_by (rules o) a s) list) ≡ words_noted o (with_entry (entry_by (rules o) b s) list)
+sense_left o list a b (Hears c) h = call_left o list c a b h
+sense_left o list a b Keeps h = refl
+sense_left o list a b Drops h = refl
+sense_left o list a b Misses h = refl
+
+-- What is heard behind an input, by what the input is.
+heard_behind : (o : Opening) (past : List FrameEntry) (e : Input) (left : Left)
+    → packets_heard o (Met e left ∷ past) ≡ with_entry (entry_by (rules o) left (sense o past e)) (packets_heard o past)
+heard_behind o past e left = entries_are (rules o) (heard_at o past) (arrival e) left (sense o past e) refl
 
 same_left : (o : Opening) (past : List FrameEntry) (e : Input) (a b : Left) → has_new a ≡ has_new b → said o (Met e a ∷ past) ≡ said o (Met e b ∷ past)
 unfolding said
-same_left o past (inputs.Begin text) a b h = call_left o (packets_heard o past) (calls.Begin text) a b h
-same_left o past (inputs.Trigger run act) a b h = call_left o (packets_heard o past) (calls.Trigger run act) a b h
-same_left o past (inputs.Stop run) a b h = call_left o (packets_heard o past) (calls.Stop run) a b h
-same_left o past (inputs.Verify run text) a b h = call_left o (packets_heard o past) (calls.Verify run text) a b h
-same_left o past (inputs.Deliver (Whole p)) a b h = call_left o (packets_heard o past) (calls.Deliver p) a b h
-same_left o past (inputs.Deliver (Piece q)) a b h = piece_left o (packets_heard o past) a b (meaning (rules o) (heard_at o past) (Piece q)) h
-same_left o past inputs.Tick a b h = call_left o (packets_heard o past) calls.Tick a b h
+same_left o past e a b h =
+    ap (words_noted o) (heard_behind o past e a) ∙ sense_left o (packets_heard o past) a b (sense o past e) h
+    ∙ sym (ap (words_noted o) (heard_behind o past e b))
 
 none_new : (x : Option Addition) (n : Noted) → noted_after false x n ≡ n
 none_new None n = refl
 none_new (Some a) n = refl
 
-piece_old : (o : Opening) (list : List client.Entry) (m : Meaning) → words_noted o (with_entry (heard_by (rules o) LostOld m) list) ≡ words_noted o list
-piece_old o list (Says p) = none_new (words.due o list (calls.Deliver p)) (words_noted o list)
-piece_old o list Waits = refl
-piece_old o list Spoils = refl
-piece_old o list Strays = refl
+sense_old : (o : Opening) (list : List client.Entry) (s : Sense Call) → words_noted o (with_entry (entry_by (rules o) LostOld s) list) ≡ words_noted o list
+sense_old o list (Hears c) = none_new (words.due o list c) (words_noted o list)
+sense_old o list Keeps = refl
+sense_old o list Drops = refl
+sense_old o list Misses = refl
 
 same_old : (o : Opening) (past : List FrameEntry) (e : Input) → said o (Met e LostOld ∷ past) ≡ said o past
 unfolding said
-same_old o past (inputs.Begin text) = none_new (words.due o (packets_heard o past) (calls.Begin text)) (words_noted o (packets_heard o past))
-same_old o past (inputs.Trigger run act) = none_new (words.due o (packets_heard o past) (calls.Trigger run act)) (words_noted o (packets_heard o past))
-same_old o past (inputs.Stop run) = none_new (words.due o (packets_heard o past) (calls.Stop run)) (words_noted o (packets_heard o past))
-same_old o past (inputs.Verify run text) = none_new (words.due o (packets_heard o past) (calls.Verify run text)) (words_noted o (packets_heard o past))
-same_old o past (inputs.Deliver (Whole p)) = none_new (words.due o (packets_heard o past) (calls.Deliver p)) (words_noted o (packets_heard o past))
-same_old o past (inputs.Deliver (Piece q)) = piece_old o (packets_heard o past) (meaning (rules o) (heard_at o past) (Piece q))
-same_old o past inputs.Tick = none_new (words.due o (packets_heard o past) calls.Tick) (words_noted o (packets_heard o past))
+same_old o past e = ap (words_noted o) (heard_behind o past e LostOld) ∙ sense_old o (packets_heard o past) (sense o past e)
 
 -- ---- it is down behind a lost save that was due
 
@@ -81,22 +74,16 @@ falls true true h = refl
 falls false true h = refl
 falls on false h = absurd cc
 
-piece_falls : (o : Opening) (list : List client.Entry) (left : Left) (m : Meaning) → is_lost left ≡ true
-    → is_some (heard_or None (words.due o list) (sense_of calls.Deliver m)) ≡ true → words.is_on (with_entry (heard_by (rules o) left m) list) ≡ false
-piece_falls o list left (Says p) h d = falls (words.is_on list) (is_lost left) h
-piece_falls o list left Waits h d = absurd cc
-piece_falls o list left Spoils h d = absurd cc
-piece_falls o list left Strays h d = absurd cc
+sense_falls : (o : Opening) (list : List client.Entry) (left : Left) (s : Sense Call) → is_lost left ≡ true
+    → is_some (heard_or None (words.due o list) s) ≡ true → words.is_on (with_entry (entry_by (rules o) left s) list) ≡ false
+sense_falls o list left (Hears c) h d = falls (words.is_on list) (is_lost left) h
+sense_falls o list left Keeps h d = absurd cc
+sense_falls o list left Drops h d = absurd cc
+sense_falls o list left Misses h d = absurd cc
 
 down : (o : Opening) (past : List FrameEntry) (e : Input) (left : Left) → is_lost left ≡ true → is_some (due o past e) ≡ true
     → is_up o (Met e left ∷ past) ≡ false
-down o past (inputs.Begin text) left h d = falls (is_up o past) (is_lost left) h
-down o past (inputs.Trigger run act) left h d = falls (is_up o past) (is_lost left) h
-down o past (inputs.Stop run) left h d = falls (is_up o past) (is_lost left) h
-down o past (inputs.Verify run text) left h d = falls (is_up o past) (is_lost left) h
-down o past (inputs.Deliver (Whole p)) left h d = falls (is_up o past) (is_lost left) h
-down o past (inputs.Deliver (Piece q)) left h d = piece_falls o (packets_heard o past) left (meaning (rules o) (heard_at o past) (Piece q)) h d
-down o past inputs.Tick left h d = falls (is_up o past) (is_lost left) h
+down o past e left h d = ap words.is_on (heard_behind o past e left) ∙ sense_falls o (packets_heard o past) left (sense o past e) h d
 
 -- ---- a node that is off stands for each list that says so, with what its note says
 

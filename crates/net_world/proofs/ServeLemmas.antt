@@ -19,14 +19,12 @@ use Rattle.disk_model.specs.declared.left.Left.TheVariants.{NoSave}
 use Rattle.messages.specs.FrameBytes.{frame_spelling}
 use Rattle.messages.specs.declared.node.Node.TheVariants as nodes
 use Rattle.messages.specs.declared.body.Body.{Body}
-use Rattle.messages.specs.declared.frame.Frame.TheVariants.{Whole, Piece}
 use Rattle.messages.specs.Pieces.{frames_of}
-use Rattle.messages.specs.Hearing.{Heard, Meaning, Says, Waits, Spoils, Strays, meaning, heard_by, frames_by}
-use Rattle.messages.specs.Senses.{sense_of, refusal_of_sense}
+use Rattle.messages.specs.Hearing.{Heard, frames_by}
+use Rattle.messages.specs.Senses.{refusal_of_sense, Sense, Hears, Keeps, Drops, Misses}
+use Rattle.messages.proofs.SenseLemmas.{entry_by, entry_is}
 use Rattle.server_core.specs.declared.event.Event.{Event}
-use Rattle.server_core.specs.declared.event.Event.TheVariants as events
 use Rattle.server_core.specs.declared.input.Input.{Input}
-use Rattle.server_core.specs.declared.input.Input.TheVariants as inputs
 use Rattle.server_core.specs.declared.outs.Outs.{Outs}
 use Rattle.server_core.specs.History as server
 use Rattle.server_core.specs.Request.{request_of}
@@ -34,7 +32,7 @@ use Rattle.server_core.specs.Replies.{replies}
 use Rattle.server_core.specs.Answers as packet_answers
 use Rattle.server_core.specs.Answers.{to_client, sent_by}
 use Rattle.server_core.specs.Words as words
-use Rattle.server_core.specs.Hearing.{FrameEntry, Met, rules, heard_at, coming_of, packets_heard}
+use Rattle.server_core.specs.Hearing.{FrameEntry, Met, rules, heard_at, coming_of, packets_heard, arrival}
 use Rattle.server_core.specs.FrameAnswers as answers
 use Rattle.net_world.specs.declared.served.Served.{Served}
 use Rattle.net_world.specs.declared.mirror_node.Mirrored.{Mirrored}
@@ -114,21 +112,18 @@ event_sends : (o : server.Opening) (list : List server.Entry) (e : Event) (fault
     → frames_by (packet_answers.packets o) list (Some (server.Met e NoSave)) ≡ []
 event_sends o list e fault h = none_sent o.me false (packet_answers.refusal o list e) fault (replies (packet_answers.now o list) (request_of o.me e)) h
 
-piece_sends : (o : server.Opening) (list : List server.Entry) (m : Meaning) (fault : Fault)
-    → refusal_of_sense (rules o) list (sense_of events.Deliver m) ≡ Some fault
-    → frames_by (packet_answers.packets o) list (heard_by (rules o) NoSave m) ≡ []
-piece_sends o list (Says p) fault h = event_sends o list (events.Deliver p) fault h
-piece_sends o list Waits fault h = refl
-piece_sends o list Spoils fault h = refl
-piece_sends o list Strays fault h = refl
+sense_sends : (o : server.Opening) (list : List server.Entry) (x : Sense Event) (fault : Fault) → refusal_of_sense (rules o) list x ≡ Some fault
+    → frames_by (packet_answers.packets o) list (entry_by (rules o) NoSave x) ≡ []
+sense_sends o list (Hears e) fault h = event_sends o list e fault h
+sense_sends o list Keeps fault h = refl
+sense_sends o list Drops fault h = refl
+sense_sends o list Misses fault h = refl
 
 refused_sends : (o : server.Opening) (past : List FrameEntry) (e : Input) (fault : Fault) → answers.refusal o past e ≡ Some fault
     → answers.frames o past (Met e NoSave) ≡ []
-refused_sends o past (inputs.Deliver (Whole p)) fault h = event_sends o (packets_heard o past) (events.Deliver p) fault h
-refused_sends o past (inputs.Deliver (Piece q)) fault h = piece_sends o (packets_heard o past) (meaning (rules o) (heard_at o past) (Piece q)) fault h
-refused_sends o past (inputs.Issue j) fault h = event_sends o (packets_heard o past) (events.Issue j) fault h
-refused_sends o past (inputs.WriteDone ticket end) fault h = event_sends o (packets_heard o past) (events.WriteDone ticket end) fault h
-refused_sends o past (inputs.CheckDone boot a j report) fault h = event_sends o (packets_heard o past) (events.CheckDone boot a j report) fault h
+refused_sends o past e fault h =
+    ap (frames_by (packet_answers.packets o) (packets_heard o past)) (entry_is (rules o) (heard_at o past) (arrival e) NoSave)
+    ∙ sense_sends o (packets_heard o past) (answers.sense o past e) fault h
 
 -- ---- the world behind what comes to a server
 

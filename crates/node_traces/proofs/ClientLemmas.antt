@@ -1,5 +1,5 @@
 -- What an event of a history adds to the list of the client.
-use Rattle.std.proofs.Common.{◌≡◌, refl, ap, subst, inl, inr, ℕ, Bool, true, false}
+use Rattle.std.proofs.Common.{◌≡◌, refl, ◌∙◌, ap, subst, inl, inr, ℕ, Bool, true, false}
 use Rattle.std.proofs.Common.{◌&&◌, ◌||◌, List, [], ◌++◌, Option, Some, None}
 use Rattle.std.specs.Prelude.{Contains, not, is_none, if◌then◌else◌, slice_get}
 use Rattle.std.specs.List.{flat_map}
@@ -15,8 +15,9 @@ use Rattle.messages.specs.declared.node.Node.{Node}
 use Rattle.messages.specs.declared.node.Node.TheVariants.{Server, Client, Mirror}
 use Rattle.messages.specs.declared.packet.PacketParts.{PacketParts}
 use Rattle.messages.specs.FrameBytes.{frame_at}
-use Rattle.messages.specs.Hearing.{Meaning, Says, Waits, Spoils, Strays, meaning, heard_by, said_by, frames_by}
-use Rattle.messages.specs.Senses.{sense_of, refusal_of_sense}
+use Rattle.messages.specs.Hearing.{Meaning, Strays, said_by, frames_by}
+use Rattle.messages.specs.Senses.{sense_of, refusal_of_sense, Sense, Hears, Keeps, Drops, Misses}
+use Rattle.messages.proofs.SenseLemmas.{entry_by, entry_is}
 use Rattle.messages.specs.Assemblies.{look_at_piece}
 use Rattle.messages.specs.Kinds.{is_of_server}
 use Rattle.messages.specs.Nodes.{is_client}
@@ -34,7 +35,7 @@ use Rattle.client_core.specs.declared.peers.Peers.{Peers}
 use Rattle.client_core.specs.Saves.{Addition, is_answer}
 use Rattle.client_core.specs.Words as words
 use Rattle.client_core.specs.Words.{is_on, words_noted}
-use Rattle.client_core.specs.Hearing.{FrameEntry, Met, Cut, Restart, Renew, Lose, coming_of, heard_at, packets_heard, rules as hearing}
+use Rattle.client_core.specs.Hearing.{FrameEntry, Met, Cut, Restart, Renew, Lose, coming_of, heard_at, packets_heard, rules as hearing, arrival}
 use Rattle.client_core.specs.FrameAnswers as answers
 use Rattle.node_history.specs.declared.came.Came.{Came}
 use Rattle.node_history.specs.declared.came.Came.TheVariants as came
@@ -105,22 +106,18 @@ call_quiet o list c left h =
     ap (λ b. flat_map frames_of (if b then packets_for (words.peers o list) (words_noted o list) (life o list) c else []))
     (unanswered (words.refusal o list c) (words.due o list c) left h)
 
-piece_quiet : (o : Opening) (list : List history.Entry) (left : Left) (m : Meaning)
-    → Quiet (is_lost left) (refusal_of_sense (hearing o) list (sense_of calls.Deliver m)) → frames_by (packets o) list (heard_by (hearing o) left m) ≡ []
-piece_quiet o list left (Says p) h = call_quiet o list (calls.Deliver p) left h
-piece_quiet o list left Waits h = refl
-piece_quiet o list left Spoils h = refl
-piece_quiet o list left Strays h = refl
+sense_quiet : (o : Opening) (list : List history.Entry) (left : Left) (x : Sense Call) → Quiet (is_lost left) (refusal_of_sense (hearing o) list x)
+    → frames_by (packets o) list (entry_by (hearing o) left x) ≡ []
+sense_quiet o list left (Hears c) h = call_quiet o list c left h
+sense_quiet o list left Keeps h = refl
+sense_quiet o list left Drops h = refl
+sense_quiet o list left Misses h = refl
 
 quiet : (o : Opening) (past : List FrameEntry) (e : Input) (left : Left) → Quiet (is_lost left) (answers.refusal o past e)
     → answers.frames o past (Met e left) ≡ []
-quiet o past (inputs.Begin text) left h = call_quiet o (packets_heard o past) (calls.Begin text) left h
-quiet o past (inputs.Trigger run act) left h = call_quiet o (packets_heard o past) (calls.Trigger run act) left h
-quiet o past (inputs.Stop run) left h = call_quiet o (packets_heard o past) (calls.Stop run) left h
-quiet o past (inputs.Verify run text) left h = call_quiet o (packets_heard o past) (calls.Verify run text) left h
-quiet o past (inputs.Deliver (Whole p)) left h = call_quiet o (packets_heard o past) (calls.Deliver p) left h
-quiet o past (inputs.Deliver (Piece q)) left h = piece_quiet o (packets_heard o past) left (meaning (hearing o) (heard_at o past) (Piece q)) h
-quiet o past inputs.Tick left h = call_quiet o (packets_heard o past) calls.Tick left h
+quiet o past e left h =
+    ap (frames_by (packets o) (packets_heard o past)) (entry_is (hearing o) (heard_at o past) (arrival e) left)
+    ∙ sense_quiet o (packets_heard o past) left (answers.sense o past e) h
 
 -- ---- the entry of an event
 

@@ -18,8 +18,9 @@ use Rattle.messages.specs.declared.frame.Frame.TheVariants.{Whole, Piece}
 use Rattle.messages.specs.declared.node.Node.{Node}
 use Rattle.messages.specs.declared.node.Node.TheVariants.{Server, Client, Mirror}
 use Rattle.messages.specs.FrameBytes.{frame_at}
-use Rattle.messages.specs.Hearing.{Meaning, Says, Waits, Spoils, Strays, meaning, heard_by, said_by, frames_by}
-use Rattle.messages.specs.Senses.{sense_of, refusal_of_sense}
+use Rattle.messages.specs.Hearing.{Meaning, Strays, said_by, frames_by}
+use Rattle.messages.specs.Senses.{sense_of, refusal_of_sense, Sense, Hears, Keeps, Drops, Misses}
+use Rattle.messages.proofs.SenseLemmas.{entry_by, entry_is}
 use Rattle.messages.specs.Assemblies.{look_at_piece}
 use Rattle.messages.specs.Kinds.{is_of_client}
 use Rattle.messages.specs.Nodes.{is_client, is_server}
@@ -36,7 +37,7 @@ use Rattle.server_core.specs.Request.{ToNobody, request_in}
 use Rattle.server_core.specs.Request as requests
 use Rattle.server_core.specs.Replies.{Now, replies}
 use Rattle.server_core.specs.Words.{is_on}
-use Rattle.server_core.specs.Hearing.{FrameEntry, Met, Cut, Restart, coming_of, heard_at, packets_heard, rules as hearing}
+use Rattle.server_core.specs.Hearing.{FrameEntry, Met, Cut, Restart, coming_of, heard_at, packets_heard, rules as hearing, arrival}
 use Rattle.server_core.specs.FrameAnswers as answers
 use Rattle.node_history.specs.declared.came.Came.{Came}
 use Rattle.node_history.specs.declared.came.Came.TheVariants as came
@@ -88,20 +89,18 @@ event_quiet : (o : Opening) (list : List history.Entry) (e : Event) (left : Left
     → frames_by (words.packets o) list (Some (history.Met e left)) ≡ []
 event_quiet o list e left h = none_sent o.me (is_lost left) (words.refusal o list e) (replies (words.now o list) (requests.request_of o.me e)) h
 
-piece_quiet : (o : Opening) (list : List history.Entry) (left : Left) (m : Meaning)
-    → Quiet (is_lost left) (refusal_of_sense (hearing o) list (sense_of events.Deliver m)) → frames_by (words.packets o) list (heard_by (hearing o) left m) ≡ []
-piece_quiet o list left (Says p) h = event_quiet o list (events.Deliver p) left h
-piece_quiet o list left Waits h = refl
-piece_quiet o list left Spoils h = refl
-piece_quiet o list left Strays h = refl
+sense_quiet : (o : Opening) (list : List history.Entry) (left : Left) (x : Sense Event) → Quiet (is_lost left) (refusal_of_sense (hearing o) list x)
+    → frames_by (words.packets o) list (entry_by (hearing o) left x) ≡ []
+sense_quiet o list left (Hears e) h = event_quiet o list e left h
+sense_quiet o list left Keeps h = refl
+sense_quiet o list left Drops h = refl
+sense_quiet o list left Misses h = refl
 
 quiet : (o : Opening) (past : List FrameEntry) (e : Input) (left : Left) → Quiet (is_lost left) (answers.refusal o past e)
     → answers.frames o past (Met e left) ≡ []
-quiet o past (inputs.Deliver (Whole p)) left h = event_quiet o (packets_heard o past) (events.Deliver p) left h
-quiet o past (inputs.Deliver (Piece q)) left h = piece_quiet o (packets_heard o past) left (meaning (hearing o) (heard_at o past) (Piece q)) h
-quiet o past (inputs.Issue j) left h = event_quiet o (packets_heard o past) (events.Issue j) left h
-quiet o past (inputs.WriteDone ticket end) left h = event_quiet o (packets_heard o past) (events.WriteDone ticket end) left h
-quiet o past (inputs.CheckDone boot a j report) left h = event_quiet o (packets_heard o past) (events.CheckDone boot a j report) left h
+quiet o past e left h =
+    ap (frames_by (words.packets o) (packets_heard o past)) (entry_is (hearing o) (heard_at o past) (arrival e) left)
+    ∙ sense_quiet o (packets_heard o past) left (answers.sense o past e) h
 
 -- ---- the entry of an event
 
