@@ -8,7 +8,6 @@ use Rattle.std.proofs.lemmas.List.{length-append}
 use Rattle.fc_base.specs.declared.limits.TheConstants.{MAX_JOBS, MAX_SERVERS}
 use Rattle.disk_model.specs.MemDisk.{file_of}
 use Rattle.disk_model.specs.declared.mem_disk.MemDisk.{MemDisk}
-use Rattle.server_core.specs.Hearing.{Restart}
 use Rattle.mirror_core.specs.History as mirror
 use Rattle.messages.specs.Hearing.{Happens}
 use Rattle.messages.specs.Ranges.{is_generation}
@@ -21,7 +20,6 @@ use Rattle.net_world.specs.Trace.{client_opening, first_entry}
 use Rattle.net_world.specs.Frames.{frames_sent, client_entries, client_frame_entry}
 use Rattle.net_world.specs.World.{frames}
 use Rattle.net_world.specs.Sending.{sent_in}
-use Rattle.net_world.specs.ServerNodes.{Stands}
 use Rattle.net_world.specs.ClientNodes as clients
 use Rattle.net_world.specs.Opened.{AreOpened, AreBlank, OpensMirror, HasOpened, blank}
 use Rattle.net_world.specs.ClientNodes.{handed_in}

@@ -7,7 +7,6 @@ use Rattle.server_core.specs.declared.event.Event.TheVariants as events
 use Rattle.server_core.specs.History as server
 use Rattle.server_core.specs.Hearing.{coming_of}
 use Rattle.server_core.specs.Answers as answers
-use Rattle.server_core.specs.FrameAnswers as sends
 use Rattle.net_world.specs.Trace.{opening_of}
 use Rattle.net_world.specs.Frames.{of_server, at_server, frame_entry}
 use Rattle.net_world.specs.FrameLaws.{ServersStand}

@@ -21,7 +21,7 @@ use Rattle.server_core.specs.declared.event.WriteEnd.TheVariants as ends
 use Rattle.server_core.specs.History as server
 use Rattle.server_core.specs.Words as servers
 use Rattle.server_core.specs.Answers as answers
-use Rattle.server_core.specs.Check.{Check, check}
+use Rattle.server_core.specs.Check.{check}
 use Rattle.server_core.specs.Laws.{ChecksHaveSets}
 use Rattle.client_core.specs.declared.call.Call.{Call}
 use Rattle.client_core.specs.declared.call.Call.TheVariants as calls

@@ -6,7 +6,7 @@ use Rattle.fc_base.specs.declared.fault.Fault.TheVariants.{BadNote}
 use Rattle.disk_model.specs.declared.left.Left.TheVariants as lefts
 use Rattle.server_core.specs.declared.event.Event.TheVariants as events
 use Rattle.server_core.specs.declared.event.WriteEnd.TheVariants as ends
-use Rattle.server_core.specs.Check.{Check, check}
+use Rattle.server_core.specs.Check.{check}
 use Rattle.client_core.specs.declared.call.Call.TheVariants as calls
 use Rattle.net_world.specs.Setup.{Setup}
 use Rattle.net_world.specs.Happenings.{Happening, Begin, Trigger, StopRun, Verify, Tick, Deliver, Issue}
