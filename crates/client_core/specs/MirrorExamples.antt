@@ -1,5 +1,5 @@
 -- A client with a mirror, followed by hand.
-use Rattle.std.specs.Prelude.{◌≡◌, true, false, List, [], ◌∷◌, Some, None, if◌then◌else◌}
+use Rattle.std.specs.Prelude.{◌≡◌, true, false, List, [], ◌∷◌, Some, None}
 use Rattle.fc_base.specs.declared.fault.Fault.TheVariants.{Misdirected, NumbersSpent}
 use Rattle.disk_model.specs.declared.left.Left.TheVariants.{Saved}
 use Rattle.messages.specs.declared.body.Body.{Body}
