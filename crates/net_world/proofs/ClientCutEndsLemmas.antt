@@ -5,12 +5,10 @@ use Rattle.std.specs.List.{flat_map}
 use Rattle.fc_base.specs.declared.fault.Fault.{Fault}
 use Rattle.fc_base.specs.declared.fault.Fault.TheVariants.{NodeOff, NoMemory, NoSave}
 use Rattle.messages.specs.declared.packet.PacketParts.{PacketParts}
-use Rattle.messages.specs.declared.piece.PieceParts.{PieceParts}
 use Rattle.messages.specs.Pieces.{frames_of}
 use Rattle.messages.specs.Hearing.{Meaning, Says, Waits, Spoils, Strays, Comes, Happens, meaning, heard_by, frames_by}
 use Rattle.messages.specs.Senses.{sense_of, heard_or}
 use Rattle.messages.specs.declared.frame.Frame.{Frame}
-use Rattle.messages.specs.declared.frame.Frame.TheVariants.{Whole, Piece}
 use Rattle.messages.specs.declared.node.Node.TheVariants.{Client}
 use Rattle.messages.specs.declared.refusal.Act.TheVariants as acts
 use Rattle.client_core.specs.History as client
@@ -96,12 +94,12 @@ call_silent o list c landed =
     ap (λ b. flat_map frames_of (if b then packets_for (words.peers o list) (words.words_noted o list) (life o list) c else []))
     (no_answer (is_none (words.refusal o list c)) (words.due o list c) landed)
 
-piece_silent : (o : client.Opening) (list : List client.Entry) (landed : Bool) (m : Meaning)
+meaning_silent : (o : client.Opening) (list : List client.Entry) (landed : Bool) (m : Meaning)
     → frames_by (packets o) list (heard_by (rules o) (lost_by landed) m) ≡ []
-piece_silent o list landed (Says p) = call_silent o list (calls.Deliver p) landed
-piece_silent o list landed Waits = refl
-piece_silent o list landed Spoils = refl
-piece_silent o list landed Strays = refl
+meaning_silent o list landed (Says p) = call_silent o list (calls.Deliver p) landed
+meaning_silent o list landed Waits = refl
+meaning_silent o list landed Spoils = refl
+meaning_silent o list landed Strays = refl
 
 -- ---- what comes of it
 
@@ -155,40 +153,37 @@ module _ (w : Setup) (past : List Change) (landed : Bool) where
       no_save (words.due (client_opening w) (of_client w (trace w past)) (calls.Deliver p)) (OfClient (Comes f (lost_by landed)))
       (ap (λ l. is_some (words.due (client_opening w) l (calls.Deliver p))) (sym (heard_is w past)) ∙ h)
 
-  piece_saves : (q : PieceParts) (m : Meaning)
+  meaning_saves : (f : Frame) (m : Meaning)
       → is_some (heard_or None (words.due (client_opening w) (packets_heard (client_opening w) (entries w past))) (sense_of calls.Deliver m)) ≡ true
-      → client_frame_cut w (trace w past) landed (Piece q) m ≡ Ok (OfClient (Comes (Piece q) (lost_by landed)))
-  piece_saves q (Says p) h = said_saves (Piece q) p h
-  piece_saves q Waits h = absurd cc
-  piece_saves q Spoils h = absurd cc
-  piece_saves q Strays h = absurd cc
+      → client_frame_cut w (trace w past) landed f m ≡ Ok (OfClient (Comes f (lost_by landed)))
+  meaning_saves f (Says p) h = said_saves f p h
+  meaning_saves f Waits h = absurd cc
+  meaning_saves f Spoils h = absurd cc
+  meaning_saves f Strays h = absurd cc
 
-  piece_none : (q : PieceParts) (m : Meaning)
+  meaning_none : (f : Frame) (m : Meaning)
       → is_some (heard_or None (words.due (client_opening w) (packets_heard (client_opening w) (entries w past))) (sense_of calls.Deliver m)) ≡ false
-      → client_frame_cut w (trace w past) landed (Piece q) m ≡ Err NoSave
-  piece_none q (Says p) h = said_none (Piece q) p h
-  piece_none q Waits h = refl
-  piece_none q Spoils h = refl
-  piece_none q Strays h = refl
+      → client_frame_cut w (trace w past) landed f m ≡ Err NoSave
+  meaning_none f (Says p) h = said_none f p h
+  meaning_none f Waits h = refl
+  meaning_none f Spoils h = refl
+  meaning_none f Strays h = refl
 
   frame_saves : (f : Frame) → is_some (due (client_opening w) (entries w past) (inputs.Deliver f)) ≡ true
       → client_frame_cut w (trace w past) landed f (said_to_client w (steps past) f) ≡ Ok (OfClient (Comes f (lost_by landed)))
-  frame_saves (Whole p) h = said_saves (Whole p) p h
-  frame_saves (Piece q) h =
-      ap (client_frame_cut w (trace w past) landed (Piece q)) (sym (said_is w past (Piece q)))
-      ∙ piece_saves q (meaning (rules (client_opening w)) (heard_at (client_opening w) (entries w past)) (Piece q)) h
+  frame_saves f h =
+      ap (client_frame_cut w (trace w past) landed f) (sym (said_is w past f))
+      ∙ meaning_saves f (meaning (rules (client_opening w)) (heard_at (client_opening w) (entries w past)) f) h
 
   frame_none : (f : Frame) → is_some (due (client_opening w) (entries w past) (inputs.Deliver f)) ≡ false
       → client_frame_cut w (trace w past) landed f (said_to_client w (steps past) f) ≡ Err NoSave
-  frame_none (Whole p) h = said_none (Whole p) p h
-  frame_none (Piece q) h =
-      ap (client_frame_cut w (trace w past) landed (Piece q)) (sym (said_is w past (Piece q)))
-      ∙ piece_none q (meaning (rules (client_opening w)) (heard_at (client_opening w) (entries w past)) (Piece q)) h
+  frame_none f h =
+      ap (client_frame_cut w (trace w past) landed f) (sym (said_is w past f))
+      ∙ meaning_none f (meaning (rules (client_opening w)) (heard_at (client_opening w) (entries w past)) f) h
 
   frame_silent : (f : Frame) → framed.frames (client_opening w) (entries w past) (Met (inputs.Deliver f) (lost_by landed)) ≡ []
-  frame_silent (Whole p) = call_silent (client_opening w) (packets_heard (client_opening w) (entries w past)) (calls.Deliver p) landed
-  frame_silent (Piece q) = piece_silent (client_opening w) (packets_heard (client_opening w) (entries w past)) landed
-      (meaning (rules (client_opening w)) (heard_at (client_opening w) (entries w past)) (Piece q))
+  frame_silent f = meaning_silent (client_opening w) (packets_heard (client_opening w) (entries w past)) landed
+      (meaning (rules (client_opening w)) (heard_at (client_opening w) (entries w past)) f)
 
   brings_is : (number : ℕ) (f : Frame) → GoesTo w past number f Client
       → brings w past (CutIn landed (Deliver number)) ≡ outcome_of_step (client_frame_cut w (trace w past) landed f (said_to_client w (steps past) f))

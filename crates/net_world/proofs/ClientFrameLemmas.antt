@@ -8,10 +8,8 @@ use Rattle.fc_base.specs.Fault.{sort_of}
 use Rattle.disk_model.specs.declared.left.Left.{Left}
 use Rattle.disk_model.specs.declared.left.Left.TheVariants.{NoSave}
 use Rattle.disk_model.specs.Left.{saved_for}
-use Rattle.messages.specs.declared.piece.PieceParts.{PieceParts}
 use Rattle.messages.specs.declared.packet.PacketParts.{PacketParts}
 use Rattle.messages.specs.declared.frame.Frame.{Frame}
-use Rattle.messages.specs.declared.frame.Frame.TheVariants.{Whole, Piece}
 use Rattle.messages.specs.declared.node.Node.TheVariants.{Client}
 use Rattle.messages.specs.Hearing.{Heard, Meaning, Says, Waits, Spoils, Strays, Comes, meaning}
 use Rattle.messages.specs.Senses.{sense_of, is_drop, refusal_of_sense, heard_or}
@@ -69,27 +67,27 @@ says_err : (w : Setup) (t : List Step) (f : Frame) (p : PacketParts) (list : Lis
     → comes_to_client w t f (Says p) ≡ Refuses fault
 says_err w t f p list fault is h = refused_here w t f p fault (ap (λ l. words.refusal (client_opening w) l (calls.Deliver p)) (sym is) ∙ h)
 
-piece_ok : (w : Setup) (t : List Step) (q : PieceParts) (list : List client.Entry) → list ≡ of_client w t → (m : Meaning)
+meaning_ok : (w : Setup) (t : List Step) (f : Frame) (list : List client.Entry) → list ≡ of_client w t → (m : Meaning)
     → refusal_of_sense (rules (client_opening w)) list (sense_of calls.Deliver m) ≡ None
-    → comes_to_client w t (Piece q) m ≡ come (Piece q) (saved_for (heard_or None (words.due (client_opening w) list) (sense_of calls.Deliver m)))
+    → comes_to_client w t f m ≡ come f (saved_for (heard_or None (words.due (client_opening w) list) (sense_of calls.Deliver m)))
 unfolding come
-piece_ok w t q list is (Says p) h = says_ok w t (Piece q) p list is h
-piece_ok w t q list is Waits h = refl
-piece_ok w t q list is Spoils h = absurd cc
-piece_ok w t q list is Strays h = absurd (misses (words.is_on list) h)
+meaning_ok w t f list is (Says p) h = says_ok w t f p list is h
+meaning_ok w t f list is Waits h = refl
+meaning_ok w t f list is Spoils h = absurd cc
+meaning_ok w t f list is Strays h = absurd (misses (words.is_on list) h)
 
 -- What comes of a frame that is refused: a tag may be dropped.
 DroppedOr : Frame → Fault → Bool → Outcome → Type 0
 DroppedOr f fault drops out = ((drops ≡ false) × (out ≡ Refuses fault)) ⊎ ((drops ≡ true) × (fault ≡ FrameBadField) × (out ≡ Drops (OfClient (Comes f NoSave))))
 
-piece_err : (w : Setup) (t : List Step) (q : PieceParts) (list : List client.Entry) (fault : Fault) → list ≡ of_client w t → words.is_on list ≡ true
+meaning_err : (w : Setup) (t : List Step) (f : Frame) (list : List client.Entry) (fault : Fault) → list ≡ of_client w t → words.is_on list ≡ true
     → (m : Meaning) → refusal_of_sense (rules (client_opening w)) list (sense_of calls.Deliver m) ≡ Some fault
-    → DroppedOr (Piece q) fault (is_drop (sense_of calls.Deliver m)) (comes_to_client w t (Piece q) m)
+    → DroppedOr f fault (is_drop (sense_of calls.Deliver m)) (comes_to_client w t f m)
 unfolding DroppedOr
-piece_err w t q list fault is on (Says p) h = inl (refl, says_err w t (Piece q) p list fault is h)
-piece_err w t q list fault is on Waits h = absurd cc
-piece_err w t q list fault is on Spoils h = inr (refl, bad_field fault h, refl)
-piece_err w t q list fault is on Strays h = inl (refl, ap Refuses (misdirected (words.is_on list) fault on h))
+meaning_err w t f list fault is on (Says p) h = inl (refl, says_err w t f p list fault is h)
+meaning_err w t f list fault is on Waits h = absurd cc
+meaning_err w t f list fault is on Spoils h = inr (refl, bad_field fault h, refl)
+meaning_err w t f list fault is on Strays h = inl (refl, ap Refuses (misdirected (words.is_on list) fault on h))
 
 -- What a frame says is the same by the client's own list.
 pub said_is : (w : Setup) (past : List Change) (f : Frame)
@@ -99,22 +97,19 @@ said_is w past f = ap (λ (h : Heard client.Entry). meaning (at_client w) h f) (
 frame_ok : (w : Setup) (past : List Change) (f : Frame) → framed.refusal (client_opening w) (entries w past) (inputs.Deliver f) ≡ None
     → comes_to_client w (trace w past) f (said_to_client w (steps past) f) ≡ Does (Met (step_by w past (inputs.Deliver f)))
 unfolding come
-frame_ok w past (Whole p) h = says_ok w (trace w past) (Whole p) p (packets_heard (client_opening w) (entries w past)) (heard_is w past) h
-frame_ok w past (Piece q) h =
-    ap (comes_to_client w (trace w past) (Piece q)) (sym (said_is w past (Piece q)))
-    ∙ piece_ok w (trace w past) q (packets_heard (client_opening w) (entries w past)) (heard_is w past)
-    (meaning (rules (client_opening w)) (heard_at (client_opening w) (entries w past)) (Piece q)) h
+frame_ok w past f h =
+    ap (comes_to_client w (trace w past) f) (sym (said_is w past f))
+    ∙ meaning_ok w (trace w past) f (packets_heard (client_opening w) (entries w past)) (heard_is w past)
+    (meaning (rules (client_opening w)) (heard_at (client_opening w) (entries w past)) f) h
 
 frame_err : (w : Setup) (past : List Change) (f : Frame) (fault : Fault) → words.is_on (packets_heard (client_opening w) (entries w past)) ≡ true
     → framed.refusal (client_opening w) (entries w past) (inputs.Deliver f) ≡ Some fault
     → DroppedOr f fault (is_drop (sense (client_opening w) (entries w past) (inputs.Deliver f)))
     (comes_to_client w (trace w past) f (said_to_client w (steps past) f))
-frame_err w past (Whole p) fault on h =
-    unfold DroppedOr in inl (refl, says_err w (trace w past) (Whole p) p (packets_heard (client_opening w) (entries w past)) fault (heard_is w past) h)
-frame_err w past (Piece q) fault on h =
-    let m = meaning (rules (client_opening w)) (heard_at (client_opening w) (entries w past)) (Piece q) in
-    subst (λ x. DroppedOr (Piece q) fault (is_drop (sense_of calls.Deliver m)) (comes_to_client w (trace w past) (Piece q) x)) (said_is w past (Piece q))
-    (piece_err w (trace w past) q (packets_heard (client_opening w) (entries w past)) fault (heard_is w past) on m h)
+frame_err w past f fault on h =
+    let m = meaning (rules (client_opening w)) (heard_at (client_opening w) (entries w past)) f in
+    subst (λ x. DroppedOr f fault (is_drop (sense_of calls.Deliver m)) (comes_to_client w (trace w past) f x)) (said_is w past f)
+    (meaning_err w (trace w past) f (packets_heard (client_opening w) (entries w past)) fault (heard_is w past) on m h)
 
 -- ---- its delivery
 

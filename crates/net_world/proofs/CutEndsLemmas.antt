@@ -10,7 +10,6 @@ use Rattle.disk_model.specs.declared.left.Left.{Left}
 use Rattle.disk_model.specs.Left.{is_lost}
 use Rattle.messages.specs.declared.frame.Frame.{Frame}
 use Rattle.messages.specs.declared.frame.Frame.TheVariants.{Whole, Piece}
-use Rattle.messages.specs.declared.piece.PieceParts.{PieceParts}
 use Rattle.messages.specs.declared.packet.PacketParts.{PacketParts}
 use Rattle.messages.specs.declared.body.Body.{Body}
 use Rattle.messages.specs.declared.node.Node.TheVariants as nodes
@@ -68,17 +67,16 @@ event_silent : (o : Opening) (list : List server.Entry) (e : Event) (left : Left
     → frames_by (answers.packets o) list (Some (server.Met e left)) ≡ []
 event_silent o list e left h = lost_sends o.me (is_lost left) (answers.refusal o list e) (replies (answers.now o list) (request_of o.me e)) h
 
-piece_silent : (o : Opening) (list : List server.Entry) (m : Meaning) (left : Left) → is_lost left ≡ true
+meaning_silent : (o : Opening) (list : List server.Entry) (m : Meaning) (left : Left) → is_lost left ≡ true
     → frames_by (answers.packets o) list (heard_by (rules o) left m) ≡ []
-piece_silent o list (Says p) left h = event_silent o list (events.Deliver p) left h
-piece_silent o list Waits left h = refl
-piece_silent o list Spoils left h = refl
-piece_silent o list Strays left h = refl
+meaning_silent o list (Says p) left h = event_silent o list (events.Deliver p) left h
+meaning_silent o list Waits left h = refl
+meaning_silent o list Spoils left h = refl
+meaning_silent o list Strays left h = refl
 
 silent : (o : Opening) (past : List FrameEntry) (f : Frame) (left : Left) → is_lost left ≡ true
     → framed.frames o past (hearing.Met (inputs.Deliver f) left) ≡ []
-silent o past (Whole p) left h = event_silent o (packets_heard o past) (events.Deliver p) left h
-silent o past (Piece q) left h = piece_silent o (packets_heard o past) (meaning (rules o) (heard_at o past) (Piece q)) left h
+silent o past f left h = meaning_silent o (packets_heard o past) (meaning (rules o) (heard_at o past) f) left h
 
 asks_nothing : (t : List Step) (s : ℕ) (e : Event) (left : Left) → is_lost left ≡ true → act_of t (Some (AtServer s (server.Met e left))) ≡ acts.None
 asks_nothing t s e left h = ap (λ b. if b then acts.None else answers.act (opening_of s) (of_server s t) e) h
@@ -99,37 +97,35 @@ says_none t s landed f p list is h =
     no_save (words.due (opening_of s) (of_server s t) (events.Deliver p)) (step_of s (hearing.Met (inputs.Deliver f) (lost_by landed)))
     (ap (λ l. is_some (words.due (opening_of s) l (events.Deliver p))) (sym is) ∙ h)
 
-piece_cut : (t : List Step) (s : ℕ) (landed : Bool) (q : PieceParts) (list : List server.Entry) → list ≡ of_server s t → (m : Meaning)
+meaning_cut : (t : List Step) (s : ℕ) (landed : Bool) (f : Frame) (list : List server.Entry) → list ≡ of_server s t → (m : Meaning)
     → is_some (heard_or None (words.due (opening_of s) list) (sense_of events.Deliver m)) ≡ true
-    → server_frame_cut t s landed (Piece q) m ≡ Ok (step_of s (hearing.Met (inputs.Deliver (Piece q)) (lost_by landed)))
-piece_cut t s landed q list is (Says p) h = says_cut t s landed (Piece q) p list is h
-piece_cut t s landed q list is Waits h = absurd (false≢true h)
-piece_cut t s landed q list is Spoils h = absurd (false≢true h)
-piece_cut t s landed q list is Strays h = absurd (false≢true h)
+    → server_frame_cut t s landed f m ≡ Ok (step_of s (hearing.Met (inputs.Deliver f) (lost_by landed)))
+meaning_cut t s landed f list is (Says p) h = says_cut t s landed f p list is h
+meaning_cut t s landed f list is Waits h = absurd (false≢true h)
+meaning_cut t s landed f list is Spoils h = absurd (false≢true h)
+meaning_cut t s landed f list is Strays h = absurd (false≢true h)
 
-piece_none : (t : List Step) (s : ℕ) (landed : Bool) (q : PieceParts) (list : List server.Entry) → list ≡ of_server s t → (m : Meaning)
+meaning_none : (t : List Step) (s : ℕ) (landed : Bool) (f : Frame) (list : List server.Entry) → list ≡ of_server s t → (m : Meaning)
     → is_some (heard_or None (words.due (opening_of s) list) (sense_of events.Deliver m)) ≡ false
-    → server_frame_cut t s landed (Piece q) m ≡ Err NoSave
-piece_none t s landed q list is (Says p) h = says_none t s landed (Piece q) p list is h
-piece_none t s landed q list is Waits h = refl
-piece_none t s landed q list is Spoils h = refl
-piece_none t s landed q list is Strays h = refl
+    → server_frame_cut t s landed f m ≡ Err NoSave
+meaning_none t s landed f list is (Says p) h = says_none t s landed f p list is h
+meaning_none t s landed f list is Waits h = refl
+meaning_none t s landed f list is Spoils h = refl
+meaning_none t s landed f list is Strays h = refl
 
 frame_is_cut : (w : Setup) (past : List Change) (s : ℕ) (landed : Bool) (f : Frame) → would_save (opening_of s) (entries past s) f ≡ true
     → server_frame_cut (trace w past) s landed f (said_to_server (steps past) s f) ≡ Ok (step_of s (hearing.Met (inputs.Deliver f) (lost_by landed)))
-frame_is_cut w past s landed (Whole p) h = says_cut (trace w past) s landed (Whole p) p (packets_heard (opening_of s) (entries past s)) (heard_is w past s) h
-frame_is_cut w past s landed (Piece q) h =
-    ap (server_frame_cut (trace w past) s landed (Piece q)) (sym (said_is w s past (Piece q)))
-    ∙ piece_cut (trace w past) s landed q (packets_heard (opening_of s) (entries past s)) (heard_is w past s)
-    (meaning (rules (opening_of s)) (heard_at (opening_of s) (entries past s)) (Piece q)) h
+frame_is_cut w past s landed f h =
+    ap (server_frame_cut (trace w past) s landed f) (sym (said_is w s past f))
+    ∙ meaning_cut (trace w past) s landed f (packets_heard (opening_of s) (entries past s)) (heard_is w past s)
+    (meaning (rules (opening_of s)) (heard_at (opening_of s) (entries past s)) f) h
 
 frame_not_cut : (w : Setup) (past : List Change) (s : ℕ) (landed : Bool) (f : Frame) → would_save (opening_of s) (entries past s) f ≡ false
     → server_frame_cut (trace w past) s landed f (said_to_server (steps past) s f) ≡ Err NoSave
-frame_not_cut w past s landed (Whole p) h = says_none (trace w past) s landed (Whole p) p (packets_heard (opening_of s) (entries past s)) (heard_is w past s) h
-frame_not_cut w past s landed (Piece q) h =
-    ap (server_frame_cut (trace w past) s landed (Piece q)) (sym (said_is w s past (Piece q)))
-    ∙ piece_none (trace w past) s landed q (packets_heard (opening_of s) (entries past s)) (heard_is w past s)
-    (meaning (rules (opening_of s)) (heard_at (opening_of s) (entries past s)) (Piece q)) h
+frame_not_cut w past s landed f h =
+    ap (server_frame_cut (trace w past) s landed f) (sym (said_is w s past f))
+    ∙ meaning_none (trace w past) s landed f (packets_heard (opening_of s) (entries past s)) (heard_is w past s)
+    (meaning (rules (opening_of s)) (heard_at (opening_of s) (entries past s)) f) h
 
 pub cut_bar : (w : Setup) (past : List Change) (number : ℕ) (landed : Bool) (f : Frame) (s : ℕ) → GoesTo w past number f (nodes.Server s)
     → unless_sent w (trace w past) (slice_get (frames_sent w (steps past)) number) ≡ unless_on w (trace w past) (nodes.Server s)

@@ -11,7 +11,6 @@ use Rattle.disk_model.specs.declared.left.Left.{Left}
 use Rattle.disk_model.specs.declared.left.Left.TheVariants.{Saved, LostNew, LostOld}
 use Rattle.disk_model.specs.Left.{saved_for, has_new}
 use Rattle.messages.specs.declared.frame.Frame.{Frame}
-use Rattle.messages.specs.declared.frame.Frame.TheVariants.{Whole, Piece}
 use Rattle.messages.specs.Hearing.{Meaning, Says, Waits, Spoils, Strays, meaning, heard_by, with_entry}
 use Rattle.messages.specs.Senses.{sense_of, refusal_of_sense, heard_or}
 use Rattle.server_core.specs.declared.event.Event.{Event}
@@ -83,35 +82,29 @@ record IsLost (o : Opening) (past : List FrameEntry) (f : Frame) : Type 0 where
 heard_list : Opening → List server.Entry → Left → Meaning → List server.Entry
 heard_list o list left m = with_entry (heard_by (rules o) left m) list
 
-record LostPiece (o : Opening) (list : List server.Entry) (m : Meaning) : Type 0 where
+record LostMeaning (o : Opening) (list : List server.Entry) (m : Meaning) : Type 0 where
   off_new : is_on (heard_list o list LostNew m) ≡ false
   off_old : is_on (heard_list o list LostOld m) ≡ false
   new : words_noted o (heard_list o list Saved m) ≡ words_noted o (heard_list o list LostNew m)
   old : words_noted o list ≡ words_noted o (heard_list o list LostOld m)
 
-lost_piece : (o : Opening) (list : List server.Entry) (m : Meaning) → is_some (heard_or None (words.due o list) (sense_of events.Deliver m)) ≡ true
-    → LostPiece o list m
+lost_meaning : (o : Opening) (list : List server.Entry) (m : Meaning) → is_some (heard_or None (words.due o list) (sense_of events.Deliver m)) ≡ true
+    → LostMeaning o list m
 unfolding heard_list
-lost_piece o list (Says p) h = record {
+lost_meaning o list (Says p) h = record {
   off_new = and_false (is_on list);
   off_old = and_false (is_on list);
   new = same_new o list (events.Deliver p) Saved LostNew refl;
   old = same_old o list (events.Deliver p);
 }
-lost_piece o list Waits h = absurd (false≢true h)
-lost_piece o list Spoils h = absurd (false≢true h)
-lost_piece o list Strays h = absurd (false≢true h)
+lost_meaning o list Waits h = absurd (false≢true h)
+lost_meaning o list Spoils h = absurd (false≢true h)
+lost_meaning o list Strays h = absurd (false≢true h)
 
 is_lost_in : (o : Opening) (past : List FrameEntry) (f : Frame) → would_save o past f ≡ true → IsLost o past f
 unfolding heard_list
-is_lost_in o past (Whole p) h = record {
-  off_new = and_false (is_up o past);
-  off_old = and_false (is_up o past);
-  new = same_new o (packets_heard o past) (events.Deliver p) Saved LostNew refl;
-  old = same_old o (packets_heard o past) (events.Deliver p);
-}
-is_lost_in o past (Piece q) h =
-    let l = lost_piece o (packets_heard o past) (meaning (rules o) (heard_at o past) (Piece q)) h in
+is_lost_in o past f h =
+    let l = lost_meaning o (packets_heard o past) (meaning (rules o) (heard_at o past) f) h in
     record { off_new = l.off_new; off_old = l.off_old; new = l.new; old = l.old }
 
 -- ---- what is due isn't refused
@@ -125,16 +118,15 @@ due_free on w last s x _ h = absurd (false≢true h)
 event_free : (o : Opening) (list : List server.Entry) (e : Event) → is_some (words.due o list e) ≡ true → answers.refusal o list e ≡ None
 event_free o list e h = due_free (is_on list) (now o list) (last_run o list) (staged_run o list) (work o list) (request_of o.me e) h
 
-piece_free : (o : Opening) (list : List server.Entry) (m : Meaning) → is_some (heard_or None (words.due o list) (sense_of events.Deliver m)) ≡ true
+meaning_free : (o : Opening) (list : List server.Entry) (m : Meaning) → is_some (heard_or None (words.due o list) (sense_of events.Deliver m)) ≡ true
     → refusal_of_sense (rules o) list (sense_of events.Deliver m) ≡ None
-piece_free o list (Says p) h = event_free o list (events.Deliver p) h
-piece_free o list Waits h = refl
-piece_free o list Spoils h = absurd (false≢true h)
-piece_free o list Strays h = absurd (false≢true h)
+meaning_free o list (Says p) h = event_free o list (events.Deliver p) h
+meaning_free o list Waits h = refl
+meaning_free o list Spoils h = absurd (false≢true h)
+meaning_free o list Strays h = absurd (false≢true h)
 
 save_free : (o : Opening) (past : List FrameEntry) (f : Frame) → would_save o past f ≡ true → refusal o past (inputs.Deliver f) ≡ None
-save_free o past (Whole p) h = event_free o (packets_heard o past) (events.Deliver p) h
-save_free o past (Piece q) h = piece_free o (packets_heard o past) (meaning (rules o) (heard_at o past) (Piece q)) h
+save_free o past f h = meaning_free o (packets_heard o past) (meaning (rules o) (heard_at o past) f) h
 
 saved_by : (x : Option Staged) → is_some x ≡ true → saved_for x ≡ Saved
 saved_by None h = absurd (false≢true h)

@@ -7,10 +7,8 @@ use Rattle.fc_base.specs.declared.fault.Fault.TheVariants.{Misdirected, Down, Fr
 use Rattle.disk_model.specs.declared.left.Left.{Left}
 use Rattle.disk_model.specs.declared.left.Left.TheVariants.{NoSave}
 use Rattle.disk_model.specs.Left.{saved_for}
-use Rattle.messages.specs.declared.piece.PieceParts.{PieceParts}
 use Rattle.messages.specs.declared.packet.PacketParts.{PacketParts}
 use Rattle.messages.specs.declared.frame.Frame.{Frame}
-use Rattle.messages.specs.declared.frame.Frame.TheVariants.{Whole, Piece}
 use Rattle.messages.specs.declared.refusal.Act.TheVariants as acts
 use Rattle.messages.specs.Hearing.{Heard, Meaning, Says, Waits, Spoils, Strays, Comes, Happens, meaning, heard_by}
 use Rattle.messages.specs.Senses.{sense_of, is_drop, refusal_of_sense, heard_or}
@@ -93,14 +91,14 @@ pub misdirected : (on : Bool) (fault : Fault) → on ≡ true → (if on then So
 misdirected true fault h k = cc
 misdirected false fault h k = cc
 
-piece_ok : (t : List Step) (s : ℕ) (q : PieceParts) (list : List server.Entry) → list ≡ of_server s t → (m : Meaning)
+meaning_ok : (t : List Step) (s : ℕ) (f : Frame) (list : List server.Entry) → list ≡ of_server s t → (m : Meaning)
     → refusal_of_sense (rules (opening_of s)) list (sense_of events.Deliver m) ≡ None
-    → comes_to_server t s (Piece q) m ≡ come s (Piece q) (saved_for (heard_or None (words.due (opening_of s) list) (sense_of events.Deliver m)))
+    → comes_to_server t s f m ≡ come s f (saved_for (heard_or None (words.due (opening_of s) list) (sense_of events.Deliver m)))
 unfolding come
-piece_ok t s q list is (Says p) h = says_ok t s (Piece q) p list is h
-piece_ok t s q list is Waits h = refl
-piece_ok t s q list is Spoils h = absurd cc
-piece_ok t s q list is Strays h = absurd (misses (words.is_on list) h)
+meaning_ok t s f list is (Says p) h = says_ok t s f p list is h
+meaning_ok t s f list is Waits h = refl
+meaning_ok t s f list is Spoils h = absurd cc
+meaning_ok t s f list is Strays h = absurd (misses (words.is_on list) h)
 
 -- What comes of a frame that is refused: a tag may be dropped.
 unfoldable pub DroppedOr : ℕ → Frame → Fault → Bool → Outcome → Type 0
@@ -110,14 +108,14 @@ DroppedOr s f fault drops out =
 pub bad_field : (fault : Fault) → Some FrameBadField ≡ Some fault → fault ≡ FrameBadField
 bad_field fault h = cc
 
-piece_err : (t : List Step) (s : ℕ) (q : PieceParts) (list : List server.Entry) (fault : Fault) → list ≡ of_server s t → words.is_on list ≡ true → (m : Meaning)
+meaning_err : (t : List Step) (s : ℕ) (f : Frame) (list : List server.Entry) (fault : Fault) → list ≡ of_server s t → words.is_on list ≡ true → (m : Meaning)
     → refusal_of_sense (rules (opening_of s)) list (sense_of events.Deliver m) ≡ Some fault
-    → DroppedOr s (Piece q) fault (is_drop (sense_of events.Deliver m)) (comes_to_server t s (Piece q) m)
+    → DroppedOr s f fault (is_drop (sense_of events.Deliver m)) (comes_to_server t s f m)
 unfolding DroppedOr
-piece_err t s q list fault is on (Says p) h = inl (refl, says_err t s (Piece q) p list fault is h)
-piece_err t s q list fault is on Waits h = absurd cc
-piece_err t s q list fault is on Spoils h = inr (refl, bad_field fault h, refl)
-piece_err t s q list fault is on Strays h = inl (refl, ap Refuses (misdirected (words.is_on list) fault on h))
+meaning_err t s f list fault is on (Says p) h = inl (refl, says_err t s f p list fault is h)
+meaning_err t s f list fault is on Waits h = absurd cc
+meaning_err t s f list fault is on Spoils h = inr (refl, bad_field fault h, refl)
+meaning_err t s f list fault is on Strays h = inl (refl, ap Refuses (misdirected (words.is_on list) fault on h))
 
 -- What a frame says is the same by the server's own list.
 pub said_is : (w : Setup) (s : ℕ) (past : List Change) (f : Frame)
@@ -127,22 +125,19 @@ said_is w s past f = ap (λ (h : Heard server.Entry). meaning (at_server s) h f)
 pub frame_ok : (w : Setup) (past : List Change) (s : ℕ) (f : Frame) → framed.refusal (opening_of s) (entries past s) (inputs.Deliver f) ≡ None
     → comes_to_server (trace w past) s f (said_to_server (steps past) s f) ≡ Does (Changed (step_by past s (inputs.Deliver f)))
 unfolding come
-frame_ok w past s (Whole p) h = says_ok (trace w past) s (Whole p) p (packets_heard (opening_of s) (entries past s)) (heard_is w past s) h
-frame_ok w past s (Piece q) h =
-    ap (comes_to_server (trace w past) s (Piece q)) (sym (said_is w s past (Piece q)))
-    ∙ piece_ok (trace w past) s q (packets_heard (opening_of s) (entries past s)) (heard_is w past s)
-    (meaning (rules (opening_of s)) (heard_at (opening_of s) (entries past s)) (Piece q)) h
+frame_ok w past s f h =
+    ap (comes_to_server (trace w past) s f) (sym (said_is w s past f))
+    ∙ meaning_ok (trace w past) s f (packets_heard (opening_of s) (entries past s)) (heard_is w past s)
+    (meaning (rules (opening_of s)) (heard_at (opening_of s) (entries past s)) f) h
 
 pub frame_err : (w : Setup) (past : List Change) (s : ℕ) (f : Frame) (fault : Fault) → words.is_on (packets_heard (opening_of s) (entries past s)) ≡ true
     → framed.refusal (opening_of s) (entries past s) (inputs.Deliver f) ≡ Some fault
     → DroppedOr s f fault (is_drop (sense (opening_of s) (entries past s) (inputs.Deliver f)))
     (comes_to_server (trace w past) s f (said_to_server (steps past) s f))
-frame_err w past s (Whole p) fault on h =
-    unfold DroppedOr in inl (refl, says_err (trace w past) s (Whole p) p (packets_heard (opening_of s) (entries past s)) fault (heard_is w past s) h)
-frame_err w past s (Piece q) fault on h =
-    let m = meaning (rules (opening_of s)) (heard_at (opening_of s) (entries past s)) (Piece q) in
-    subst (λ x. DroppedOr s (Piece q) fault (is_drop (sense_of events.Deliver m)) (comes_to_server (trace w past) s (Piece q) x)) (said_is w s past (Piece q))
-    (piece_err (trace w past) s q (packets_heard (opening_of s) (entries past s)) fault (heard_is w past s) on m h)
+frame_err w past s f fault on h =
+    let m = meaning (rules (opening_of s)) (heard_at (opening_of s) (entries past s)) f in
+    subst (λ x. DroppedOr s f fault (is_drop (sense_of events.Deliver m)) (comes_to_server (trace w past) s f x)) (said_is w s past f)
+    (meaning_err (trace w past) s f (packets_heard (opening_of s) (entries past s)) fault (heard_is w past s) on m h)
 
 -- ---- what the server asks of its caller
 
@@ -161,14 +156,12 @@ act_said t s list is Spoils = refl
 act_said t s list is Strays = refl
 
 pub act_is : (w : Setup) (past : List Change) (s : ℕ) (e : Input) → act w past (Changed (step_by past s e)) ≡ framed.act (opening_of s) (entries past s) e
-act_is w past s (inputs.Deliver (Whole p)) = act_here (trace w past) s (events.Deliver p)
-    (framed.due (opening_of s) (entries past s) (inputs.Deliver (Whole p))) (packets_heard (opening_of s) (entries past s)) (heard_is w past s)
-act_is w past s (inputs.Deliver (Piece q)) =
+act_is w past s (inputs.Deliver f) =
     let o = opening_of s in
     let list = packets_heard o (entries past s) in
-    let m = meaning (rules o) (heard_at o (entries past s)) (Piece q) in
-    ap (λ x. act_of (trace w past) (option_map (AtServer s) (heard_by (rules o) (saved_for (heard_or None (words.due o list) (sense_of events.Deliver m))) x)))
-    (sym (said_is w s past (Piece q)))
+    let m = meaning (rules o) (heard_at o (entries past s)) f in
+    ap (λ x. act_of (trace w past) (option_map (AtServer s)
+    (heard_by (rules o) (saved_for (heard_or None (words.due o list) (sense_of events.Deliver m))) x))) (sym (said_is w s past f))
     ∙ act_said (trace w past) s list (heard_is w past s) m
 act_is w past s (inputs.Issue j) = act_here (trace w past) s (events.Issue j) (framed.due (opening_of s) (entries past s) (inputs.Issue j))
     (packets_heard (opening_of s) (entries past s)) (heard_is w past s)
