@@ -16,7 +16,7 @@ use Rattle.disk_model.specs.Steps.{LeavesNote, Answers, Refuses, Faults, Ends, G
 use Rattle.disk_model.proofs.StepLemmas.{on_before, off_lost}
 use Rattle.messages.specs.declared.packet.PacketParts.{PacketParts}
 use Rattle.messages.specs.declared.piece.PieceParts.{PieceParts}
-use Rattle.messages.specs.declared.frame.Frame.TheVariants.{Whole, Piece}
+use Rattle.messages.specs.declared.frame.Frame.TheVariants.{Piece}
 use Rattle.messages.specs.Assemblies.{Row, rows_after_piece, without_tag}
 use Rattle.messages.specs.FrameBytes.{frame_spelling}
 use Rattle.messages.specs.Laws.{IsPacket}
@@ -57,19 +57,18 @@ came_with calls.Tick left past b h = h
 abbrev most_in : Opening → List history.Entry → Sense Call → ℕ
 most_in o past s = heard_or MAX_SERVERS (bounds.most_packets o past) s
 
-piece_most : (o : Opening) (past : List history.Entry) (m : Meaning) → most_in o past (sense_of calls.Deliver m) ≡ MAX_SERVERS
-piece_most o past (Says p) = refl
-piece_most o past Waits = refl
-piece_most o past Spoils = refl
-piece_most o past Strays = refl
+meaning_most : (o : Opening) (past : List history.Entry) (m : Meaning) → most_in o past (sense_of calls.Deliver m) ≡ MAX_SERVERS
+meaning_most o past (Says p) = refl
+meaning_most o past Waits = refl
+meaning_most o past Spoils = refl
+meaning_most o past Strays = refl
 
 most_is : (o : Opening) (past : List FrameEntry) (e : Input) → most_in o (packets_heard o past) (sense o past e) ≡ most_packets o past e
 most_is o past (Begin text) = refl
 most_is o past (Trigger run act) = refl
 most_is o past (Stop run) = refl
 most_is o past (Verify run text) = refl
-most_is o past (Deliver (Whole p)) = refl
-most_is o past (Deliver (Piece q)) = piece_most o (packets_heard o past) (meaning (rules o) (heard_at o past) (Piece q))
+most_is o past (Deliver f) = meaning_most o (packets_heard o past) (meaning (rules o) (heard_at o past) f)
 most_is o past Tick = refl
 
 -- ---- what is heard, and what has come together

@@ -6,7 +6,6 @@ use Rattle.fc_base.specs.Fault.{sort_of}
 use Rattle.disk_model.specs.declared.left.Left.{Left}
 use Rattle.disk_model.specs.Notes.{Note}
 use Rattle.disk_model.specs.Steps as steps
-use Rattle.messages.specs.declared.frame.Frame.TheVariants.{Whole, Piece}
 use Rattle.messages.specs.Hearing.{Meaning, Says as Speaks, Waits, Spoils, Strays, meaning, heard_by, with_entry}
 use Rattle.messages.specs.Senses.{Sense, Hears, Keeps, Drops, Misses, sense_of, is_drop, refusal_of_sense, SenseInRange, UnlessMemory, HearsInRange}
 use Rattle.server_core.specs.declared.event.Event.{Event}
@@ -40,8 +39,7 @@ by_meaning o past left Strays h came = came
 
 came_after : (o : Opening) (past : List FrameEntry) (e : Input) (left : Left) → SenseInRange IsInRange (sense o past e) → CameInRange (packets_heard o past)
     → CameInRange (packets_heard o (Met e left ∷ past))
-came_after o past (inputs.Deliver (Whole p)) left h came = (h, came)
-came_after o past (inputs.Deliver (Piece q)) left h came = by_meaning o (packets_heard o past) left (meaning (hearing o) (heard_at o past) (Piece q)) h came
+came_after o past (inputs.Deliver f) left h came = by_meaning o (packets_heard o past) left (meaning (hearing o) (heard_at o past) f) h came
 came_after o past (inputs.Issue j) left h came = (h, came)
 came_after o past (inputs.WriteDone ticket end) left h came = (h, came)
 came_after o past (inputs.CheckDone now a j report) left h came = (h, came)
