@@ -24,7 +24,7 @@ use Rattle.client_core.specs.Packets.{begin_again, run_again, attempt_again, req
 use Rattle.client_core.specs.Requests.{trigger_at, stop_at, verify_at}
 use Rattle.client_core.proofs.FrameLemmas.{framed_more, none_again}
 use Rattle.client_core.proofs.LifeLemmas.{same_key}
-use Rattle.disk_model.proofs.ListLemmas.{all_weaker}
+use Rattle.fc_base.proofs.ListLemmas.{all_weaker}
 use Rattle.client_core.proofs.RisingLemmas.{Rises, Lacks, Misses, entries_spread}
 use Rattle.client_core.proofs.DeedLemmas.{run_stays, attempt_stays, begins_other, triggers_other, stops_other, verifies_no_run}
 use Rattle.client_core.proofs.DeedLemmas.{begins_no_attempt, triggers_no_attempt, stops_no_attempt, verifies_other}

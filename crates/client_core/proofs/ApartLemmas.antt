@@ -6,7 +6,7 @@ use Rattle.std.proofs.Math.Nat.{mul-le-mul_right}
 use Rattle.std.proofs.lemmas.Bool.{cases_Bool, eqb-true, ltb-true}
 use Rattle.std.proofs.lemmas.Bool.Decides.{nat_tests}
 use Rattle.fc_base.specs.Counted.{has, is_distinct}
-use Rattle.disk_model.proofs.ListLemmas.{all_weaker}
+use Rattle.fc_base.proofs.ListLemmas.{all_weaker}
 use Rattle.client_core.proofs.HeardLemmas.{clash}
 
 -- the number is one of a generation in the list, and, where this is the last, was used

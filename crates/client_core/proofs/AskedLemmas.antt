@@ -14,7 +14,7 @@ use Rattle.client_core.specs.Begins.{when_staged, when_started, jobs_refused, st
 use Rattle.client_core.specs.declared.beginning.Beginning.TheVariants as begins
 use Rattle.client_core.specs.Requests.{Telling, Request, when_one_tells, when_refused, check_refused, verify_refused, verify_heard, verify_at}
 use Rattle.client_core.specs.Requests as requests
-use Rattle.disk_model.proofs.ListLemmas.{behind_one, first_of}
+use Rattle.fc_base.proofs.ListLemmas.{behind_one, first_of}
 use Rattle.client_core.proofs.ReasonLemmas.{IsAsked, IsBegun}
 
 staged_back : (b : Beginning) → IsBegun (when_staged b) → IsBegun b

@@ -25,7 +25,7 @@ use Rattle.client_core.specs.Note.{is_blank, new_note}
 use Rattle.client_core.specs.Life.{Deed, Triggers, Stops, Hears, deeds_of, deeds_done}
 use Rattle.client_core.specs.Laws.{loses_nothing, runs_in, attempts_in, AreFresh, RunsAreFresh, AttemptsAreFresh}
 use Rattle.client_core.proofs.KeptLemmas.{blank_then}
-use Rattle.disk_model.proofs.ListLemmas.{all_weaker}
+use Rattle.fc_base.proofs.ListLemmas.{all_weaker}
 
 -- the numbers are fresh, and the last is no lower than the first
 pub record Known (first last : ℕ) (ns : List ℕ) : Type 0 where

@@ -28,7 +28,7 @@ use Rattle.client_core.specs.Note.{is_blank, new_note}
 use Rattle.client_core.specs.Packets.{packets}
 use Rattle.client_core.specs.Ranges.{packet_in, packets_come}
 use Rattle.client_core.specs.Laws.{from_server, from_mirror, FirstKeptStays, KeptWasSent}
-use Rattle.disk_model.proofs.ListLemmas.{one}
+use Rattle.fc_base.proofs.ListLemmas.{one}
 use Rattle.client_core.proofs.HeardLemmas.{from_own, from_its_mirror, own_state, taken_in}
 
 added_stays : FoundStays → (key : Key) (a : Addition) (n : Noted) (s : State) → kept_of key n.kept ≡ Some s → kept_of key (with_addition a n).kept ≡ Some s

@@ -29,7 +29,7 @@ use Rattle.client_core.specs.Ranges.{packet_in, packets_come}
 use Rattle.client_core.specs.Laws.{NotesKeepRanges}
 use Rattle.state_table.proofs.RefusalLemmas.{has_room}
 use Rattle.client_core.proofs.HeardLemmas.{taken_in}
-use Rattle.disk_model.proofs.ListLemmas.{all_append}
+use Rattle.fc_base.proofs.ListLemmas.{all_append}
 
 pub next_left : (peers : Peers) (g used : ℕ) → has_next peers g used ≡ true → used + 1 < 2 ^ 64
 unfolding has_next

@@ -33,7 +33,7 @@ use Rattle.client_core.specs.Ranges.{packet_in, CameInRange}
 use Rattle.client_core.specs.Laws.{from_server, NotesKeepRanges, PacketsAreInRange}
 use Rattle.client_core.proofs.AskedLemmas.{begun_was}
 use Rattle.client_core.proofs.HeardLemmas.{none_or}
-use Rattle.disk_model.proofs.ListLemmas.{all_append, all_weaker, each_of}
+use Rattle.fc_base.proofs.ListLemmas.{all_append, all_weaker, each_of}
 use Rattle.client_core.proofs.NotedLemmas.{begin_faults, in_entry, next_left, verify_faults}
 use Rattle.client_core.proofs.ReasonLemmas.{IsSaid, IsSent, Why, WhyMirror, all_sent}
 use Rattle.client_core.proofs.TextLemmas.{life_was_done, why_carries}

@@ -36,7 +36,7 @@ use Rattle.client_core.proofs.DeliverLemmas.{no_reply}
 use Rattle.client_core.proofs.HeardLemmas.{from_own, none_or, sender_below, taken_in}
 use Rattle.client_core.proofs.RisingLemmas.{order_all}
 use Rattle.client_core.proofs.WithinLemmas.{runs_were_begun}
-use Rattle.disk_model.proofs.ListLemmas.{all_append, all_below, all_flat, all_weaker, all_where, each_is_there, each_of, flat_of, map_of}
+use Rattle.fc_base.proofs.ListLemmas.{all_append, all_below, all_flat, all_weaker, all_where, each_is_there, each_of, flat_of, map_of}
 
 -- Jobs or Start is open
 abbrev pub IsBegun : Beginning → Type 0

@@ -26,7 +26,7 @@ use Rattle.client_core.specs.Packets.{packets}
 use Rattle.client_core.specs.Ranges.{packet_in, packets_come}
 use Rattle.client_core.specs.Laws.{from_server, ReportsCame, has_distinct_reports, OneReportEach}
 use Rattle.client_core.proofs.HeardLemmas.{from_own, none_or, taken_in}
-use Rattle.disk_model.proofs.ListLemmas.{all_append, all_weaker, one}
+use Rattle.fc_base.proofs.ListLemmas.{all_append, all_weaker, one}
 
 -- a report came in one of these packets
 abbrev Came : List PacketParts → Received → Type 0

@@ -24,7 +24,7 @@ use Rattle.client_core.specs.Packets.{to_server}
 use Rattle.client_core.specs.Ranges.{packet_in}
 use Rattle.client_core.specs.Laws.{from_server, is_for_mirror, is_for_server, SavedIsKept, CopiesAreOfStates, AcksAreFor, PacketsGoToPeers}
 use Rattle.client_core.proofs.HeardLemmas.{has_one, own_state, taken_in}
-use Rattle.disk_model.proofs.ListLemmas.{first_of, none_in}
+use Rattle.fc_base.proofs.ListLemmas.{first_of, none_in}
 use Rattle.client_core.proofs.ReasonLemmas.{IsSaid, SendsTo, Why, WhyMirror, sent_why}
 
 client_kind : (n : Noted) (deeds : List Deed) (c : Call) (s : ℕ) (body : Body) → Why n deeds c s body → is_for_server (kind_of body) ≡ true

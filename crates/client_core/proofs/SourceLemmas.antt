@@ -22,7 +22,7 @@ use Rattle.client_core.specs.Words.{is_on, words_noted, peers, may_renew}
 use Rattle.client_core.specs.Note.{new_note}
 use Rattle.client_core.specs.Ranges.{packet_in, packets_come}
 use Rattle.client_core.specs.Laws.{NotedWasSent}
-use Rattle.disk_model.proofs.ListLemmas.{none_in}
+use Rattle.fc_base.proofs.ListLemmas.{none_in}
 use Rattle.client_core.proofs.HeardLemmas.{taken_in}
 use Rattle.client_core.proofs.KeptLemmas.{Brought, state_brought, copy_brought, brought_later, brought_now}
 

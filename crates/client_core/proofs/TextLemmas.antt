@@ -20,7 +20,7 @@ use Rattle.client_core.specs.Packets.{packets, sent_packets}
 use Rattle.client_core.specs.Laws.{run_in, attempt_in, OneTextOfARun, OneTextOfAnAttempt}
 use Rattle.client_core.proofs.AskedLemmas.{asked_was, begun_was}
 use Rattle.client_core.proofs.MirroredLemmas.{numbers_are_given_once}
-use Rattle.disk_model.proofs.ListLemmas.{all_append, all_weaker, each_of, first_of, first_or_behind, none_in}
+use Rattle.fc_base.proofs.ListLemmas.{all_append, all_weaker, each_of, first_of, first_or_behind, none_in}
 use Rattle.client_core.proofs.ReasonLemmas.{IsSent, Why, WhyMirror, all_sent}
 
 -- all that was done in this life was done

@@ -38,7 +38,7 @@ use Rattle.client_core.specs.Packets.{packets}
 use Rattle.client_core.specs.Ranges.{packet_in, packets_come}
 use Rattle.client_core.specs.Laws.{from_server, FirstKeptStays, HasAnswer, TellsJobs, EndsWell, TriggersEndWell}
 use Rattle.client_core.proofs.HeardLemmas.{from_own, has_one, own_state, taken_in}
-use Rattle.disk_model.proofs.ListLemmas.{all_weaker, one}
+use Rattle.fc_base.proofs.ListLemmas.{all_weaker, one}
 
 -- what is known of what was told
 abbrev Told : Noted → List PacketParts → ℕ → ℕ → Telling → Type 0

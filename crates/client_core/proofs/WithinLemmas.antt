@@ -20,7 +20,7 @@ use Rattle.client_core.specs.Saves.{Addition, addition_by, addition_of, unless_r
 use Rattle.client_core.specs.Words.{is_on, words_noted, refusal, peers}
 use Rattle.client_core.proofs.RefusalLemmas.{run_free}
 use Rattle.client_core.proofs.FreshLemmas.{body_only}
-use Rattle.disk_model.proofs.ListLemmas.{all_weaker}
+use Rattle.fc_base.proofs.ListLemmas.{all_weaker}
 
 abbrev Within : ℕ → ℕ → Deed → Type 0
 Within runs attempts (Begins r t) = (1 ≤ r) × (r ≤ runs)

@@ -2,5 +2,4 @@ pub mod SectorLemmas
 pub mod PickLemmas
 pub mod ContentLemmas
 pub mod LawLemmas
-pub mod ListLemmas
 pub mod StepLemmas

@@ -20,7 +20,7 @@ use Rattle.mirror_core.specs.Refusals.{refusal_by}
 use Rattle.mirror_core.specs.Saves.{Addition, Grant, Keep, with_addition, unless_kept, unless_refused, addition_of, due_by, noted_after}
 use Rattle.mirror_core.specs.Words.{is_on, words_noted, generation, kept_state}
 use Rattle.mirror_core.specs.Laws.{FirstKeptStays, GenerationsRise, KeptWasSent, NotedWasSent, packet_in, packets_come, from_client}
-use Rattle.disk_model.proofs.ListLemmas.{one}
+use Rattle.fc_base.proofs.ListLemmas.{one}
 use Rattle.mirror_core.proofs.RequestLemmas.{asked_copy}
 
 -- ---- what is kept stays

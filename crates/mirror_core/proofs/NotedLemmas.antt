@@ -24,7 +24,7 @@ use Rattle.mirror_core.specs.Refusals.{faults_of_request, refusal_by}
 use Rattle.mirror_core.specs.Saves.{Grant, Keep, with_addition, unless_kept, unless_refused, addition_by, addition_of, noted_after}
 use Rattle.mirror_core.specs.Words.{is_on, words_noted}
 use Rattle.mirror_core.specs.Laws.{packet_in, packets_come, NotesKeepRanges}
-use Rattle.disk_model.proofs.ListLemmas.{all_append}
+use Rattle.fc_base.proofs.ListLemmas.{all_append}
 use Rattle.state_table.proofs.RefusalLemmas.{has_room}
 use Rattle.mirror_core.proofs.RequestLemmas.{asked_range, taken_in}
 

@@ -27,7 +27,7 @@ use Rattle.mirror_core.specs.Requests.{request_in, IsRequest}
 use Rattle.mirror_core.specs.Words.{words_noted, is_answered}
 use Rattle.mirror_core.specs.Packets.{to_client, copy_of, packets_for, frame_bytes}
 use Rattle.mirror_core.specs.Laws.{NotesKeepRanges, PacketsAreInRange}
-use Rattle.disk_model.proofs.ListLemmas.{map_of, all_where}
+use Rattle.fc_base.proofs.ListLemmas.{map_of, all_where}
 use Rattle.mirror_core.proofs.NotedLemmas.{in_entry}
 use Rattle.mirror_core.proofs.RequestLemmas.{asked_range}
 

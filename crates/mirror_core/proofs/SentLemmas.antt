@@ -27,7 +27,7 @@ use Rattle.mirror_core.specs.Saves.{Grant, unless_kept, unless_refused, addition
 use Rattle.mirror_core.specs.Words.{is_on, words_noted, refusal, is_answered}
 use Rattle.mirror_core.specs.Packets.{to_client, copy_of, replies, packets, packets_for}
 use Rattle.mirror_core.specs.Laws.{GoesToClient, PacketsGoToTheClient, CopiesAreKept, CopiesAreNoted, CopyOksAreFor, GrantsAreNoted}
-use Rattle.disk_model.proofs.ListLemmas.{all_map, all_where, none_in, behind_one, first_or_behind, where_so}
+use Rattle.fc_base.proofs.ListLemmas.{all_map, all_where, none_in, behind_one, first_or_behind, where_so}
 use Rattle.mirror_core.proofs.NotedLemmas.{keys_apart}
 use Rattle.mirror_core.proofs.RequestLemmas.{answered_due, not_when, taken_in}
 

@@ -17,7 +17,7 @@ use Rattle.server_core.specs.Words.{work}
 use Rattle.server_core.specs.Answers.{marks_by, marks, is_marked, wants_cut, completes, act_of, act}
 use Rattle.server_core.specs.Heard.{heard_packets, AreStatesKept}
 use Rattle.server_core.proofs.HeardLemmas.{WorkHeard, one_heard, work_heard}
-use Rattle.disk_model.proofs.ListLemmas.{first_of}
+use Rattle.fc_base.proofs.ListLemmas.{first_of}
 
 all_below : (p : ℕ → Bool) (n : ℕ) → list_all p (numbers_below n) ≡ true → (j : ℕ) → j < n → p j ≡ true
 all_below p zero h j l = absurd (omega arith)

@@ -17,7 +17,7 @@ use Rattle.window.specs.Counting.{ComesToPossible}
 use Rattle.server_core.specs.Laws.{IsSet, TextsGiveSets, HistoriesAreLegal}
 use Rattle.server_core.proofs.WorkLemmas as works
 use Rattle.server_core.proofs.StateLemmas.{run_below}
-use Rattle.server_core.proofs.SetLemmas.{SomeStaged, SomeWork, CheckFits, for_run_fits, staged_fits}
+use Rattle.server_core.proofs.SetLemmas.{SomeWork, CheckFits}
 use Rattle.server_core.proofs.SetLemmas as kept
 use Rattle.server_core.proofs.RangeLemmas.{RequestFits, InRun, InAttempt}
 

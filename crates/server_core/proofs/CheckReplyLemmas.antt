@@ -23,7 +23,7 @@ use Rattle.server_core.specs.Replies.{Now, progress_frame, check_frames_from, ch
 use Rattle.server_core.specs.Replies.{reply_to_attempt, misfit_frame, reply_to_state_for, reply_to_state, reply_to_report}
 use Rattle.server_core.specs.Answers.{is_ready, is_open_attempt as is_attempt_of, refused_by}
 use Rattle.server_core.proofs.RangeLemmas.{fault_word, TextFits, text_fits, RequestFits}
-use Rattle.disk_model.proofs.ListLemmas.{all_append}
+use Rattle.fc_base.proofs.ListLemmas.{all_append}
 use Rattle.server_core.proofs.BodyLemmas.{Below, CheckInRange, SomeCheck, BodyFits, Fit, fit_if, run_word, one_of, job_number, refuse_fits}
 
 abbrev ProgressFits : Progress → Type 0

@@ -23,7 +23,7 @@ use Rattle.server_core.specs.Accepted.{IsDoneIn, IsTaking}
 use Rattle.server_core.proofs.WorkLemmas.{is_of}
 use Rattle.server_core.specs.Laws.{RunsHaveSets, HistoriesAreLegal}
 use Rattle.server_core.proofs.SetLemmas.{job_at}
-use Rattle.disk_model.proofs.ListLemmas.{none_in, only_in}
+use Rattle.fc_base.proofs.ListLemmas.{none_in, only_in}
 use Rattle.server_core.proofs.BeganLemmas.{began, done_on, done_back}
 
 -- What a taking takes.

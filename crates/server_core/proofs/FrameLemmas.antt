@@ -38,7 +38,7 @@ use Rattle.server_core.specs.Laws.{IsTheTaken, HasJobs, IsUntaken}
 use Rattle.server_core.proofs.Takings.{Known, known}
 use Rattle.server_core.proofs.TakenLemmas.{stands_by, holds_the_taken}
 use Rattle.server_core.proofs.Due.{due_start}
-use Rattle.disk_model.proofs.ListLemmas.{none_in, only_in}
+use Rattle.fc_base.proofs.ListLemmas.{none_in, only_in}
 
 -- What is known of a body that tells of a taking: it has a state, or says that there is none.
 abbrev Of : (Body → Type 0) → Body → Type 0

@@ -29,7 +29,7 @@ use Rattle.server_core.specs.Check.{Check, With, is_above, new_check, opens, che
 use Rattle.server_core.specs.Heard.{heard_with, heard_packets, IsHeard}
 use Rattle.server_core.specs.Answers.{job_of_check, check_job}
 use Rattle.server_core.proofs.HeldLemmas.{key_fits, with_state}
-use Rattle.disk_model.proofs.ListLemmas.{none_in, only_in, first_of}
+use Rattle.fc_base.proofs.ListLemmas.{none_in, only_in, first_of}
 
 -- A packet of the client says what is asked, where that is to hold a state or to mark a job.
 abbrev pub IsSaid : ℕ → List PacketParts → Request → Type 0

@@ -22,7 +22,7 @@ use Rattle.verify_state.specs.Misfit.{misfit, is_of_job}
 use Rattle.server_core.specs.Run.{Work, is_open, is_unended}
 use Rattle.server_core.specs.Words.{Staged, is_on, boot, last_run_after, last_run, work, due}
 use Rattle.server_core.proofs.KeyLemmas.{same_key}
-use Rattle.disk_model.proofs.ListLemmas.{first_of}
+use Rattle.fc_base.proofs.ListLemmas.{first_of}
 use Rattle.server_core.proofs.WorkLemmas.{unsaved}
 use Rattle.server_core.specs.Check.{Check, Progress, Wanting, Full, With, Refused, Done, progress_with_state, progress_without_state}
 use Rattle.server_core.specs.Check.{progress_with_report, progress_by, progress_at_first, progress_after, progress_at, progress_in}

@@ -28,7 +28,7 @@ use Rattle.server_core.specs.Answers.{now, refusal, to_client, sent_by, packets}
 use Rattle.messages.specs.Bodies.{kind_of}
 use Rattle.messages.specs.Kinds.{is_of_server}
 use Rattle.server_core.specs.Sent.{GoesToClient, PacketsGoToClient}
-use Rattle.disk_model.proofs.ListLemmas.{all_append}
+use Rattle.fc_base.proofs.ListLemmas.{all_append}
 
 -- A body of a kind that servers send.
 abbrev pub Own : Body → Type 0

@@ -21,7 +21,7 @@ use Rattle.server_core.specs.Answers.{packets}
 use Rattle.server_core.specs.Bounds.{FramesAreShort}
 use Rattle.server_core.specs.Laws.{PacketsAreFew, PacketsAreInRange}
 use Rattle.server_core.specs.Sent.{PacketsGoToClient}
-use Rattle.disk_model.proofs.ListLemmas.{first_of}
+use Rattle.fc_base.proofs.ListLemmas.{first_of}
 use Rattle.server_core.proofs.BodyParts.{body_in_range}
 
 short_kind : (kind : PacketKind) → is_of_server kind ≡ true → length_limit kind ≤ CHUNK_LIMIT

@@ -17,8 +17,7 @@ use Rattle.server_core.specs.Run.{Work, Halt, Triggered, halt_of, origin_of, is_
 use Rattle.server_core.specs.Run as runs
 use Rattle.server_core.specs.Taken.{job_state}
 use Rattle.server_core.specs.Words.{Staged, for_run}
-use Rattle.server_core.specs.Check.{Check, Progress, Wanting, Full, With, progress_after, progress_at}
-use Rattle.server_core.specs.Check.{progress_in, progress_by, progress_at_first, new_check, is_above}
+use Rattle.server_core.specs.Check.{Check, Progress, Wanting, Full, With, progress_after, progress_by}
 use Rattle.server_core.specs.Check as checks
 
 -- The words of a server that a reply is read from.
