@@ -1,13 +1,14 @@
 -- What is found in a server that runs.
 use Rattle.std.proofs.Common.{◌≡◌, refl, sym, ◌∙◌, ap, subst, inl, inr, ◌⊎◌, ℕ, ◌<◌, ◌≤◌, arith, true, false, List, length, Option, Some, None}
-use Rattle.std.specs.Prelude.{slice_get, is_some}
-use Rattle.std.specs.Option.{option_map, option_or}
+use Rattle.std.specs.Prelude.{slice_get, is_some, IfOk, IfErr}
+use Rattle.std.specs.Borrow.{Bor}
+use Rattle.std.specs.Option.{option_map, option_or, option_copied, ok_or}
 use Rattle.std.proofs.lemmas.Option.{slice_get_within}
 use Rattle.std.proofs.lemmas.Bool.{false≢true}
 use Rattle.fc_base.specs.declared.limits.TheConstants.{MAX_JOBS}
 use Rattle.fc_base.specs.declared.fault.Fault.{Fault}
 use Rattle.fc_base.specs.declared.fault.Fault.TheVariants.{NoServer, NodeOff, NoWrite}
-use Rattle.disk_model.specs.MemNotes.{Saved as Kept, note_of}
+use Rattle.disk_model.specs.MemNotes.{Saved as Kept}
 use Rattle.job_file.specs.declared.job.Job.{Job}
 use Rattle.verify_state.specs.State.{State}
 use Rattle.engine.specs.declared.issue.Ticket.{Ticket}
@@ -26,7 +27,6 @@ use Rattle.server_core.specs.Check.{Check, Progress, Wanting, Full, With, Refuse
 use Rattle.server_core.specs.Answers.{shown_entries, run_job, job_of_run, check_job, job_of_check, is_ready, status, number_of_check}
 use Rattle.server_core.specs.OpenWrites.{open_origin, open_ticket, open_write, origin_told, TicketsTellOrigins}
 use Rattle.server_core.specs.Hearing.{FrameEntry, packets_heard}
-use Rattle.server_core.specs.FrameEnds.{StandsFor as ServerStands}
 use Rattle.net_world.specs.declared.server_node.ServerNode.{ServerNode}
 use Rattle.net_world.specs.declared.world.World.{World}
 use Rattle.net_world.specs.Setup.{Setup}
@@ -41,7 +41,7 @@ use Rattle.net_world.specs.Nodes.{Shows}
 use Rattle.net_world.specs.ServerNodes.{server_nodes, is_up, Stands}
 use Rattle.net_world.specs.Stands.{StandsFor}
 use Rattle.net_world.specs.Serving.{entries}
-use Rattle.net_world.specs.Finding.{IsOpen, IsMadeBy, IsReady, state_of}
+use Rattle.net_world.specs.Finding.{IsRunning, IsAway, IsOpen, IsMadeBy, IsReady, state_of}
 use Rattle.net_world.proofs.ServeLemmas.{heard_is, none_there, is_off, is_there}
 use Rattle.net_world.proofs.ListLemmas.{same_some}
 
@@ -58,22 +58,27 @@ pub not_there : (w : Setup) (past : List Change) (s : ℕ) (now : World) → Sta
     → unless_on w (trace w past) (nodes.Server s) ≡ Some NoServer
 not_there w past s now stands h = none_there w past s (omega (arith, stands.number, h))
 
-pub found_off : (w : Setup) (past : List Change) (s : ℕ) (now : World) → StandsFor w past now → Found now s None
+found_off : (w : Setup) (past : List Change) (s : ℕ) (now : World) → StandsFor w past now → Found now s None
     → unless_on w (trace w past) (nodes.Server s) ≡ Some NodeOff
 found_off w past s now stands f =
     is_off w past s (omega (arith, stands.number, f.there)) (f.shows (opening_of s) (entries past s) (stands.servers_are s f.node f.node_is))
 
--- A server that runs.
-pub record IsRunning (w : Setup) (past : List Change) (s : ℕ) (core : Server Kept) : Type 0 where
-  pub on : unless_on w (trace w past) (nodes.Server s) ≡ None
-  pub stands : ServerStands note_of core (opening_of s) (entries past s)
-  pub up : is_up (opening_of s) (entries past s) ≡ true
-
-pub found_on : (w : Setup) (past : List Change) (s : ℕ) (now : World) (core : Server Kept) → StandsFor w past now → Found now s (Some core)
+found_on : (w : Setup) (past : List Change) (s : ℕ) (now : World) (core : Server Kept) → StandsFor w past now → Found now s (Some core)
     → IsRunning w past s core
 found_on w past s now core stands f =
     let h = f.shows (opening_of s) (entries past s) (stands.servers_are s f.node f.node_is) in
     record { on = is_there w past s (omega (arith, stands.number, f.there)) h.1; stands = h.0; up = h.1 }
+
+-- The node shows a server that runs, or the server is away.
+pub found_runs : (w : Setup) (past : List Change) (s : ℕ) (now : World) (shown : Option (Bor (Server Kept))) → StandsFor w past now
+    → Found now s (option_copied shown) → IfOk (ok_or shown NodeOff) (λ core. IsRunning w past s core.now)
+found_runs w past s now (Some core) stands f = found_on w past s now core.now stands f
+found_runs w past s now None stands f = tt
+
+pub found_away : (w : Setup) (past : List Change) (s : ℕ) (now : World) (shown : Option (Bor (Server Kept))) → StandsFor w past now
+    → Found now s (option_copied shown) → IfErr (ok_or shown NodeOff) (IsAway w past s)
+found_away w past s now (Some core) stands f = tt
+found_away w past s now None stands f = (found_off w past s now stands f, refl)
 
 -- It shows all that the trace says of it.
 pub shown : LooksAtAll → (w : Setup) (past : List Change) (s : ℕ) → is_up (opening_of s) (entries past s) ≡ true

@@ -1,5 +1,5 @@
 -- What a world finds in its servers: an open write, and a job that is ready to be checked.
-use Rattle.std.specs.Prelude.{◌≡◌, ◌⊎◌, ℕ, ◌<◌, List, Option, Some, None, slice_get, Result, Ok, Err}
+use Rattle.std.specs.Prelude.{◌≡◌, ◌⊎◌, ℕ, ◌<◌, true, List, Option, Some, None, slice_get, Result, Ok, Err}
 use Rattle.fc_base.specs.declared.limits.TheConstants.{MAX_JOBS}
 use Rattle.fc_base.specs.declared.fault.Fault.{Fault}
 use Rattle.fc_base.specs.declared.fault.Fault.TheVariants.{NotInFlight}
@@ -12,6 +12,9 @@ use Rattle.engine.specs.declared.issue.Ticket.{Ticket}
 use Rattle.engine.specs.Answers.{ticket_of}
 use Rattle.engine.specs.Running.{Origin}
 use Rattle.messages.specs.declared.node.Node.TheVariants.{Server}
+use Rattle.disk_model.specs.MemNotes.{Saved, note_of}
+use Rattle.server_core.specs.declared.server.Server.{Server as Core}
+use Rattle.server_core.specs.FrameEnds.{StandsFor as ServerStands}
 use Rattle.server_core.specs.Check.{Check, Progress, Full, With, check, progress_after}
 use Rattle.net_world.specs.declared.ready.Ready.{Ready}
 use Rattle.net_world.specs.Setup.{Setup}
@@ -20,6 +23,19 @@ use Rattle.net_world.specs.Changes.{Change, trace}
 use Rattle.net_world.specs.Writes.{open_at}
 use Rattle.net_world.specs.Checks.{key_of, end_of_check}
 use Rattle.net_world.specs.Barred.{unless_on, unless_open}
+use Rattle.net_world.specs.ServerNodes.{is_up}
+use Rattle.net_world.specs.Serving.{entries}
+
+-- This is server s, which is there and on, and stands for its list.
+pub record IsRunning (w : Setup) (past : List Change) (s : ℕ) (core : Core Saved) : Type 0 where
+  pub on : unless_on w (trace w past) (Server s) ≡ None
+  pub stands : ServerStands note_of core (opening_of s) (entries past s)
+  pub up : is_up (opening_of s) (entries past s) ≡ true
+
+-- The server is off or isn't there.
+abbrev pub IsAway : Setup → List Change → ℕ → Fault → Type 0
+IsAway w past s fault =
+    (unless_on w (trace w past) (Server s) ≡ Some fault) × (sort_of fault ≡ Refusal)
 
 -- Write k of job j at server s is open: its ticket, and what its job does.
 pub record IsOpen (w : Setup) (past : List Change) (s j k : ℕ) (ticket : Ticket)
@@ -66,7 +82,7 @@ pub record IsReady (w : Setup) (past : List Change) (s j : ℕ) (ready : Ready) 
 -- The server is off or isn't there; or it has no such job that is ready.
 abbrev pub IsUnready : Setup → List Change → ℕ → ℕ → Fault → Type 0
 IsUnready w past s j fault =
-    ((unless_on w (trace w past) (Server s) ≡ Some fault) × (sort_of fault ≡ Refusal))
+    IsAway w past s fault
     ⊎ ((unless_on w (trace w past) (Server s) ≡ None) × (fault ≡ NotInFlight)
     × (end_of_check w past s j ≡ None))
 

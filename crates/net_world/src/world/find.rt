@@ -1,23 +1,42 @@
 //! What a world finds in its servers.
 
-ghost use Rattle.std.specs.Prelude.{◌≡◌, List, Some};
+ghost use Rattle.std.specs.Prelude.{◌≡◌, List, Some, IfOk, IfErr};
 ghost use Rattle.server_core.specs.Answers.{is_ready};
 ghost use Rattle.server_core.specs.KeptCheck.{progress_of};
 ghost use Rattle.net_world.specs.Setup.{Setup};
 ghost use Rattle.net_world.specs.Changes.{Change};
-ghost use Rattle.net_world.specs.Finding.{FindsWrite, FindsReady, state_of};
+ghost use Rattle.net_world.specs.Finding.{IsRunning, IsAway, FindsWrite, FindsReady, state_of};
 ghost use Rattle.net_world.specs.Stands.{StandsFor};
 
 use super::World;
 use crate::ready::Ready;
+use disk_model::MemNotes;
 use engine::Ticket;
 use fc_base::{Fault, JobNo, JobRecord, Key, Seq, ServerNo};
 use server_core::{
-    Progress, legal_histories, looks_at_all, open_check_is_last, tickets_tell_origins,
+    Progress, Server, legal_histories, looks_at_all, open_check_is_last, tickets_tell_origins,
 };
 use verify_state::VerifyState;
 
 impl World {
+    /// The server of this number, which runs.
+    ///
+    /// `NoServer`, `NodeOff`.
+    #[inline(always)]
+    fn running(&self, server: ServerNo) -> Result<&Server<MemNotes>, Fault>
+        ensures found { (w : Setup) (past : List Change) → StandsFor w past self.now →
+            IfOk result (λ core. IsRunning w past server core.now) }
+        ensures why { (w : Setup) (past : List Change) → StandsFor w past self.now →
+            IfErr result (IsAway w past server) }
+    {
+        if !self.has_server(server) {
+            return Err(Fault::NoServer);
+        }
+        self.servers[server.0 as usize]
+            .server()
+            .ok_or(Fault::NodeOff)
+    }
+
     /// The ticket of a write that is open, and what its job does.
     ///
     /// `NoServer`, `NodeOff`, `NoWrite`.
@@ -34,12 +53,7 @@ impl World {
         looks_at_all();
         tickets_tell_origins();
         legal_histories();
-        if !self.has_server(server) {
-            return Err(Fault::NoServer);
-        }
-        let Some(core) = self.servers[server.0 as usize].server() else {
-            return Err(Fault::NodeOff);
-        };
+        let core = self.running(server)?;
         let Some(ticket) = core.open_write(job, write) else {
             return Err(Fault::NoWrite);
         };
@@ -59,12 +73,7 @@ impl World {
         looks_at_all();
         open_check_is_last();
         legal_histories();
-        if !self.has_server(server) {
-            return Err(Fault::NoServer);
-        }
-        let Some(core) = self.servers[server.0 as usize].server() else {
-            return Err(Fault::NodeOff);
-        };
+        let core = self.running(server)?;
         let Some(checked) = core.check_job(job) else {
             return Err(Fault::NotInFlight);
         };
