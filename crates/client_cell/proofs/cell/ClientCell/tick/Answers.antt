@@ -61,8 +61,12 @@ pub invariant_of-self-2 : goal.invariant_of-self-2
 invariant_of-self-2 g c =
     let cell = c.self.invariant.0 in
     let o = opening_of c.self.inside.servers c.self.inside.opened.value in
-    let ends = c.tick.ensures.ends o cell.kept.past cell.kept.stands in
-    (heard_cell g.N.Notes.note _ c.self.inside.power c.self.inside.power cell inputs.Tick c.tick.result came.Tick None c.make_room.new.hub.net c.enter.new.hub.net _ (failures_of g.N.Notes.note c.self.inside.power) refl ends (rw (c.outcome-done.ensures, c.make_room.ensures.items) at c.enter.ensures.heard), c.self.invariant.1)
+    let ends = c.tick.ensures.ends o cell.kept.past cell.kept.stands in (
+      heard_cell g.N.Notes.note _ c.self.inside.power c.self.inside.power cell inputs.Tick c.tick.result came.Tick None c.make_room.new.hub.net
+          c.enter.new.hub.net _ (failures_of g.N.Notes.note c.self.inside.power) refl ends
+          (rw (c.outcome-done.ensures, c.make_room.ensures.items) at c.enter.ensures.heard),
+      c.self.invariant.1,
+    )
 
 pub returns-clause-why : goal.returns-clause-why
 returns-clause-why g c =
