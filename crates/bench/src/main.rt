@@ -3,7 +3,6 @@
 #![tactic(auto)]
 
 mod assemblies;
-mod changes;
 mod clients;
 mod copies;
 mod disks;
@@ -54,7 +53,6 @@ fn measure<R: AllocGlobal + Print + Clock + CpuClock + Threads + Wait + Sync>(
     word: &str,
 ) -> Result<(), Trouble> {
     match word {
-        "changes" => changes::print_changes(rt),
         "issues" => engines::measure_issues(rt),
         "rot" => disks::rot(rt),
         _ => rounds::measure_all(rt, word),

@@ -28,7 +28,7 @@ pub fn measure_all<R: AllocGlobal + Print + Clock + CpuClock + Threads + Wait + 
 
 fn print_words<R: Print>(rt: &R) -> Result<(), Trouble> {
     println!(rt;
-        "give a word: assemblies, cells, changes, checks, clients, issues, parallel, pieces, rot, servers, workers or worlds"
+        "give a word: assemblies, cells, checks, clients, issues, parallel, pieces, rot, servers, workers or worlds"
     )?;
     Ok(())
 }
