@@ -1,4 +1,4 @@
-"""Reads crates/*/specs/*.antt: the comment above each definition, and which definitions each one names. docs/make-definitions uses it."""
+"""Reads crates/*/specs/*.antt: the comment above each definition, and which definitions each one names. tools/make-definitions uses it."""
 import re
 
 USE = re.compile(r"use Rattle\.(\w+)\.specs\.(\w+)(?:\.\{(.*)\}| as (\w+))?$")
