@@ -19,7 +19,7 @@ use server_cell::{Seat, ServerCell};
 use std::alloc::Global;
 
 /// All events that stand in the nodes' lists, the oldest first.
-#[derive(Debug, Drop)]
+#[derive(Drop)]
 pub struct Assembled {
     pub order: Vec<Place>,
 }

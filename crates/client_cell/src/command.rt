@@ -3,7 +3,7 @@
 use crate::request::ClientRequest;
 
 /// What the client is asked by its caller, at the hub.
-#[derive(Debug, Drop)]
+#[derive(Drop)]
 pub enum ClientCommand {
     /// Begin, trigger, stop or verify.
     Request(ClientRequest),

@@ -4,7 +4,7 @@ use messages::Frames;
 use node_history::Answer;
 
 /// What the client answers, and the frames that it sends.
-#[derive(Debug, Drop)]
+#[derive(Drop)]
 pub struct Outs {
     pub answer: Answer,
     pub frames: Frames,

@@ -8,7 +8,7 @@ use messages::{Act, Text};
 use node_history::Came;
 
 /// What the client is asked by its caller, and asks of its servers.
-#[derive(Debug, Drop)]
+#[derive(Drop)]
 pub enum ClientRequest {
     /// Begin a run with this job file.
     Begin(Text),

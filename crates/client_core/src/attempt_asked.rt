@@ -11,7 +11,7 @@ use fc_base::{Attempt, RunNo};
 use messages::{Body, Text};
 
 /// An attempt to verify a run, and how it stands at each server.
-#[derive(Debug, Drop)]
+#[derive(Drop)]
 pub struct AttemptAsked {
     pub run: RunNo,
     pub text: Text,

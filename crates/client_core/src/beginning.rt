@@ -9,7 +9,7 @@ use fc_base::RunNo;
 use messages::{Asked, Body, Reason};
 
 /// How far the begin of a run is at a server.
-#[derive(Clone, Copy, Debug, PartialEq, Eq)]
+#[derive(Clone, Copy, PartialEq, Eq)]
 pub(crate) enum Beginning {
     /// It was not asked for.
     Unbegun,

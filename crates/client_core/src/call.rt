@@ -4,7 +4,7 @@ use fc_base::RunNo;
 use messages::{Act, Packet, Text};
 
 /// What comes to a client: what its caller asks, and the packets of the servers.
-#[derive(Debug, Drop)]
+#[derive(Drop)]
 pub enum Call {
     /// Begin a run with this job file.
     Begin(Text),

@@ -9,7 +9,7 @@ use messages::Body;
 
 /// With whom a client is: how many servers it drives, whether it has a mirror, and whether this granted
 /// the generation of its note in this life.
-#[derive(Debug, Drop)]
+#[derive(Drop)]
 pub struct Peers {
     pub servers: Servers,
     pub mirror: bool,

@@ -3,7 +3,7 @@
 use fc_base::{Attempt, CheckReport, JobNo, RunNo, ServerNo};
 
 /// What the check of a job found, and whose it is.
-#[derive(Debug, Drop)]
+#[derive(Drop)]
 pub struct Received {
     pub run: RunNo,
     pub attempt: Attempt,

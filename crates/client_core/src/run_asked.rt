@@ -14,7 +14,7 @@ use messages::{Act, Body, Text};
 pub const SERVERS: usize = MAX_SERVERS as usize;
 
 /// What was asked for one run, and how it stands at each server.
-#[derive(Debug, Drop)]
+#[derive(Drop)]
 pub struct RunAsked {
     pub text: Option<Text>,
     pub begins: [Beginning; SERVERS],

@@ -6,7 +6,7 @@ ghost use Rattle.fc_base.specs.declared.limits.TheConstants.{MAX_SERVERS};
 use std::marker::Model;
 
 /// How many servers a client drives: at most 8.
-#[derive(Debug, Drop)]
+#[derive(Drop)]
 pub struct Servers {
     count: u32,
 }

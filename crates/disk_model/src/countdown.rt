@@ -4,7 +4,7 @@ ghost use Rattle.std.specs.Prelude.{◌≡◌, Some, IsTrue, ◌↔◌};
 ghost use Rattle.disk_model.specs.Countdown.{left_of, failures_of, one_fewer};
 
 /// A count of calls down to the one that fails.
-#[derive(Clone, Copy, Debug)]
+#[derive(Clone, Copy)]
 pub(crate) enum Countdown {
     /// So many calls come before it.
     Left(u64),

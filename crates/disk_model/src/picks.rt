@@ -7,7 +7,7 @@ ghost use Rattle.disk_model.specs.Picks.{is_picked, HasPick, HasBitBelow};
 use crate::run::SECTOR;
 
 /// Which sectors of some bytes land.
-#[derive(Clone, Copy, Debug)]
+#[derive(Clone, Copy)]
 pub(crate) enum Picks {
     /// All of them.
     All,

@@ -22,7 +22,7 @@ const RUN_BYTES: usize = RUN_SECTORS * SECTOR;
 pub(crate) const MAX_SECTORS: u64 = MAX_BLOCKS as u64 * (MAX_BLOCK_SIZE as u64 / SECTOR as u64);
 
 /// 128 sectors, one after another.
-#[derive(Debug, Drop)]
+#[derive(Drop)]
 pub(crate) struct Run {
     bytes: Vec<u8>,
 }

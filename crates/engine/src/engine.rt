@@ -24,7 +24,6 @@ use write_order::Order;
 ///
 /// Only making it takes memory. `issue`, `done` and `failed` take as many steps as there are open
 /// writes, and taking a state constant time.
-#[derive(Debug)]
 pub struct Engine {
     boot: u64,
     key: Key,

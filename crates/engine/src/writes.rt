@@ -7,7 +7,7 @@ ghost use Rattle.std.specs.Vec.{vec_capacity};
 use fc_base::Seq;
 
 /// A write that is neither done nor failed.
-#[derive(Clone, Copy, Debug)]
+#[derive(Clone, Copy)]
 pub(crate) struct OpenWrite {
     pub(crate) seq: Seq,
     pub(crate) block: u32,

@@ -17,7 +17,6 @@ use std::marker::Model;
 
 /// The frames, numbered from 0 as they were sent, the journal, and for each node the numbers of the
 /// frames that it hasn't taken.
-#[derive(Debug)]
 pub struct Hub {
     store: Store,
     journal: Vec<Line>,

@@ -14,7 +14,7 @@ use std::array;
 use std::marker::Model;
 
 /// A list of numbers for each node.
-#[derive(Debug, Drop)]
+#[derive(Drop)]
 pub(crate) struct Queues {
     lists: [Vec<u64>; MAX_NODES],
 }

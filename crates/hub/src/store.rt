@@ -6,7 +6,7 @@ use std::alloc::{AllocError, Global};
 use std::marker::Model;
 
 /// Frames, one behind the other, and where each ends.
-#[derive(Debug, Drop)]
+#[derive(Drop)]
 pub(crate) struct Store {
     bytes: Vec<u8>,
     ends: Vec<usize>,

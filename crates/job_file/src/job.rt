@@ -16,7 +16,6 @@ pub enum Phase {
 }
 
 /// One job.
-#[derive(Debug)]
 pub struct Job {
     /// The name of its section.
     pub name: PrintableText,
@@ -46,7 +45,6 @@ impl Drop for Job {
 }
 
 /// Jobs, numbered from 0 in the order of the text.
-#[derive(Debug)]
 pub struct Jobs {
     jobs: Vec<Job>,
 }
@@ -92,7 +90,7 @@ impl Jobs {
 }
 
 /// A line whose option is accepted and has no effect.
-#[derive(Debug, Drop)]
+#[derive(Drop)]
 pub struct LineNote {
     /// The line, counted from 1.
     pub line: u32,
@@ -101,7 +99,6 @@ pub struct LineNote {
 }
 
 /// Notes, in the order of the lines.
-#[derive(Debug)]
 pub struct LineNotes {
     notes: Vec<LineNote>,
 }
@@ -147,7 +144,7 @@ impl LineNotes {
 }
 
 /// What a job file says.
-#[derive(Debug, Drop)]
+#[derive(Drop)]
 pub struct JobSet {
     pub phase: Phase,
     pub jobs: Jobs,

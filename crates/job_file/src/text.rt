@@ -8,7 +8,6 @@ use std::alloc::{AllocError, Global};
 use std::marker::Model;
 
 /// A text of its own, such as a job's name: printable ASCII, tabs and carriage returns.
-#[derive(Debug)]
 pub struct PrintableText {
     string: String,
 }

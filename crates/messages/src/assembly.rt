@@ -16,7 +16,7 @@ use std::alloc::{AllocError, Global};
 use std::marker::Model;
 
 /// A tag, and what has come of its body.
-#[derive(Debug, Drop)]
+#[derive(Drop)]
 struct Waiting {
     tag: Tag,
     places: Places,
@@ -31,7 +31,7 @@ impl Model for Waiting {
 }
 
 /// The pieces that came and whose bodies aren't whole yet: of at most 128 tags, in order of arrival.
-#[derive(Debug, Drop)]
+#[derive(Drop)]
 pub struct Assembly {
     alloc: Global,
     rows: Vec<Waiting>,

@@ -15,7 +15,7 @@ use verify_state::VerifyState;
 /// What a packet says, by kind, before its ranges are checked: a packet's own body keeps them. Runs
 /// and attempts count from 1, `jobs` says how many jobs a file has, 1 to 16, and a job is below
 /// `jobs`, or below 16 where there is none.
-#[derive(Debug, Drop)]
+#[derive(Drop)]
 pub enum Body {
     /// The client: stage this job file.
     Jobs {

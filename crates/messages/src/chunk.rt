@@ -7,7 +7,7 @@ use std::alloc::{AllocError, Global};
 use std::marker::Model;
 
 /// Bytes of a body that go into one frame: at most 1,024 of them.
-#[derive(Debug, Drop)]
+#[derive(Drop)]
 pub struct Chunk {
     bytes: Vec<u8>,
 }

@@ -9,7 +9,7 @@ use crate::packet::Packet;
 use crate::piece::Piece;
 
 /// What goes over a network at once.
-#[derive(Debug, Drop)]
+#[derive(Drop)]
 pub enum Frame {
     /// A packet, whose body has at most 1,024 bytes.
     Whole(Packet),

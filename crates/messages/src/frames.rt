@@ -11,7 +11,6 @@ use std::alloc::{AllocError, Global};
 use std::marker::Model;
 
 /// The bytes of frames, in their order. They lie in one piece of memory, one behind the other.
-#[derive(Debug)]
 pub struct Frames {
     bytes: Vec<u8>,
     ends: Vec<usize>,

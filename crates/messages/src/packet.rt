@@ -8,7 +8,7 @@ use crate::node::Node;
 use std::marker::Model;
 
 /// What a packet is made of, with no ranges.
-#[derive(Debug, Drop)]
+#[derive(Drop)]
 pub struct PacketParts {
     pub from: Node,
     pub to: Node,
@@ -16,7 +16,7 @@ pub struct PacketParts {
 }
 
 /// A packet whose numbers are in their ranges. Whether a sender may send its kind is not asked here.
-#[derive(Debug, Drop)]
+#[derive(Drop)]
 pub struct Packet {
     parts: PacketParts,
 }

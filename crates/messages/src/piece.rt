@@ -26,7 +26,7 @@ pub struct Tag {
 
 /// What a piece is made of, with no ranges: at most 1,024 bytes of a body, and at which of its bytes
 /// they begin.
-#[derive(Debug, Drop)]
+#[derive(Drop)]
 pub struct PieceParts {
     pub from: Node,
     pub to: Node,
@@ -37,7 +37,7 @@ pub struct PieceParts {
 
 /// A piece whose numbers are in their ranges. It begins at a multiple of 1,024 below the length, and
 /// goes on for 1,024 bytes or to the end of the body.
-#[derive(Debug, Drop)]
+#[derive(Drop)]
 pub struct Piece {
     parts: PieceParts,
 }

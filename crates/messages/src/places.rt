@@ -11,14 +11,13 @@ use std::alloc::{AllocError, Global};
 use std::marker::Model;
 
 /// A place, and the bytes that it is filled with.
-#[derive(Debug, Drop)]
+#[derive(Drop)]
 pub struct Filled {
     pub at: u32,
     pub bytes: Chunk,
 }
 
 /// The places of one body that are filled, in order of arrival.
-#[derive(Debug)]
 pub struct Places {
     filled: Vec<Filled>,
 }

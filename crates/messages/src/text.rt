@@ -7,7 +7,6 @@ use std::alloc::{AllocError, Global};
 use std::marker::Model;
 
 /// A job file, of any bytes: at most 16,384 of them.
-#[derive(Debug)]
 pub struct Text {
     bytes: Vec<u8>,
 }

@@ -4,7 +4,7 @@ use crate::command::Command;
 use net_world::Config;
 
 /// An order of a script. Lines are counted from 1.
-#[derive(Clone, Copy, Debug, PartialEq, Eq)]
+#[derive(Clone, Copy, PartialEq, Eq)]
 pub(crate) enum Order<'a> {
     /// `servers N`, `servers N mirror`: a world of so many.
     Opens {

@@ -5,7 +5,7 @@ use messages::{Act, Node};
 
 /// What can happen to a client, its servers, a mirror and their files, but for a cut within a save. Any number may
 /// be given: those of no server, frame or write, and of no generation, are refused.
-#[derive(Clone, Debug, Drop)]
+#[derive(Clone, Drop)]
 pub enum PlainEvent {
     /// The client begins a run with this job file.
     Begin {
@@ -84,7 +84,7 @@ pub enum PlainEvent {
 }
 
 /// What can happen in a world.
-#[derive(Clone, Debug, Drop)]
+#[derive(Clone, Drop)]
 pub enum WorldEvent {
     /// This.
     Plain(PlainEvent),

@@ -10,7 +10,7 @@ use messages::Act;
 
 /// What a step of a node hands out, its frames apart: those are among the frames that were sent, from
 /// `first` on.
-#[derive(Debug, Drop)]
+#[derive(Drop)]
 pub(crate) struct Served {
     pub first: u64,
     pub sent: u64,

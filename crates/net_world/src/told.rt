@@ -10,7 +10,7 @@ use std::alloc::{AllocError, Global};
 use std::marker::Model;
 
 /// What is answered.
-#[derive(Debug, Drop)]
+#[derive(Drop)]
 pub enum WorldAnswer {
     /// Nothing more.
     Plain,
@@ -25,7 +25,7 @@ pub enum WorldAnswer {
 }
 
 /// The report of a check, in memory of its own, since it is much larger than any other answer.
-#[derive(Debug, Drop)]
+#[derive(Drop)]
 pub struct BoxedReport {
     report: Box<CheckReport>,
 }
@@ -59,7 +59,7 @@ impl BoxedReport {
 
 /// What is told of what has happened: what is answered, how many frames were sent, which are numbered
 /// from `first` on, and what a server asks of its caller.
-#[derive(Debug, Drop)]
+#[derive(Drop)]
 pub struct Told {
     pub answer: WorldAnswer,
     pub first: u64,

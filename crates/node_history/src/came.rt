@@ -9,7 +9,7 @@ use server_core::WriteEnd;
 use std::marker::Model;
 
 /// The bytes of a frame.
-#[derive(Debug, Drop)]
+#[derive(Drop)]
 pub struct FrameBytes {
     bytes: Vec<u8>,
 }
@@ -40,7 +40,7 @@ impl FrameBytes {
 
 /// What comes to a node: to a server what its workers ask and tell, to the client what its caller asks,
 /// and to both frames, cuts and restarts.
-#[derive(Debug, Drop)]
+#[derive(Drop)]
 pub enum Came {
     /// A frame is delivered.
     Frame(FrameBytes),

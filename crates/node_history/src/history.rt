@@ -20,7 +20,7 @@ use std::alloc::{AllocError, Global};
 use std::marker::Model;
 
 /// An entry, as it is kept: a worker's turn, where it is short, or the place of another among those.
-#[derive(Clone, Copy, Debug)]
+#[derive(Clone, Copy)]
 pub(crate) enum Row {
     Short(Short),
     Other(usize),
@@ -28,7 +28,6 @@ pub(crate) enum Row {
 
 /// Entries, the oldest first. What a worker asks or tells takes 32 bytes of it, and sends nothing; any other
 /// entry takes 200 more, and its frames.
-#[derive(Debug)]
 pub struct History {
     alloc: Global,
     rows: Vec<Row>,
@@ -61,7 +60,7 @@ impl Model for History {
 }
 
 /// An entry of a history that is lent.
-#[derive(Debug, Drop)]
+#[derive(Drop)]
 pub enum Lent<'a> {
     /// It is kept short, and was made anew.
     Made(Logged),

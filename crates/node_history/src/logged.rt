@@ -14,7 +14,6 @@ pub struct Turn {
 
 /// An entry of a node's history: whose turn it was, where it came from a seat; what came; what was
 /// answered; and the frames that were sent.
-#[derive(Debug)]
 pub struct Logged {
     pub by: Option<Turn>,
     pub came: Came,

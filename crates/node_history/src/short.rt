@@ -15,7 +15,7 @@ use server_core::WriteEnd;
 use std::alloc::Global;
 
 /// What a worker asked or told, and was answered.
-#[derive(Clone, Copy, Debug, PartialEq, Eq)]
+#[derive(Clone, Copy, PartialEq, Eq)]
 pub(crate) enum Deed {
     /// It asked for a write, and one was issued.
     Write,
@@ -33,7 +33,7 @@ pub(crate) enum Deed {
 
 /// An entry of a worker's turn, whose numbers are small. Where no write is told of, all of them but the
 /// job's are 0.
-#[derive(Clone, Copy, Debug, PartialEq, Eq)]
+#[derive(Clone, Copy, PartialEq, Eq)]
 pub(crate) struct Short {
     deed: Deed,
     seat: u8,

@@ -22,7 +22,7 @@ pub struct Placed {
 }
 
 /// For each block of a job its last completed write, and beside that the writes in flight.
-#[derive(Debug, Drop)]
+#[derive(Drop)]
 pub struct Expected {
     key: Key,
     rec: JobRecord,

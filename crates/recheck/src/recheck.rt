@@ -22,7 +22,7 @@ use verify_state::VerifyState;
 /// taken.
 ///
 /// Only making it takes memory.
-#[derive(Debug, Drop)]
+#[derive(Drop)]
 pub struct Recheck {
     expected: Expected,
     fatal: bool,

@@ -10,7 +10,7 @@ use std::marker::Model;
 
 /// How many blocks were checked, how many of them are faulty, and the first that are, at most
 /// [`MAX_LISTED`], which are noted in ascending order.
-#[derive(Debug, Drop)]
+#[derive(Drop)]
 pub struct Tally {
     next: u32,
     checked: u32,

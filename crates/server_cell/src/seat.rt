@@ -9,7 +9,6 @@ use std::marker::Model;
 
 /// A seat: its server, its number there, how many events it has applied, and the answer of the last. It
 /// can't be copied, and only a cell makes one and counts its events.
-#[derive(Debug)]
 pub struct Seat {
     server: ServerNo,
     number: u32,

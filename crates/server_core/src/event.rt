@@ -17,7 +17,7 @@ pub enum WriteEnd {
 
 /// What a server hears: packets, which come whole or in pieces, and what the workers that carry out its
 /// writes and checks ask and tell.
-#[derive(Debug, Drop)]
+#[derive(Drop)]
 pub enum Event {
     /// A packet is delivered.
     Deliver(Packet),

@@ -7,7 +7,7 @@ use messages::Frame;
 
 /// What comes to a server: frames from the network, and what the workers that carry out its writes and
 /// checks ask and tell.
-#[derive(Debug, Drop)]
+#[derive(Drop)]
 pub enum Input {
     /// A frame is delivered.
     Deliver(Frame),

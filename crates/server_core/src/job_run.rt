@@ -13,7 +13,7 @@ use messages::Act;
 use verify_state::VerifyState;
 
 /// How a run came to its end.
-#[derive(Clone, Copy, Debug, PartialEq, Eq)]
+#[derive(Clone, Copy, PartialEq, Eq)]
 pub(crate) enum End {
     /// A Trigger took the states of its jobs, and asked for this.
     Taken(Act),
@@ -22,7 +22,7 @@ pub(crate) enum End {
 }
 
 /// What is kept of a job of the present run.
-#[derive(Debug, Drop)]
+#[derive(Drop)]
 pub(crate) struct JobRun {
     pub engine: Engine,
     /// Whether a Trigger takes its state.

@@ -25,7 +25,7 @@ use messages::{Act, Asked, Body, Frames, Reason, Refusal};
 use std::alloc::{AllocError, Global};
 
 /// What a server keeps of its words in memory.
-#[derive(Debug, Drop)]
+#[derive(Drop)]
 pub(crate) struct Machine {
     pub alloc: Global,
     pub me: ServerNo,

@@ -18,7 +18,7 @@ use verify_state::VerifyState;
 
 /// The open check: that of the last Verify that was accepted since the server was restarted, with no
 /// accepted Start since.
-#[derive(Debug, Drop)]
+#[derive(Drop)]
 pub(crate) struct OpenCheck {
     run: RunNo,
     attempt: Attempt,

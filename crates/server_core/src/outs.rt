@@ -9,7 +9,7 @@ use messages::{Act, Frames};
 use std::alloc::Global;
 
 /// What a step hands out.
-#[derive(Debug, Drop)]
+#[derive(Drop)]
 pub struct Outs {
     /// The frames to send, in their order.
     pub frames: Frames,

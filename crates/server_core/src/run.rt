@@ -20,7 +20,7 @@ use std::marker::Model;
 use verify_state::VerifyState;
 
 /// The present run: that of the last Start that was accepted since the server was restarted.
-#[derive(Debug, Drop)]
+#[derive(Drop)]
 pub(crate) struct Run {
     number: RunNo,
     end: Option<End>,

@@ -15,7 +15,7 @@ use std::alloc::{AllocError, Global};
 use std::marker::Model;
 
 /// A set of writing jobs that is staged for a run: 1 to 16, each within its limits.
-#[derive(Debug, Drop)]
+#[derive(Drop)]
 pub(crate) struct StagedSet {
     run: RunNo,
     jobs: Jobs,

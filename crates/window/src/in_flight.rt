@@ -12,7 +12,7 @@ use std::marker::Model;
 
 /// Which of the last writes are in flight, and which of those are open. All lie within one window
 /// below the next number, so that number `k` has slot `k % window` for itself.
-#[derive(Debug, Drop)]
+#[derive(Drop)]
 pub(crate) struct InFlight {
     window: u64,
     issued: u64,

@@ -26,7 +26,6 @@ use std::marker::Model;
 ///
 /// Only making it and [`recent`](Window::recent) take memory, and only `recent` takes time that
 /// grows with the window.
-#[derive(Debug)]
 pub struct Window {
     depth: u64,
     in_flight: InFlight,

@@ -20,7 +20,7 @@ use std::sync::{Mutex, MutexGuard, Wait};
 use std::thread;
 
 /// What a worker is told that asks for the next write of a job.
-#[derive(Clone, Copy, Debug, PartialEq, Eq)]
+#[derive(Clone, Copy, PartialEq, Eq)]
 pub(crate) enum Asked {
     /// This write, with the settings of its job.
     Write(Ticket, Option<JobRecord>),
@@ -35,7 +35,7 @@ pub(crate) enum Asked {
 }
 
 /// How a write has ended that a worker carried out.
-#[derive(Clone, Copy, Debug, PartialEq, Eq)]
+#[derive(Clone, Copy, PartialEq, Eq)]
 pub(crate) struct Ended {
     pub ticket: Ticket,
     pub end: WriteEnd,

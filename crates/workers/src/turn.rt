@@ -16,7 +16,7 @@ use std::sync::{Mutex, Wait};
 
 /// What a worker has between its turns: the memory for a block, and the write that it carried out last, as
 /// long as its server isn't told of it.
-#[derive(Debug, Drop)]
+#[derive(Drop)]
 pub(crate) struct Desk {
     memory: Vec<u8>,
     last: Option<Ended>,
@@ -24,7 +24,7 @@ pub(crate) struct Desk {
 }
 
 /// What came of a job's turn.
-#[derive(Clone, Copy, Debug, PartialEq, Eq)]
+#[derive(Clone, Copy, PartialEq, Eq)]
 pub(crate) enum TurnEnd {
     /// A write was carried out, or has failed.
     Wrote,

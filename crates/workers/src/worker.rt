@@ -18,7 +18,7 @@ use std::thread;
 const STAY: u32 = 16;
 
 /// What came of a round.
-#[derive(Clone, Copy, Debug, PartialEq, Eq)]
+#[derive(Clone, Copy, PartialEq, Eq)]
 pub(crate) enum Round {
     /// No job has a write any more, or the server is off.
     Over,

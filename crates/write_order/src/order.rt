@@ -11,7 +11,7 @@ use std::alloc::{AllocError, Global};
 use std::marker::Model;
 
 /// How the block of the next write is found.
-#[derive(Debug, Drop)]
+#[derive(Drop)]
 enum Chooser {
     InTurn,
     WithMap(Pass),
@@ -25,7 +25,6 @@ enum Chooser {
 /// one word of xoshiro256++ a write, seeded with the job's seed (`randseed`), and picks with it
 /// from the blocks that its pass has left, or from all of them (`norandommap`). Which block a word
 /// picks is this project's own rule.
-#[derive(Debug)]
 pub struct Order {
     rec: JobRecord,
     issued: u64,

@@ -10,7 +10,7 @@ use std::marker::Model;
 ///
 /// The list names all blocks: first those that are left, and behind them what a new pass has
 /// at those indices. So a new pass begins with no list to fill.
-#[derive(Debug, Drop)]
+#[derive(Drop)]
 pub struct Pass {
     blocks: u32,
     left: u32,

@@ -8,7 +8,7 @@ use rand_xoshiro::rand_core::utils::NextWord;
 
 /// The generator's words from one of them on. The next four are drawn ahead, so that a place is
 /// there without a copy of the generator.
-#[derive(Debug, Drop)]
+#[derive(Drop)]
 pub struct Words {
     next: [u64; 4],
     generator: Xoshiro256PlusPlus,
