@@ -8,9 +8,9 @@ use Rattle.job_file.specs.declared.fault.JobFault.{JobFault}
 use Rattle.job_file.specs.declared.fault.JobFault.TheVariants.{TooLong}
 use Rattle.job_file.specs.Fault.{when}
 use Rattle.job_file.specs.JobSet.{refusal_of}
-use Rattle.printed.specs.declared.refusal.PrintedRefusal.{PrintedRefusal}
-use Rattle.bounded_input.specs.Input.{IsRead, ReadsAreFronts, ShortReadsAreWhole}
-use Rattle.printed.specs.Refusals.{RefusesText}
+use Rattle.program_io.specs.declared.refusal.PrintedRefusal.{PrintedRefusal}
+use Rattle.program_io.specs.Input.{IsRead, ReadsAreFronts, ShortReadsAreWhole}
+use Rattle.program_io.specs.Refusals.{RefusesText}
 use Rattle.commands.specs.Answer.{AreLinesOf, AnswersText}
 
 first_is_long : (test : Bool) (faults more : List JobFault) → test ≡ true → slice_get ((when test TooLong ++ faults) ++ more) 0 ≡ Some TooLong

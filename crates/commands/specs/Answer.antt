@@ -4,10 +4,10 @@ use Rattle.std.specs.Io.KnownBytes.{Appends}
 use Rattle.fc_base.specs.declared.fault.Fault.TheVariants.{JobNoMemory, ReadError}
 use Rattle.job_file.specs.declared.job.JobSet.{JobSet}
 use Rattle.job_file.specs.JobSet.{refusal_of, IsSetOf}
-use Rattle.printed.specs.declared.refusal.PrintedRefusal.{PrintedRefusal}
-use Rattle.printed.specs.Words.{with_line_feed}
+use Rattle.program_io.specs.declared.refusal.PrintedRefusal.{PrintedRefusal}
+use Rattle.program_io.specs.Words.{with_line_feed}
 use Rattle.commands.specs.Lines.{set_lines}
-use Rattle.printed.specs.Refusals.{plain, refusal_line, RefusesText}
+use Rattle.program_io.specs.Refusals.{plain, refusal_line, RefusesText}
 
 -- The text has no fault, and these are the lines of its set.
 pub record AreLinesOf (lines : List ℕ) (text : List ℕ) : Type 0 where

@@ -11,7 +11,7 @@ use Rattle.job_file.specs.declared.job.JobSet.{JobSet}
 use Rattle.job_file.specs.declared.job.LineNote.{LineNote}
 use Rattle.job_file.specs.declared.job.Phase.{Phase}
 use Rattle.job_file.specs.declared.job.Phase.TheVariants.{Read, Write}
-use Rattle.printed.specs.Words.{with_blanks_between, with_line_feed}
+use Rattle.program_io.specs.Words.{with_blanks_between, with_line_feed}
 
 -- The order in which a job writes its blocks.
 abbrev pub order_word : Kind → List ℕ

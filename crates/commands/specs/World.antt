@@ -3,8 +3,8 @@ use Rattle.std.specs.Prelude.{◌⊎◌, ℕ, List, Option}
 use Rattle.fc_base.specs.declared.fault.Fault.{Fault}
 use Rattle.fc_base.specs.declared.fault.Fault.TheVariants.{ReadError, NoMemory}
 use Rattle.net_script.specs.Runs.{HasRun}
-use Rattle.printed.specs.Words.{with_line_feed, Finishes}
-use Rattle.printed.specs.Refusals.{plain, refusal_line}
+use Rattle.program_io.specs.Words.{with_line_feed, Finishes}
+use Rattle.program_io.specs.Refusals.{plain, refusal_line}
 
 -- A script that was not read: the one line of this refusal is written.
 abbrev pub RefusesScript : Fault → Option (List ℕ) → Option (List ℕ) → ℕ → Type 0

@@ -2,14 +2,13 @@
 
 ghost use Rattle.std.specs.Prelude.{◌≡◌, ◌⊎◌, ◌+◌, IfOk, OnOk, IfSome, string_bytes};
 ghost use Rattle.std.specs.Io.KnownBytes.{Appends};
-ghost use Rattle.bounded_input.specs.Input.{HasRead};
+ghost use Rattle.program_io.specs.Input.{HasRead};
 ghost use Rattle.commands.specs.Answer.{AnswersText, WritesLinesOf, WritesRefusalOf};
 
 use crate::lines::lines_of_set;
-use bounded_input::{read_input, read_law};
 use fc_base::MAX_TEXT;
 use job_file::parse;
-use printed::{PrintedRefusal, REFUSED, write_refusal};
+use program_io::{PrintedRefusal, REFUSED, read_input, read_law, write_refusal};
 use std::alloc::Global;
 use std::io;
 use std::io::{Read, Write};

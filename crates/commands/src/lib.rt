@@ -6,7 +6,7 @@
 //!     Some(Request::Jobs) => run_jobs(alloc, &mut reader, &mut writer),
 //!     Some(Request::World) => run_world(alloc, &mut reader, &mut writer),
 //!     Some(Request::Live { size, path }) => ..
-//!     None => printed::refuse_words(&mut writer),
+//!     None => program_io::refuse_words(&mut writer),
 //! }
 //! ```
 //!

@@ -6,7 +6,7 @@ ghost use Rattle.commands.specs.World.{AnswersScript, RefusesScript};
 
 use fc_base::Fault;
 use net_script::{ScriptFault, run_script};
-use printed::{PrintedRefusal, REFUSED, write_refusal};
+use program_io::{PrintedRefusal, REFUSED, write_refusal};
 use std::alloc::Global;
 use std::io;
 use std::io::{BufWriter, ErrorKind, Read, Write};

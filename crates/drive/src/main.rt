@@ -5,7 +5,7 @@
 ghost use Rattle.targets.specs.Command.{IsRequest};
 
 use fc_base::Fault;
-use printed::{PrintedRefusal, REFUSED, refuse_words};
+use program_io::{PrintedRefusal, REFUSED, refuse_words};
 use std::io;
 use std::io::{BufReader, BufWriter, Write};
 use std::process::ExitCode;

@@ -7,7 +7,7 @@ ghost use Rattle.commands.specs.Command.{IsFleetSize};
 use commands::{FleetSize, Request, read_words, refuse_script, run_in_blocks, run_jobs};
 use fc_base::Fault;
 use live::{FileTrigger, run_live};
-use printed::{REFUSED, refuse_words};
+use program_io::{REFUSED, refuse_words};
 use std::fs::Files;
 use std::io;
 use std::io::BufWriter;

@@ -1,9 +1,9 @@
 -- What the front of an input that was read comes to is what the whole of it comes to.
 use Rattle.std.proofs.Common.{inl, inr, ℕ, ◌+◌, ◌≤◌, List, length, Option, None, Some, Result, Ok, Err, IfOk, IfErr, IfSome, subst, arith}
 use Rattle.std.proofs.lemmas.Bool.{cases_lt}
-use Rattle.bounded_input.specs.Input.{IsRead, ReadsAreFronts, ShortReadsAreWhole}
+use Rattle.program_io.specs.Input.{IsRead, ReadsAreFronts, ShortReadsAreWhole}
 use Rattle.live.specs.declared.run.TheConstants.{MAX_INPUT}
-use Rattle.printed.specs.declared.refusal.PrintedRefusal.{PrintedRefusal}
+use Rattle.program_io.specs.declared.refusal.PrintedRefusal.{PrintedRefusal}
 use Rattle.live.specs.Live.{HasSoundTexts, IsLiveRefusal}
 
 -- What holds of the front holds of the whole, if it does where the front is all that may be read.

@@ -7,15 +7,15 @@ use Rattle.fc_base.specs.declared.report.ReportParts.{ReportParts}
 use Rattle.job_file.specs.declared.job.Phase.{Phase}
 use Rattle.job_file.specs.declared.job.Phase.TheVariants.{Write, Read}
 use Rattle.job_file.specs.JobSet.{refusal_of, phase_in}
-use Rattle.printed.specs.Reports.{report_words}
+use Rattle.program_io.specs.Reports.{report_words}
 use Rattle.fleet_threads.specs.declared.fault.FleetFault.{FleetFault}
 use Rattle.fleet_threads.specs.declared.fault.FleetFault.TheVariants.{Refused}
 use Rattle.fleet.specs.declared.ends.CheckEnd.{CheckEnd}
 use Rattle.fleet.specs.Heard.{AreOfOneRun}
 use Rattle.live.specs.declared.run.TheConstants.{MAX_INPUT}
-use Rattle.printed.specs.declared.refusal.PrintedRefusal.{PrintedRefusal}
-use Rattle.printed.specs.Words.{with_blanks_between, with_line_feed, Finishes}
-use Rattle.printed.specs.Refusals.{plain, refusal_line, RefusesText}
+use Rattle.program_io.specs.declared.refusal.PrintedRefusal.{PrintedRefusal}
+use Rattle.program_io.specs.Words.{with_blanks_between, with_line_feed, Finishes}
+use Rattle.program_io.specs.Refusals.{plain, refusal_line, RefusesText}
 use Rattle.live.specs.Texts.{AreTexts}
 
 -- The words of what came of a job: its report, or that its state doesn't fit.

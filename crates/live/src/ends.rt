@@ -2,13 +2,13 @@
 
 ghost use Rattle.std.specs.Prelude.{◌≡◌, OnOk, Some, None};
 ghost use Rattle.std.specs.Io.KnownBytes.{Appends};
-ghost use Rattle.printed.specs.Words.{with_blanks_between, with_line_feed};
+ghost use Rattle.program_io.specs.Words.{with_blanks_between, with_line_feed};
 ghost use Rattle.live.specs.Live.{end_words, end_line, end_lines, ends_text, ends_status, has_misfit, is_faulty, counts_faults};
 
 use crate::run::{FAULTY, PRINTED};
 use fc_base::{CheckReport, Fault};
 use fleet::CheckEnd;
-use printed::{REFUSED, write_report_words};
+use program_io::{REFUSED, write_report_words};
 use std::io;
 use std::io::Write;
 

@@ -1,19 +1,18 @@
 //! `fiocut live`: a writing and a reading text in, the reports of a run by threads out.
 
 ghost use Rattle.std.specs.Prelude.{◌≡◌, ◌+◌, IfOk, IfErr, IfSome};
-ghost use Rattle.bounded_input.specs.Input.{HasRead};
+ghost use Rattle.program_io.specs.Input.{HasRead};
 ghost use Rattle.job_file.specs.declared.job.Phase.TheVariants.{Write as Writes, Read as Reads};
 ghost use Rattle.commands.specs.Command.{IsFleetSize};
 ghost use Rattle.live.specs.Live.{IsSound, IsUnfit, IsRefusedFor, IsLiveRefusal, RunsTexts, AnswersLive, of_fleet};
 
 use crate::ends::{status_of, write_ends};
 use crate::texts::texts_of;
-use bounded_input::{read_input, read_law};
 use commands::FleetSize;
 use fc_base::{Fault, MAX_TEXT};
 use fleet::{CheckEnd, FleetFault, Trigger, run_fleet};
 use job_file::{Phase, parse};
-use printed::{PrintedRefusal, REFUSED, write_refusal};
+use program_io::{PrintedRefusal, REFUSED, read_input, read_law, write_refusal};
 use std::alloc::Global;
 use std::io;
 use std::io::{Read, Write};

@@ -8,7 +8,7 @@ use Rattle.std.proofs.lemmas.List.Splits.{slice_split_first, length-slice_split}
 use Rattle.job_file.proofs.Cut.{whole_line}
 use Rattle.net_script.specs.Words.{is_line_feed, ended_parts, lines_of}
 use Rattle.net_script.proofs.WordLemmas.{one_more}
-use Rattle.printed.specs.Words.{with_line_feed}
+use Rattle.program_io.specs.Words.{with_line_feed}
 
 -- Each part before the last is a line.
 ended_more : (x : List ℕ) (parts : List (List ℕ)) → 0 < length parts → ended_parts (x ∷ parts) ≡ x ∷ ended_parts parts

@@ -10,7 +10,7 @@ use Rattle.messages.specs.declared.frame.Frame.{Frame}
 use Rattle.messages.specs.declared.reading.look.FrameLook.{FrameLook}
 use Rattle.messages.specs.FrameBytes.{frame_spelling}
 use Rattle.messages.specs.Looks.{look_of, LooksAtFrames}
-use Rattle.printed.specs.Words.{with_line_feed}
+use Rattle.program_io.specs.Words.{with_line_feed}
 use Rattle.net_script.specs.Printed.{frame_line, sent_line, sent_lines}
 use Rattle.net_script.specs.Told.{AreBytesOf}
 

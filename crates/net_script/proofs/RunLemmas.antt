@@ -13,7 +13,7 @@ use Rattle.net_world.specs.World.{world}
 use Rattle.net_script.specs.declared.command.Command.{Command}
 use Rattle.net_script.specs.declared.running.commands.Ran.TheVariants.{Answered}
 use Rattle.net_script.specs.Commands.{happens}
-use Rattle.printed.specs.Words.{with_line_feed}
+use Rattle.program_io.specs.Words.{with_line_feed}
 use Rattle.net_script.specs.Orders.{Order, Asks}
 use Rattle.net_script.specs.Printed.{lines_at, refusal_line}
 use Rattle.net_script.specs.Script.{lines_in, are_commands, some_faults, finds_fault, status_in}

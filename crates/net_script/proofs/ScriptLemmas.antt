@@ -7,9 +7,9 @@ use Rattle.std.proofs.KnownBytes.{Appends-trans, Appends-kept}
 use Rattle.std.proofs.lemmas.Bool.{cases_lt}
 use Rattle.std.proofs.lemmas.Bool.Decides.{nat_tests}
 use Rattle.fc_base.specs.declared.fault.Fault.TheVariants.{NoMemory}
-use Rattle.bounded_input.specs.Input.{IsRead}
+use Rattle.program_io.specs.Input.{IsRead}
 use Rattle.net_world.specs.Setup.{Setup}
-use Rattle.printed.specs.Words.{with_line_feed}
+use Rattle.program_io.specs.Words.{with_line_feed}
 use Rattle.net_script.specs.Orders.{Order, Opens, orders_of}
 use Rattle.net_script.specs.Printed.{refusal_line}
 use Rattle.net_script.specs.Script.{are_commands, lines_in, lines_of_orders, status_in, status_of_orders, reads_well, is_too_long, text_of, status_of}

@@ -3,7 +3,7 @@ use Rattle.std.proofs.Common.{◌≡◌, ◌⊎◌, inl, inr, ℕ, ◌+◌, true
 use Rattle.std.proofs.Common.{◌∷◌, ◌++◌, take, append_assoc, append-nil, sym, ◌∙◌, ap, suc, arith}
 use Rattle.std.specs.List.{list_any, flat_map, position_or_len}
 use Rattle.net_script.specs.Words.{lines_of}
-use Rattle.printed.specs.Words.{with_line_feed}
+use Rattle.program_io.specs.Words.{with_line_feed}
 use Rattle.net_script.specs.Orders.{closes, text_in}
 
 -- The front of what stands below is read: no line of it closes the text.

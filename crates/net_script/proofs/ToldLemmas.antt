@@ -24,7 +24,7 @@ use Rattle.net_world.specs.Ends.{Faults}
 use Rattle.net_world.specs.World as worlds
 use Rattle.net_world.specs.World.{world, and_outcome, answer, act, told_by, told_of_happening}
 use Rattle.net_world.specs.WorldLaws.{SentAreFrames}
-use Rattle.printed.specs.Words.{with_line_feed}
+use Rattle.program_io.specs.Words.{with_line_feed}
 use Rattle.net_script.specs.Printed.{answer_line, refusal_line, has_faults, sent_lines, frames_of_change, addressee, act_lines, lines_by}
 use Rattle.net_script.specs.Script.{tells_faults}
 use Rattle.net_script.specs.Told.{AreBytesOf}

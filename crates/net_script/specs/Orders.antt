@@ -1,7 +1,7 @@
 -- What a script asks for, in its order.
 use Rattle.std.specs.Prelude.{ℕ, ◌+◌, Bool, true, false, not, List, [], ◌∷◌, ◌++◌, length, bytes_eq, codes, if◌then◌else◌}
 use Rattle.std.specs.List.{list_any, before_first, flat_map}
-use Rattle.printed.specs.Words.{with_line_feed}
+use Rattle.program_io.specs.Words.{with_line_feed}
 use Rattle.net_world.specs.Setup.{Setup, setup_of}
 use Rattle.net_script.specs.declared.command.Saving.{Saving}
 use Rattle.net_script.specs.declared.command.Saving.TheVariants.{Begin, Verify}

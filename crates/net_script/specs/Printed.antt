@@ -2,9 +2,9 @@
 use Rattle.std.specs.Prelude.{ℕ, ◌+◌, Bool, false, nat_lt, List, [], ◌∷◌, ◌++◌, length, Option, Some, None, codes, decimal, slice_get}
 use Rattle.std.specs.Option.{option_map}
 use Rattle.fc_base.specs.declared.fault.Fault.{Fault}
-use Rattle.printed.specs.Words.{with_blanks_between}
-use Rattle.printed.specs.Reports.{report_words}
-use Rattle.printed.specs.Refusals as printed
+use Rattle.program_io.specs.Words.{with_blanks_between}
+use Rattle.program_io.specs.Reports.{report_words}
+use Rattle.program_io.specs.Refusals as printed
 use Rattle.engine.specs.declared.issue.Issue.{Issue}
 use Rattle.engine.specs.declared.issue.Issue.TheVariants.{Write, Full, Held, Overlap, Finished, Stopped}
 use Rattle.messages.specs.declared.node.Node.{Node}

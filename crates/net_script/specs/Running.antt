@@ -12,7 +12,7 @@ use Rattle.net_world.specs.Stands.{StandsFor}
 use Rattle.net_world.specs.World.{world}
 use Rattle.net_script.specs.declared.running.commands.Ran.{Ran}
 use Rattle.net_script.specs.declared.running.commands.Ran.TheVariants.{Answered, Lacked}
-use Rattle.printed.specs.Words.{with_line_feed}
+use Rattle.program_io.specs.Words.{with_line_feed}
 use Rattle.net_script.specs.Printed.{lines_at, refusal_line}
 use Rattle.net_script.specs.Script.{finds_fault}
 

@@ -3,11 +3,11 @@ use Rattle.std.specs.Prelude.{◌≡◌, ◌⊎◌, ℕ, Bool, false, IsTrue, Li
 use Rattle.std.specs.List.{flat_map}
 use Rattle.std.specs.Io.KnownBytes.{Keeps}
 use Rattle.fc_base.specs.declared.fault.Fault.TheVariants.{NoMemory}
-use Rattle.bounded_input.specs.declared.input.InputFault.{InputFault as Unread}
-use Rattle.bounded_input.specs.declared.input.InputFault.TheVariants as unread
+use Rattle.program_io.specs.declared.input.InputFault.{InputFault as Unread}
+use Rattle.program_io.specs.declared.input.InputFault.TheVariants as unread
 use Rattle.net_script.specs.declared.script_fault.ScriptFault.{ScriptFault}
 use Rattle.net_script.specs.declared.script_fault.ScriptFault.TheVariants as faults
-use Rattle.printed.specs.Words.{with_line_feed, Finishes}
+use Rattle.program_io.specs.Words.{with_line_feed, Finishes}
 use Rattle.net_script.specs.Orders.{Order, orders_of}
 use Rattle.net_script.specs.Printed.{refusal_line}
 use Rattle.net_script.specs.Script.{lines_of_orders, reads_well, text_of, status_of, is_too_long}

@@ -7,7 +7,7 @@ use Rattle.net_world.specs.Happenings.{Happening}
 use Rattle.net_world.specs.Outcomes.{Outcome, Does, Refuses, Drops, outcome}
 use Rattle.net_world.specs.World.{world, answer}
 use Rattle.net_script.specs.Commands.{happens}
-use Rattle.printed.specs.Words.{with_line_feed}
+use Rattle.program_io.specs.Words.{with_line_feed}
 use Rattle.net_script.specs.Orders.{Order, Opens, Asks, Fails, orders_of}
 use Rattle.net_script.specs.Printed.{lines_at, bad_line, has_faults}
 

@@ -3,7 +3,7 @@
 ghost use Rattle.std.specs.Prelude.{◌≡◌, ◌⊎◌, ◌+◌, ◌<◌, ◌≤◌, ⊤, [], ◌∷◌, ◌++◌, true, false, length, MatchOption, if◌then◌else◌};
 ghost use Rattle.std.specs.List.{list_any, position_or_len};
 ghost use Rattle.net_script.specs.Words.{is_line_feed, lines_of};
-ghost use Rattle.printed.specs.Words.{with_line_feed};
+ghost use Rattle.program_io.specs.Words.{with_line_feed};
 ghost use Rattle.net_script.specs.Orders.{Asks, closes, text_in, with_text, has_text_in, has_text, orders_from, orders_of};
 
 use crate::command::{Command, Saving};

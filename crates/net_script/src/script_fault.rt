@@ -2,7 +2,7 @@
 
 ghost use Rattle.std.specs.Prelude.{◌≡◌};
 
-use bounded_input::InputFault;
+use program_io::InputFault;
 use std::io;
 use thiserror::Error;
 

@@ -6,7 +6,7 @@ ghost use Rattle.std.specs.Io.KnownBytes.{Appends};
 ghost use Rattle.messages.specs.declared.frame.Frame.{Frame};
 ghost use Rattle.messages.specs.Looks.{LooksAtFrames};
 ghost use Rattle.net_world.specs.Sending.{sent_in};
-ghost use Rattle.printed.specs.Words.{with_line_feed};
+ghost use Rattle.program_io.specs.Words.{with_line_feed};
 ghost use Rattle.net_script.specs.Printed.{answer_line, has_faults, act_lines, sent_lines};
 ghost use Rattle.net_script.specs.Told.{AreBytesOf};
 
@@ -15,7 +15,7 @@ use engine::Issue;
 use fc_base::CheckReport;
 use messages::{Act, Node, look_at};
 use net_world::{Sent, Told, WorldAnswer};
-use printed::write_report_words;
+use program_io::write_report_words;
 use std::io;
 use std::io::{ErrorKind, Write};
 

@@ -11,8 +11,8 @@ use Rattle.job_file.specs.declared.job.Phase.TheVariants.{Read, Write}
 use Rattle.job_file.specs.JobSet.{phase_in}
 use Rattle.verify_state.specs.State.{State}
 use Rattle.engine.specs.Running.{Origin}
-use Rattle.printed.specs.declared.refusal.PrintedRefusal.{PrintedRefusal}
-use Rattle.printed.specs.Refusals.{plain}
+use Rattle.program_io.specs.declared.refusal.PrintedRefusal.{PrintedRefusal}
+use Rattle.program_io.specs.Refusals.{plain}
 use Rattle.targets.specs.declared.asked.Asked.{Asked}
 use Rattle.targets.specs.declared.writing.RunEnd.{RunEnd}
 use Rattle.targets.specs.declared.drive_check.TheConstants.{MAX_STATE}

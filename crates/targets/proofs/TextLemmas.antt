@@ -8,7 +8,7 @@ use Rattle.std.proofs.lemmas.List.{take_all, length-take-le}
 use Rattle.fc_base.specs.Layouts.{bytes_of, number_in}
 use Rattle.fc_base.specs.declared.fault.Fault.{Fault}
 use Rattle.fc_base.specs.declared.fault.Fault.TheVariants as faults
-use Rattle.bounded_input.specs.Input.{IsRead}
+use Rattle.program_io.specs.Input.{IsRead}
 use Rattle.targets.specs.Texts.{IsText, HasNoText, FillsAll}
 
 -- A buffer that is filled holds what was read.

@@ -9,9 +9,9 @@ use Rattle.job_file.specs.declared.job.Phase.TheVariants.{Write}
 use Rattle.job_file.specs.JobSet.{refusal_of, jobs_of, phase_in}
 use Rattle.verify_state.specs.Spelling.{spelling}
 use Rattle.engine.specs.Running.{Origin}
-use Rattle.printed.specs.declared.refusal.PrintedRefusal.{PrintedRefusal}
-use Rattle.printed.specs.Words.{with_line_feed, Finishes}
-use Rattle.printed.specs.Refusals.{plain, refusal_line, RefusesText}
+use Rattle.program_io.specs.declared.refusal.PrintedRefusal.{PrintedRefusal}
+use Rattle.program_io.specs.Words.{with_line_feed, Finishes}
+use Rattle.program_io.specs.Refusals.{plain, refusal_line, RefusesText}
 use Rattle.targets.specs.declared.asked.Asked.{Asked}
 use Rattle.targets.specs.declared.writing.RunEnd.{RunEnd}
 use Rattle.targets.specs.declared.writing.RunEnd.TheVariants.{Taken, Refused}

@@ -8,10 +8,10 @@ use Rattle.fc_base.specs.declared.report.ReportParts.{ReportParts}
 use Rattle.job_file.specs.declared.job.Job.{Job}
 use Rattle.verify_state.specs.State.{State}
 use Rattle.verify_state.specs.Reading.{Answers}
-use Rattle.printed.specs.declared.refusal.PrintedRefusal.{PrintedRefusal}
-use Rattle.printed.specs.Words.{with_blanks_between, with_line_feed, Finishes}
-use Rattle.printed.specs.Refusals.{plain}
-use Rattle.printed.specs.Reports.{report_words}
+use Rattle.program_io.specs.declared.refusal.PrintedRefusal.{PrintedRefusal}
+use Rattle.program_io.specs.Words.{with_blanks_between, with_line_feed, Finishes}
+use Rattle.program_io.specs.Refusals.{plain}
+use Rattle.program_io.specs.Reports.{report_words}
 use Rattle.targets.specs.declared.drive_check.TheConstants.{MAX_STATE}
 use Rattle.targets.specs.Texts.{IsText, HasNoText}
 use Rattle.targets.specs.Jobs.{key_of, BeginsWithJob, GivesNoJob, Refuses}

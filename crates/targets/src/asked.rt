@@ -6,7 +6,7 @@ ghost use Rattle.targets.specs.Jobs.{key_of, GivesNoJob, HasNoJob, IsAsked, Read
 use crate::texts::read_text;
 use fc_base::{Fault, JobNo, JobRecord, Key, MAX_TEXT, RunNo, ServerNo};
 use job_file::{Phase, parse};
-use printed::PrintedRefusal;
+use program_io::PrintedRefusal;
 use std::alloc::Global;
 use std::io::Read;
 

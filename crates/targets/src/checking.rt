@@ -4,8 +4,8 @@ ghost use Rattle.std.specs.Prelude.{IfSome};
 ghost use Rattle.std.specs.Option.{option_copied};
 ghost use Rattle.targets.specs.Checks.{Checks};
 
-use bounded_input::fill;
 use fc_base::{CheckReport, Fault, JobRecord, Key};
+use program_io::fill;
 use recheck::{Recheck, faults_end_checks};
 use std::alloc::Global;
 use std::io::Read;

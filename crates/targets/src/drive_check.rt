@@ -2,7 +2,7 @@
 
 ghost use Rattle.std.specs.Prelude.{◌≡◌, IfOk, IfErr, IfSome, OnOk, Ok};
 ghost use Rattle.std.specs.Io.KnownBytes.{Appends};
-ghost use Rattle.printed.specs.Words.{with_line_feed};
+ghost use Rattle.program_io.specs.Words.{with_line_feed};
 ghost use Rattle.targets.specs.Reports.{CannotCheck, ChecksInput, ChecksJob, HasNoState, IsStateIn, report_line, report_status};
 
 use crate::asked::{key_of, read_job};
@@ -10,7 +10,7 @@ use crate::checking::check_blocks;
 use crate::drive_write::refuse;
 use crate::texts::read_text;
 use fc_base::{CheckReport, Fault, JobNo, ReportEnd, RunNo};
-use printed::{PrintedRefusal, write_report_words};
+use program_io::{PrintedRefusal, write_report_words};
 use std::alloc::Global;
 use std::io;
 use std::io::{Read, Write};

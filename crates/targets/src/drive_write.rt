@@ -10,7 +10,7 @@ use crate::asked::{key_of, read_job};
 use crate::writing::{RunEnd, write_blocks};
 use fc_base::{Fault, JobNo, JobRecord, Key, RunNo};
 use job_file::Phase;
-use printed::{PrintedRefusal, REFUSED, write_refusal};
+use program_io::{PrintedRefusal, REFUSED, write_refusal};
 use std::alloc::Global;
 use std::io;
 use std::io::{BufReader, Read, Write};

@@ -5,8 +5,8 @@ ghost use Rattle.std.specs.Int.{w32};
 ghost use Rattle.fc_base.specs.Layouts.{bytes_of};
 ghost use Rattle.targets.specs.Texts.{IsText, HasNoText, FillsAll};
 
-use bounded_input::fill;
 use fc_base::{Fault, split_u32};
+use program_io::fill;
 use std::alloc::Global;
 use std::io::Read;
 

@@ -10,9 +10,9 @@ ghost use Rattle.targets.specs.Writing.{ReadsNotice, OrdersAll, steps_left, Ends
 
 use crate::notice::{NOTICE, Notice, notice_in};
 use crate::order::put_order;
-use bounded_input::fill;
 use engine::{Engine, Issue};
 use fc_base::{Fault, JobRecord, Key, Seq};
+use program_io::fill;
 use std::alloc::{AllocError, Global};
 use std::io;
 use std::io::{BufReader, Read, Write};

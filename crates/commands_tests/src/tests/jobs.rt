@@ -3,7 +3,7 @@
 use super::text_of_length;
 use commands::run_jobs;
 use fake_io::{Held, Source, held_output, in_steps, page_with, source_of};
-use printed::refuse_words;
+use program_io::refuse_words;
 use std::alloc::{AllocError, Global};
 use std::io;
 use std::test::Fail;

@@ -1,8 +1,8 @@
-//! The bounds of reading by `bounded_input`, which inputs are read at all, and that want of memory is
+//! The bounds of reading by `program_io`, which inputs are read at all, and that want of memory is
 //! told as such.
 
-use bounded_input::{InputFault, read_input};
 use fake_io::{Source, failing, failing_at, in_steps, interrupted, source_of};
+use program_io::{InputFault, read_input};
 use std::alloc::Global;
 use std::process::Abort;
 

@@ -1,6 +1,6 @@
 use Rattle.std.proofs.Common.{◌≡◌, ℕ, List, ◌++◌, rules, ap, ◌∙◌, string_bytes}
 use Rattle.job_file.specs.declared.job.Job.{Job}
-use Rattle.printed.specs.Words.{with_line_feed}
+use Rattle.program_io.specs.Words.{with_line_feed}
 use Rattle.commands.specs.Lines.{job_line}
 use Rattle.commands.proofs.Numbered.{texts_more, texts_all}
 use Rattle.commands.proofs.lines.push_jobs.Goals as goal

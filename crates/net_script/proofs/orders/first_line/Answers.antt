@@ -1,7 +1,7 @@
 use Rattle.std.proofs.Common.{◌+◌, ◌∷◌, ◌++◌, inl, inr, take, refl, sym, ◌∙◌, ap}
 use Rattle.std.proofs.lemmas.List.{take_rest}
 use Rattle.net_script.specs.Words.{lines_of}
-use Rattle.printed.specs.Words.{with_line_feed}
+use Rattle.program_io.specs.Words.{with_line_feed}
 use Rattle.net_script.proofs.LineLemmas.{first_of_lines, line_whole, first_bytes}
 use Rattle.net_script.proofs.orders.first_line.Goals as goal
 

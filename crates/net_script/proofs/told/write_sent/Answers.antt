@@ -4,7 +4,7 @@ use Rattle.std.specs.Io.KnownBytes.{Appends}
 use Rattle.std.proofs.KnownBytes.{Appends-trans}
 use Rattle.std.proofs.lemmas.List.{take_all}
 use Rattle.net_world.specs.Sending.{sent_in}
-use Rattle.printed.specs.Words.{with_line_feed}
+use Rattle.program_io.specs.Words.{with_line_feed}
 use Rattle.net_script.specs.Printed.{sent_lines}
 use Rattle.net_script.proofs.LinesLemmas.{sent_more}
 use Rattle.net_script.proofs.told.write_sent.Goals as goal

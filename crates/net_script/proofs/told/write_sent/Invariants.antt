@@ -3,7 +3,7 @@ use Rattle.std.specs.List.{flat_map}
 use Rattle.std.specs.Io.KnownBytes.{Appends}
 use Rattle.messages.specs.declared.frame.Frame.{Frame}
 use Rattle.net_world.specs.Sending.{sent_in}
-use Rattle.printed.specs.Words.{with_line_feed}
+use Rattle.program_io.specs.Words.{with_line_feed}
 use Rattle.net_script.specs.Printed.{sent_lines}
 use Rattle.net_script.specs.Told.{AreBytesOf}
 use Rattle.net_script.proofs.told.write_sent.Given as goal

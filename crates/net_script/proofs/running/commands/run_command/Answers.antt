@@ -4,7 +4,7 @@ use Rattle.std.specs.Io.KnownBytes.{Appends}
 use Rattle.fc_base.specs.Fault.{sort_of}
 use Rattle.net_world.specs.World.{world}
 use Rattle.net_script.specs.Commands.{happens}
-use Rattle.printed.specs.Words.{with_line_feed}
+use Rattle.program_io.specs.Words.{with_line_feed}
 use Rattle.net_script.specs.Printed.{answer_line, sent_lines, act_lines}
 use Rattle.net_script.specs.Running.{HasCome, refused_by}
 use Rattle.net_script.proofs.ScriptLemmas.{if_ok_is}

@@ -1,0 +1,4 @@
+pub mod Input
+pub mod Words
+pub mod Refusals
+pub mod Reports
