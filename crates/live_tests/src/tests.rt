@@ -1,4 +1,4 @@
-//! What no clause shows of nodes under locks and of threads.
+//! What no clause shows of nodes under locks, of threads, and of the commands that run them.
 
 mod assemblies;
 mod client_cells;
@@ -6,3 +6,4 @@ mod crews;
 mod fleets;
 mod nodes;
 mod server_cells;
+mod subcommands;

@@ -1,5 +1,5 @@
-//! What no clause shows: the printed texts, the exit statuses, the bounds of reading, and which
-//! command lines are read.
+//! What no clause shows of `commands` and `live`: the printed texts, the exit statuses, the bounds of
+//! reading, and which command lines are read.
 
 mod jobs;
 mod live_runs;
