@@ -6,7 +6,7 @@ ghost use Rattle.client_cell.specs.Tasks.{came_by};
 use node_history::Came;
 
 /// What happens to the client without the network.
-#[derive(Clone, Copy, Debug, PartialEq, Eq)]
+#[derive(Clone, Copy, PartialEq, Eq)]
 pub enum ClientTask {
     /// The client loses its power.
     Cut,

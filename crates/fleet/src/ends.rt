@@ -20,7 +20,7 @@ use std::alloc::Global;
 
 /// How the check of a job has ended: by its report, or by none, where the job is of another shape than
 /// the state that was kept of it (`Misfit`).
-#[derive(Clone, Copy, Debug)]
+#[derive(Clone, Copy)]
 pub struct CheckEnd {
     pub server: ServerNo,
     pub job: JobNo,

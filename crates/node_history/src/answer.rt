@@ -7,7 +7,7 @@ use fc_base::{Attempt, RunNo};
 use messages::Act;
 
 /// What a node answers to what comes.
-#[derive(Clone, Copy, Debug, PartialEq, Eq)]
+#[derive(Clone, Copy, PartialEq, Eq)]
 pub enum Answer {
     /// Nothing more.
     Plain,
@@ -20,7 +20,7 @@ pub enum Answer {
 }
 
 /// An answer, and what a server asks of its caller.
-#[derive(Clone, Copy, Debug, PartialEq, Eq)]
+#[derive(Clone, Copy, PartialEq, Eq)]
 pub struct Said {
     pub answer: Answer,
     pub act: Act,
@@ -28,7 +28,7 @@ pub struct Said {
 
 /// What a caller is told: the answer, how many frames were sent, which the hub numbers from `first` on,
 /// and what a server asks of it. Both numbers are 0 for what sends nothing over a hub.
-#[derive(Clone, Copy, Debug, PartialEq, Eq)]
+#[derive(Clone, Copy, PartialEq, Eq)]
 pub struct CallerAnswer {
     pub answer: Answer,
     pub first: u64,

@@ -6,7 +6,7 @@ use fc_base::Fault;
 use messages::Frames;
 
 /// A seat's event: which seat of the server, and the how manieth event of that seat, from 0 on.
-#[derive(Clone, Copy, Debug, PartialEq, Eq)]
+#[derive(Clone, Copy, PartialEq, Eq)]
 pub struct Turn {
     pub seat: u32,
     pub number: u64,

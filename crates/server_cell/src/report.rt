@@ -3,7 +3,7 @@
 use fc_base::{Attempt, CheckReport, JobNo};
 
 /// The report of a job's check, made in this boot and for this attempt.
-#[derive(Clone, Copy, Debug)]
+#[derive(Clone, Copy)]
 pub struct Report {
     pub boot: u64,
     pub attempt: Attempt,

@@ -9,7 +9,7 @@ use node_history::Came;
 use server_core::WriteEnd;
 
 /// What is asked of a server from one of its seats.
-#[derive(Clone, Copy, Debug, PartialEq, Eq)]
+#[derive(Clone, Copy, PartialEq, Eq)]
 pub enum Task {
     /// A worker asks for the next write of a job.
     Issue(JobNo),

@@ -17,7 +17,7 @@ pub trait Gate {
 }
 
 /// The gate through which each write may go at once.
-#[derive(Clone, Copy, Debug)]
+#[derive(Clone, Copy)]
 pub struct OpenGate;
 
 impl Gate for OpenGate {
