@@ -1,5 +1,6 @@
-//! What no clause shows of the cores: their stories, by what `core_stories` shares.
+//! What no clause shows of the cores: their stories, and in `shared` what takes a core through its own.
 
 mod client;
 mod mirror;
 mod server;
+mod shared;

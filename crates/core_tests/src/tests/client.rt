@@ -13,7 +13,7 @@ mod told;
 mod words;
 mod written;
 
-use core_stories::{
+use super::shared::{
     Failing, NONE_FAILS, Trouble, holds_note, holds_once_on, unlike_after, unlike_over,
 };
 use notes::NOTES;

@@ -8,7 +8,7 @@ mod notes;
 mod stories;
 mod told;
 
-use core_stories::{Failing, holds_note, unlike_after, unlike_over};
+use super::shared::{Failing, holds_note, unlike_after, unlike_over};
 use notes::NOTES;
 use std::alloc::AllocGlobal;
 use std::process::Abort;

@@ -10,7 +10,7 @@ mod stories;
 mod told;
 mod words;
 
-use core_stories::{Failing, Life, Trouble, failing_notes, holds_note, unlike_after, unlike_over};
+use super::shared::{Failing, Life, Trouble, failing_notes, holds_note, unlike_after, unlike_over};
 use lost::first_lost;
 use notes::NOTES;
 use std::alloc::{AllocGlobal, Global};

@@ -1,8 +1,8 @@
 //! The calls of a client that take what comes to it.
 
 use super::words::act_in;
+use crate::tests::shared::{Draft, Trouble, first_word, is_frame, put_word};
 use client_core::Client;
-use core_stories::{Draft, Trouble, first_word, is_frame, put_word};
 use disk_model::FaultNotes;
 use fc_base::{Fault, RunNo};
 use messages::{Act, Frame, Frames};

@@ -3,8 +3,8 @@
 
 use super::opening::{Opening, opened};
 use super::written::put_note;
+use crate::tests::shared::{Draft, Trouble, put_word};
 use client_core::Client;
-use core_stories::{Draft, Trouble, put_word};
 use disk_model::MemNotes;
 use fc_base::Fault;
 use messages::{Frame, decode_frame};

@@ -1,8 +1,10 @@
 //! Notes that are cut short, and notes of which one byte is changed.
 
 use super::written::put_note;
+use crate::tests::shared::{
+    Draft, Reader, Trouble, first_note, first_unlike_field, is_changed_note,
+};
 use client_core::Noted;
-use core_stories::{Draft, Reader, Trouble, first_note, first_unlike_field, is_changed_note};
 use std::alloc::Global;
 
 /// What stands before the states, field by field: how many bytes, and how many changes of one of them leave

@@ -2,8 +2,8 @@
 
 use super::calls::put_text;
 use super::words::kind_in;
+use crate::tests::shared::{Draft, Trouble, first_word, is_state, next_key, next_u32, next_u64};
 use client_core::{Client, Outcome, Received};
-use core_stories::{Draft, Trouble, first_word, is_state, next_key, next_u32, next_u64};
 use disk_model::FaultNotes;
 use fc_base::{Key, RunNo, ServerNo};
 use messages::Reason;

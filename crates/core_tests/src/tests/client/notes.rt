@@ -1,7 +1,7 @@
 //! What a client is restarted over.
 
 use super::opening::{Opening, opened};
-use core_stories::UnreadNotes;
+use crate::tests::shared::UnreadNotes;
 use fc_base::{Fault, Generation};
 use std::alloc::Global;
 

@@ -3,7 +3,7 @@
 use super::looks::outcome_of;
 use super::stories::stages::{PACKETS, Stage};
 use super::told::Told;
-use core_stories::{Life, NONE_FAILS, Trouble, failing_notes};
+use crate::tests::shared::{Life, NONE_FAILS, Trouble, failing_notes};
 use std::alloc::Global;
 
 /// Where a stage isn't as it says, or a packet isn't answered as its row says.

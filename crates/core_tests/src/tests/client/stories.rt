@@ -7,7 +7,7 @@
 //! writes that note; so `note -` loses what it said. A note is `-` where there are no bytes, else its runs,
 //! its attempts and its states, behind `of GENERATION` where it has one, or behind `old` where it is from
 //! before there were any; or its bytes in hexadecimal. A frame is its kind's name and its numbers in their
-//! order, and a text or a state that `core_stories` names, or stands in hexadecimal.
+//! order, and a text or a state that `shared` names, or stands in hexadecimal.
 //!
 //! An answer has the number that is given, as `run 1` or `attempt 1`, and the frames that are sent, to
 //! server 0 where they don't say `to B`, joined by `+`; or it is the number of a fault. `would_save` asks
@@ -29,4 +29,4 @@ pub mod stopped;
 pub mod triggers;
 pub mod verifies;
 
-pub use core_stories::{LostSave, Story};
+pub use crate::tests::shared::{LostSave, Story};

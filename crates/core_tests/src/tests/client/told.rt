@@ -3,8 +3,8 @@
 use super::calls::{Given, ask, asked_in, number_in, plain, put_text_of, shown, would_save};
 use super::opening::{Opening, opened, opening_in};
 use super::{looks, written};
+use crate::tests::shared::{Draft, Ends, Node, Trouble, first_word};
 use client_core::Client;
-use core_stories::{Draft, Ends, Node, Trouble, first_word};
 use disk_model::FaultNotes;
 use fc_base::Fault;
 use messages::{Frame, Frames};

@@ -1,6 +1,6 @@
 //! Notes that rows say, written by the table of their fields, without `client_core`.
 
-use core_stories::{Draft, first_word, put_state, put_word};
+use crate::tests::shared::{Draft, first_word, put_state, put_word};
 
 /// Puts the bytes of a note: none for `-`; those that stand there in hexadecimal; `full` of so many states;
 /// or those of so many runs, so many attempts and these states. It is of generation 0, where it doesn't say `of GENERATION`

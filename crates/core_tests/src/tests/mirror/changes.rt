@@ -1,7 +1,7 @@
 //! Notes that are cut short, and notes of which one byte is changed.
 
 use super::notes::{NoteReader, put_note};
-use core_stories::{Draft, Trouble, first_note, first_unlike_field};
+use crate::tests::shared::{Draft, Trouble, first_note, first_unlike_field};
 use std::alloc::Global;
 
 /// What stands before the states, field by field: how many bytes, and how many changes of one of them leave

@@ -2,7 +2,7 @@
 
 use super::notes::put_note;
 use super::told::Told;
-use core_stories::{
+use crate::tests::shared::{
     Draft, Failing, Life, NONE_FAILS, Node, Trouble, failing_notes, holds_once_on, put_state,
 };
 use messages::Frames;

@@ -1,6 +1,6 @@
 //! What a mirror shows, and what rows say of it.
 
-use core_stories::{Trouble, is_state, next_key};
+use crate::tests::shared::{Trouble, is_state, next_key};
 use disk_model::FaultNotes;
 use fc_base::Key;
 use mirror_core::Mirror;

@@ -1,6 +1,6 @@
 //! What a mirror is restarted over.
 
-use core_stories::{Draft, Reader, Trouble, UnreadNotes, first_word, put_state, put_word};
+use crate::tests::shared::{Draft, Reader, Trouble, UnreadNotes, first_word, put_state, put_word};
 use fc_base::Fault;
 use mirror_core::{Mirror, Noted};
 use std::alloc::Global;

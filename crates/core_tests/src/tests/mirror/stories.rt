@@ -4,8 +4,8 @@
 //! client, 9 the mirror), or `restart`, whose answer is what the note said before it, and behind `/` a
 //! fault's number where the mirror isn't opened. A note is `-` where there are no bytes, else its generation
 //! and its states, or its bytes in hexadecimal. A frame is its kind's name and its numbers in their order,
-//! and a text or a state that `core_stories` names; or stands in hexadecimal; or is `bytes of` one that the
-//! `vectors` of `core_stories` have.
+//! and a text or a state that `shared` names; or stands in hexadecimal; or is `bytes of` one that the
+//! `vectors` of `shared` have.
 //!
 //! An answer has the frames that are sent, from the mirror to the client, joined by `+`; or it is the number
 //! of a fault. `would_save` asks of a frame; `on`, `generation` and `kept RUN SERVER JOB` look.
@@ -16,7 +16,7 @@ pub mod losses;
 pub mod refusals;
 pub mod worked;
 
-pub use core_stories::Story;
+pub use crate::tests::shared::Story;
 
 /// A story in which a save fails.
 #[derive(Clone, Copy)]

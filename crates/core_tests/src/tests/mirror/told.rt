@@ -1,7 +1,7 @@
 //! A mirror that stories are told to.
 
 use super::{looks, notes};
-use core_stories::{Draft, Ends, Node, Trouble, is_frame};
+use crate::tests::shared::{Draft, Ends, Node, Trouble, is_frame};
 use disk_model::FaultNotes;
 use fc_base::Fault;
 use messages::{Frame, Frames};

@@ -1,7 +1,7 @@
 //! What comes to a server beside frames, and what it answers beside them.
 
 use super::words::{issue_in, report_in, ticket_in};
-use core_stories::{Trouble, is_frame, next_u32, next_u64};
+use crate::tests::shared::{Trouble, is_frame, next_u32, next_u64};
 use engine::Issue;
 use fc_base::{Attempt, JobNo};
 use messages::Act;

@@ -1,6 +1,6 @@
 //! A note that is cut short, and a note of which one byte is changed.
 
-use core_stories::{Draft, Reader, Trouble, first_note, is_changed_note};
+use crate::tests::shared::{Draft, Reader, Trouble, first_note, is_changed_note};
 use server_core::Noted;
 use std::alloc::Global;
 

@@ -1,7 +1,7 @@
 //! What a server shows, and what rows say of it.
 
 use super::words::ticket_in;
-use core_stories::{Trouble, first_word, is_state};
+use crate::tests::shared::{Trouble, first_word, is_state};
 use disk_model::FaultNotes;
 use engine::Ticket;
 use fc_base::{JobNo, Seq};

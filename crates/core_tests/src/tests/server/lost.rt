@@ -3,7 +3,7 @@
 use super::looks::is_look;
 use super::notes::{Noted, put_noted};
 use super::told::Told;
-use core_stories::{Draft, Life, Trouble, first_word};
+use crate::tests::shared::{Draft, Life, Trouble, first_word};
 use fc_base::{Attempt, Fault, RunNo};
 use server_core::{Stage, Status};
 use std::alloc::Global;

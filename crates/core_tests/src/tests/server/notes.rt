@@ -1,6 +1,6 @@
 //! What a server is restarted over.
 
-use core_stories::{Draft, UnreadNotes};
+use crate::tests::shared::{Draft, UnreadNotes};
 use fc_base::{Fault, ServerNo};
 use server_core::Server;
 use std::alloc::Global;

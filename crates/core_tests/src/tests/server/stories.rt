@@ -4,7 +4,7 @@
 //! `fail` of a ticket (boot, run, server, job, write, block), `check` of a job (boot, attempt, job, and
 //! the numbers of its report), or `restart`, whose answer is what the note said before it: boot and
 //! last run, and behind `/` a fault's number where the server isn't opened. A frame is its kind's name and its
-//! numbers in their order, and a text or a state that `core_stories` names, or stands in hexadecimal.
+//! numbers in their order, and a text or a state that `shared` names, or stands in hexadecimal.
 //!
 //! An answer has the frames that are sent, the answer about a write, and `cut`, joined by `+`; or it is
 //! the number of a fault. `status` shows boot, last run, staged run, present run, stage and attempt;
@@ -19,4 +19,4 @@ pub mod starts;
 pub mod states;
 pub mod triggers;
 
-pub use core_stories::{LostSave, Story};
+pub use crate::tests::shared::{LostSave, Story};

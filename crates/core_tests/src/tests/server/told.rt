@@ -3,7 +3,7 @@
 use super::calls::{asked_in, is_told};
 use super::looks;
 use super::notes::{Noted, put_noted};
-use core_stories::{Draft, Ends, Node, Trouble, first_word, next_u64};
+use crate::tests::shared::{Draft, Ends, Node, Trouble, first_word, next_u64};
 use disk_model::FaultNotes;
 use fc_base::{Attempt, Fault, RunNo, ServerNo};
 use messages::{Frame, Frames};

@@ -1,6 +1,6 @@
 //! Tickets, answers and reports that rows say.
 
-use core_stories::{next_key, next_u32, next_u64};
+use crate::tests::shared::{next_key, next_u32, next_u64};
 use engine::{Issue, Ticket};
 use fc_base::{Blocks, CheckReport, MAX_LISTED, ReportEnd, ReportParts, Seq};
 use std::str::SplitWhitespace;

@@ -2,13 +2,13 @@
 
 mod rows;
 
-use crate::draft::Draft;
-use crate::frames::frame_in;
-use crate::node::Node;
-use crate::notes::{have_bytes, save};
-use crate::spelling::Spelling;
-use crate::trouble::Trouble;
-use crate::words::first_word;
+use super::draft::Draft;
+use super::frames::frame_in;
+use super::node::Node;
+use super::notes::{have_bytes, save};
+use super::spelling::Spelling;
+use super::trouble::Trouble;
+use super::words::first_word;
 use disk_model::FaultNotes;
 use fc_base::Fault;
 use messages::Frame;

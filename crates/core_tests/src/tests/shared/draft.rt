@@ -1,6 +1,6 @@
 //! Bytes in the making.
 
-use crate::trouble::Trouble;
+use super::trouble::Trouble;
 use std::alloc::Global;
 
 /// Bytes in the making. What goes wrong meanwhile is kept, and told at the end.

@@ -1,6 +1,5 @@
 //! What the stories of the cores share: how frames, notes and states are spelled, and how a node is taken
 //! through rows.
-#![tactic(auto)]
 
 mod changes;
 mod draft;

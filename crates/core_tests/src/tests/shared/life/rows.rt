@@ -1,11 +1,11 @@
 //! The rows of a story that a node is taken through.
 
 use super::Life;
-use crate::frames::{are_sent, frame_in};
-use crate::node::Node;
-use crate::spelling::Spelling;
-use crate::trouble::Trouble;
-use crate::words::{event_and_answer, first_word};
+use crate::tests::shared::frames::{are_sent, frame_in};
+use crate::tests::shared::node::Node;
+use crate::tests::shared::spelling::Spelling;
+use crate::tests::shared::trouble::Trouble;
+use crate::tests::shared::words::{event_and_answer, first_word};
 use fc_base::Fault;
 use messages::Frame;
 

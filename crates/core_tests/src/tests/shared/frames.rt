@@ -1,8 +1,8 @@
 //! The frames that come to a node, and those that it sends.
 
-use crate::spelling::{Ends, Spelling, is_frame};
-use crate::trouble::Trouble;
-use crate::words::first_word;
+use super::spelling::{Ends, Spelling, is_frame};
+use super::trouble::Trouble;
+use super::words::first_word;
 use fc_base::Fault;
 use messages::{Frame, Frames, decode_frame};
 use std::alloc::Global;

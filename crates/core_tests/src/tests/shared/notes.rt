@@ -1,6 +1,6 @@
 //! What notes say.
 
-use crate::trouble::Trouble;
+use super::trouble::Trouble;
 use disk_model::{FaultNotes, Notes};
 use fc_base::Fault;
 use std::alloc::Global;

@@ -1,7 +1,7 @@
 //! Notes that are cut short, and notes of which one byte is changed.
 
-use crate::trouble::Trouble;
-use crate::words::next_u32;
+use super::trouble::Trouble;
+use super::words::next_u32;
 
 /// What reads notes.
 pub trait Reader {

@@ -1,8 +1,8 @@
 //! What a node is to its stories.
 
-use crate::draft::Draft;
-use crate::spelling::Ends;
-use crate::trouble::Trouble;
+use super::draft::Draft;
+use super::spelling::Ends;
+use super::trouble::Trouble;
 use disk_model::FaultNotes;
 use fc_base::Fault;
 use messages::{Frame, Frames};

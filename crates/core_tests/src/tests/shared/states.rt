@@ -1,8 +1,8 @@
 //! The states that nodes show.
 
-use crate::draft::Draft;
-use crate::named::put_word;
-use crate::trouble::Trouble;
+use super::draft::Draft;
+use super::named::put_word;
+use super::trouble::Trouble;
 use std::alloc::Global;
 use verify_state::VerifyState;
 

@@ -1,10 +1,10 @@
 //! Stories that are told to nodes.
 
-use crate::draft::Draft;
-use crate::life::{Life, Unlike};
-use crate::node::Node;
-use crate::trouble::Trouble;
-use crate::words::first_word;
+use super::draft::Draft;
+use super::life::{Life, Unlike};
+use super::node::Node;
+use super::trouble::Trouble;
+use super::words::first_word;
 use disk_model::{FaultNotes, MemNotes};
 use std::alloc::Global;
 

@@ -1,10 +1,10 @@
 //! Frames that rows say, spelled by the table of the kinds, without `messages`.
 
-use crate::draft::Draft;
-use crate::named::put_word;
-use crate::trouble::Trouble;
-use crate::vectors::digits;
-use crate::words::{first_word, next_u64};
+use super::draft::Draft;
+use super::named::put_word;
+use super::trouble::Trouble;
+use super::vectors::digits;
+use super::words::{first_word, next_u64};
 use std::alloc::Global;
 use std::str::SplitWhitespace;
 

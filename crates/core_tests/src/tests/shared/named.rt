@@ -1,6 +1,6 @@
 //! Texts and states that rows name.
 
-use crate::draft::Draft;
+use super::draft::Draft;
 
 /// What a name says.
 fn named(name: &str) -> Option<&'static [u8]> {
