@@ -1,7 +1,12 @@
-//! What no clause shows of `fc_base`, `window`, `write_order`, `verify_state` and `engine`.
+//! What no clause shows of `fc_base`, `job_file`, `window`, `write_order`, `verify_state`, `engine`, `disk_model`, `recheck`
+//! and `parallel_checks`.
 
+mod disks;
 mod engines;
+mod job_files;
 mod numbers;
 mod orders;
+mod parallel;
+mod rechecks;
 mod states;
 mod windows;
