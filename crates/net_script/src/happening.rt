@@ -11,8 +11,9 @@ use std::alloc::{AllocError, Global};
 /// How many bytes a sector has.
 const SECTOR: usize = 512;
 
-/// The event of a command, with the text below it.
-pub(crate) fn event_of(
+/// The event of a command, with the text below it: what a world applies, where no script is run. It wants memory
+/// for a text and for a sector.
+pub fn event_of(
     alloc: Global,
     command: &Command,
     text: &[u8],

@@ -2,6 +2,7 @@
 //!
 //! ```text
 //! let status = run_script(alloc, &mut reader, &mut writer)?;
+//! let event = event_of(alloc, &command, text)?;         // one command, for a world of one's own
 //! ```
 //!
 //! Begin with `running`; `specs/Script.antt` says what the lines of a script come to, `specs/Table.antt`
@@ -22,6 +23,7 @@ mod told;
 mod words;
 
 pub use command::{Command, Saving};
+pub use happening::event_of;
 pub use line::ScriptLine;
 pub use running::{MAX_SCRIPT, run_script};
 pub use script_fault::ScriptFault;
