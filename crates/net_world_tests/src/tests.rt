@@ -1,98 +1,127 @@
-//! What no clause shows: that a world answers as others computed it, frame by frame, and that each call
-//! answers where memory is there.
+//! What no clause shows: that worlds, and scripts of them, answer as others computed it, line by line and frame by
+//! frame, and that each call answers where memory is there.
 
-mod commands;
+mod ends;
 mod frames;
 mod lines;
 mod looks;
 mod played;
+mod rows;
+mod running;
 mod same;
+mod scripts;
+mod spelling;
 mod stories;
-mod teller;
-mod texts;
 mod trouble;
-mod words;
+mod walk;
 
+use ends::{End, end_of_story};
 use fc_base::ServerNo;
 use messages::Node;
-use played::{Change, Leaves, left, plays_the_same};
+use played::{Change, Leaves, left, plays_as};
 use std::alloc::{AllocGlobal, Global};
 use std::process::Abort;
 use std::test::Fail;
 use stories::saves::{CUTS, CUTS_WITH_MIRROR, STOPS, STOPS_WITH_MIRROR, Whose};
-use stories::{ALL, Story, disks, mirrors, numbers, pieces, refusals, renewals, runs, stops};
-use teller::Teller;
+use stories::{
+    Story, copies, disks, mirror_refusals, mirrors, numbers, pieces, refusals, renewals, runs,
+    stops,
+};
 use trouble::Trouble;
+use walk::{first_unlike, world_of};
 
-/// The first row of a story that isn't answered so.
-fn first_unlike(alloc: Global, story: &str) -> Option<(usize, Option<Trouble>)> {
-    match Teller::new(alloc, story) {
-        Ok(mut teller) => teller.first_unlike(story),
-        Err(trouble) => Some((0, Some(trouble))),
+/// The scripts of these stories print their lines, with their statuses.
+fn are_printed<R: Abort + AllocGlobal>(rt: &R, stories: &[Story]) -> Result<(), Fail> {
+    for story in stories {
+        let end = end_of_story(rt.alloc(), story)?;
+        assert!(rt; end == End::Wanted, "{}: {end:?}", story.name);
+    }
+    Ok(())
+}
+
+/// Where a story isn't as it says.
+#[derive(Clone, Copy, Debug)]
+enum Difference {
+    /// A row, and what trouble there was, if any.
+    Row(usize, Option<Trouble>),
+    /// What is played at once gives another world than its events one by one, or trouble.
+    Played(Option<Trouble>),
+}
+
+/// Where a story isn't as it says: its events one by one, what the world shows between them, and all of it
+/// played at once.
+fn first_difference(alloc: Global, story: &Story) -> Option<Difference> {
+    let mut world = match world_of(alloc, story.rows) {
+        Ok(world) => world,
+        Err(trouble) => return Some(Difference::Row(0, Some(trouble))),
+    };
+    if let Some((line, trouble)) = first_unlike(alloc, &mut world, story.rows) {
+        return Some(Difference::Row(line, trouble));
+    }
+    match plays_as(alloc, story.rows, &world) {
+        Ok(true) => None,
+        Ok(false) => Some(Difference::Played(None)),
+        Err(trouble) => Some(Difference::Played(Some(trouble))),
     }
 }
 
-/// A world answers the rows of each story.
-fn are_answered(rt: &(impl Abort + AllocGlobal), stories: &[Story]) {
-    for (name, rows) in stories {
-        let unlike = first_unlike(rt.alloc(), rows);
-        assert!(rt; unlike.is_none(), "{name}: {unlike:?}");
+/// These stories are printed by their scripts, and hold of their worlds.
+fn are_told<R: Abort + AllocGlobal>(rt: &R, stories: &[Story]) -> Result<(), Fail> {
+    for story in stories {
+        let unlike = first_difference(rt.alloc(), story);
+        assert!(rt; unlike.is_none(), "{}: {unlike:?}", story.name);
     }
-}
-
-/// What is played at once gives the world that the events give one by one.
-fn are_played(rt: &(impl Abort + AllocGlobal), stories: &[Story]) {
-    for (name, rows) in stories {
-        let same = plays_the_same(rt.alloc(), rows);
-        assert!(rt; same == Ok(true), "{name}: {same:?}");
-    }
+    are_printed(rt, stories)
 }
 
 #[test]
-fn runs_from_the_first_text_to_the_last_report(rt: HostRuntime) {
-    are_answered(&rt, runs::STORIES);
+fn runs_from_the_first_text_to_the_last_report(rt: HostRuntime) -> Result<(), Fail> {
+    are_told(&rt, &runs::STORIES)
 }
 
 #[test]
-fn nodes_that_stop_within_a_save(rt: HostRuntime) {
-    are_answered(&rt, stops::STORIES);
+fn nodes_that_stop_within_a_save(rt: HostRuntime) -> Result<(), Fail> {
+    are_told(&rt, &stops::STORIES)
 }
 
 #[test]
-fn what_is_refused(rt: HostRuntime) {
-    are_answered(&rt, refusals::STORIES);
+fn what_is_refused(rt: HostRuntime) -> Result<(), Fail> {
+    are_told(&rt, &refusals::STORIES)
 }
 
 #[test]
-fn texts_in_pieces(rt: HostRuntime) {
-    are_answered(&rt, pieces::STORIES);
+fn texts_in_pieces(rt: HostRuntime) -> Result<(), Fail> {
+    are_told(&rt, &pieces::STORIES)
 }
 
 #[test]
-fn numbers_that_a_cut_uses_up(rt: HostRuntime) {
-    are_answered(&rt, numbers::STORIES);
+fn numbers_that_a_cut_uses_up(rt: HostRuntime) -> Result<(), Fail> {
+    are_told(&rt, &numbers::STORIES)
 }
 
 #[test]
-fn disks_that_rot_and_tear(rt: HostRuntime) {
-    are_answered(&rt, disks::STORIES);
+fn disks_that_rot_and_tear(rt: HostRuntime) -> Result<(), Fail> {
+    are_told(&rt, &disks::STORIES)
 }
 
 #[test]
-fn notes_that_are_lost_and_come_back_from_a_mirror(rt: HostRuntime) {
-    are_answered(&rt, mirrors::STORIES);
+fn notes_that_are_lost_and_come_back_from_a_mirror(rt: HostRuntime) -> Result<(), Fail> {
+    are_told(&rt, &mirrors::STORIES)
 }
 
 #[test]
-fn clients_that_are_renewed(rt: HostRuntime) {
-    are_answered(&rt, renewals::STORIES);
+fn clients_that_are_renewed(rt: HostRuntime) -> Result<(), Fail> {
+    are_told(&rt, &renewals::STORIES)
 }
 
 #[test]
-fn stories_that_are_played(rt: HostRuntime) {
-    for stories in ALL.iter() {
-        are_played(&rt, stories);
-    }
+fn copies_of_a_mirror(rt: HostRuntime) -> Result<(), Fail> {
+    are_printed(&rt, &copies::STORIES)
+}
+
+#[test]
+fn what_is_refused_of_a_mirror(rt: HostRuntime) -> Result<(), Fail> {
+    are_printed(&rt, &mirror_refusals::STORIES)
 }
 
 /// The node whose save it would be.
@@ -112,14 +141,15 @@ struct Tried {
 }
 
 fn stored_run() -> Tried {
-    let (_, rows) = runs::STORIES[0];
-    Tried { rows, run: 1 }
+    Tried {
+        rows: runs::STORIES[0].rows,
+        run: 1,
+    }
 }
 
 fn fetched_run() -> Tried {
-    let (_, rows) = mirrors::STORIES[0];
     Tried {
-        rows,
+        rows: mirrors::STORIES[0].rows,
         run: 4_294_967_297,
     }
 }

@@ -1,137 +1,200 @@
-//! The lines of what is told, as rows say them: joined by `+`.
+//! Lines ask for what the manual says.
 
-use super::trouble::Trouble;
-use engine::Issue;
-use fc_base::{CheckReport, Fault, ReportEnd};
-use messages::{Act, Node, look_at};
-use net_world::{Told, World, WorldAnswer};
-use std::alloc::AllocError;
+use net_script::line_of;
+use std::alloc::Global;
 use std::fmt;
+use std::test::Fail;
 
-/// Puts the lines of what is told: the answer, the frames that are sent, and the request to cut, which
-/// comes from the server to which a frame has come.
-pub fn put_told(
-    lines: &mut String,
-    told: &Told,
-    world: &World,
-    server: &Option<u32>,
-) -> Result<(), Trouble> {
-    put_answer(lines, &told.answer)?;
-    for index in told.first..told.first.saturating_add(told.sent) {
-        put_sent(lines, index, world)?;
-    }
-    match (&told.act, server) {
-        (Act::None, _) => Ok(()),
-        (Act::Cut, Some(server)) => put(write!(lines, " + act cut {server}")),
-        (Act::Cut, None) => Err(Trouble::BadFrame),
+/// Lines, and what they ask for.
+const READ: &[(&str, &str)] = &[
+    ("", "Skipped"),
+    (" \t ", "Skipped"),
+    ("  # a comment", "Skipped"),
+    ("#tick", "Skipped"),
+    ("servers 1", "Servers(Config { servers: 1, mirror: false })"),
+    (
+        "servers\t 008 ",
+        "Servers(Config { servers: 8, mirror: false })",
+    ),
+    (
+        "servers 3 mirror ",
+        "Servers(Config { servers: 3, mirror: true })",
+    ),
+    ("tick", "Asks(Tick)"),
+    ("begin", "Asks(Saves(Begin))"),
+    ("verify 3", "Asks(Saves(Verify(RunNo(3))))"),
+    ("deliver 007", "Asks(Saves(Deliver(7)))"),
+    (
+        "deliver 18446744073709551615",
+        "Asks(Saves(Deliver(18446744073709551615)))",
+    ),
+    ("restart client", "Asks(Saves(Restart(Client)))"),
+    ("restart 1", "Asks(Saves(Restart(Server(ServerNo(1)))))"),
+    ("restart mirror", "Asks(Saves(Restart(Mirror)))"),
+    ("renew 2", "Asks(Saves(Renew(Generation(2))))"),
+    ("losenote", "Asks(LoseNote)"),
+    ("cut client", "Asks(Cut(Client))"),
+    ("cut mirror", "Asks(Cut(Mirror))"),
+    ("cut 8", "Asks(Cut(Server(ServerNo(8))))"),
+    ("stop 4", "Asks(Stop(RunNo(4)))"),
+    ("trigger 4", "Asks(Trigger { run: RunNo(4), act: None })"),
+    ("trigger 4 cut", "Asks(Trigger { run: RunNo(4), act: Cut })"),
+    (
+        "issue 1 2",
+        "Asks(Issue { server: ServerNo(1), job: JobNo(2) })",
+    ),
+    (
+        "issue 1 4294967296",
+        "Asks(Issue { server: ServerNo(1), job: JobNo(4294967295) })",
+    ),
+    (
+        "check 1 2",
+        "Asks(Check { server: ServerNo(1), job: JobNo(2) })",
+    ),
+    (
+        "done 1 2 5",
+        "Asks(Done { server: ServerNo(1), job: JobNo(2), write: Seq(5) })",
+    ),
+    (
+        "fail 1 2 5",
+        "Asks(Fail { server: ServerNo(1), job: JobNo(2), write: Seq(5) })",
+    ),
+    (
+        "land 1 2 5 all",
+        "Asks(Land { server: ServerNo(1), job: JobNo(2), write: Seq(5), mask: 340282366920938463463374607431768211455 })",
+    ),
+    (
+        "land 1 2 5 first 3",
+        "Asks(Land { server: ServerNo(1), job: JobNo(2), write: Seq(5), mask: 7 })",
+    ),
+    (
+        "land 1 2 5 first 0",
+        "Asks(Land { server: ServerNo(1), job: JobNo(2), write: Seq(5), mask: 0 })",
+    ),
+    (
+        "land 1 2 5 first 129",
+        "Asks(Land { server: ServerNo(1), job: JobNo(2), write: Seq(5), mask: 340282366920938463463374607431768211455 })",
+    ),
+    (
+        "rot 1 2 9 255",
+        "Asks(Rot { server: ServerNo(1), job: JobNo(2), sector: 9, byte: 255 })",
+    ),
+    (
+        "cutold deliver 4",
+        "Asks(CutShort { landed: false, command: Deliver(4) })",
+    ),
+    (
+        "cutnew restart 1",
+        "Asks(CutShort { landed: true, command: Restart(Server(ServerNo(1))) })",
+    ),
+    (
+        "cutnew verify 3",
+        "Asks(CutShort { landed: true, command: Verify(RunNo(3)) })",
+    ),
+    (
+        "cutold renew 18446744073709551615",
+        "Asks(CutShort { landed: false, command: Renew(Generation(18446744073709551615)) })",
+    ),
+];
+
+/// Lines that can't be read: a word too few, too many, or another one; a number with a sign, without a
+/// digit, too great, or with something behind it; another case; and bytes that are no blanks.
+pub const UNREAD: &[&str] = &[
+    "servers",
+    "servers 0",
+    "servers 9",
+    "servers 1 2",
+    "servers mirror",
+    "servers 0 mirror",
+    "servers 9 mirror",
+    "servers 1 Mirror",
+    "servers 1 mirror 2",
+    "begin 1",
+    "verify",
+    "verify 1 2",
+    "deliver",
+    "deliver 1 2",
+    "deliver -1",
+    "deliver +1",
+    "deliver 1.",
+    "deliver 0x1",
+    "deliver 18446744073709551616",
+    "restart",
+    "restart server",
+    "restart 1 2",
+    "renew",
+    "renew 1 2",
+    "renew mirror",
+    "losenote 1",
+    "losenote client",
+    "cut",
+    "cut 1 2",
+    "cut mirrors",
+    "stop",
+    "stop 1 2",
+    "tick 1",
+    "Tick",
+    "tick\r",
+    "tick\0",
+    "trigger",
+    "trigger 1 none",
+    "trigger 1 cut 2",
+    "issue 1",
+    "issue 1 2 3",
+    "check 1",
+    "check 1 2 3",
+    "done 1 2",
+    "done 1 2 3 4",
+    "fail 1 2",
+    "fail 1 2 3 4",
+    "land 1 2 3",
+    "land 1 2 3 some",
+    "land 1 2 3 first",
+    "land 1 2 3 first 4 5",
+    "land 1 2 3 all 4",
+    "land 1 2 all",
+    "rot 1 2 3",
+    "rot 1 2 3 256",
+    "rot 1 2 3 4 5",
+    "cutold",
+    "cutold tick",
+    "cutnew check 0 0",
+    "cutnew cutold deliver 0",
+    "cutold deliver",
+    "cutold losenote",
+    "cutnew renew",
+    "frob",
+    ".",
+];
+
+/// What a line asks for, in letters. Where memory runs out, it is said once more.
+fn said(alloc: Global, line: &str) -> Result<String, fmt::Error> {
+    match said_once(alloc, line) {
+        Ok(text) => Ok(text),
+        Err(_) => said_once(alloc, line),
     }
 }
 
-/// Puts the line of a refusal.
-pub fn put_refusal(lines: &mut String, fault: Fault) -> Result<(), Trouble> {
-    put(write!(lines, "refused {} {}", fault.number(), fault.name()))
+fn said_once(alloc: Global, line: &str) -> Result<String, fmt::Error> {
+    let mut text = String::new(alloc);
+    write!(text, "{:?}", line_of(line.as_bytes()))?;
+    Ok(text)
 }
 
-/// What was put, or that memory ran out.
-fn put(outcome: Result<(), AllocError>) -> Result<(), Trouble> {
-    match outcome {
-        Ok(()) => Ok(()),
-        Err(_) => Err(Trouble::NoMemory),
-    }
-}
-
-fn put_answer(lines: &mut String, answer: &WorldAnswer) -> Result<(), Trouble> {
-    match answer {
-        WorldAnswer::Plain => put(write!(lines, "ok")),
-        WorldAnswer::Run(run) => put(write!(lines, "ok run {}", run.0)),
-        WorldAnswer::Attempt(attempt) => put(write!(lines, "ok attempt {}", attempt.0)),
-        WorldAnswer::Issued(issue) => put_issue(lines, *issue),
-        WorldAnswer::Checked(report) => put_report(lines, report.as_report()),
-    }
-}
-
-fn put_issue(lines: &mut String, issue: Issue) -> Result<(), Trouble> {
-    match issue {
-        Issue::Write(ticket) => put(write!(
-            lines,
-            "ok write {} block {}",
-            ticket.seq.0, ticket.block
-        )),
-        Issue::Full => put(write!(lines, "ok full")),
-        Issue::Held => put(write!(lines, "ok held")),
-        Issue::Overlap => put(write!(lines, "ok overlap")),
-        Issue::Finished => put(write!(lines, "ok finished")),
-        Issue::Stopped => put(write!(lines, "ok stopped")),
-    }
-}
-
-fn put_report(lines: &mut String, report: &CheckReport) -> Result<(), Trouble> {
-    let (checked, faults) = (report.checked(), report.faults());
-    put(write!(lines, "ok report checked {checked} faults {faults} end "))?;
-    put_end(lines, report.end())?;
-    put_blocks(lines, report.first())
-}
-
-fn put_end(lines: &mut String, end: ReportEnd) -> Result<(), Trouble> {
-    match end {
-        ReportEnd::Whole => put(write!(lines, "whole first")),
-        ReportEnd::AtFault => put(write!(lines, "fault first")),
-        ReportEnd::ReadFault(block) => put(write!(lines, "read {block} first")),
-    }
-}
-
-fn put_blocks(lines: &mut String, blocks: &[u32]) -> Result<(), Trouble> {
-    if blocks.is_empty() {
-        return put(write!(lines, " -"));
-    }
-    for block in blocks {
-        put(write!(lines, " {block}"))?;
+#[test]
+fn lines_that_are_read(rt: HostRuntime) -> Result<(), Fail> {
+    for (line, wanted) in READ {
+        let said = said(rt.alloc(), line)?;
+        assert!(rt; said.as_str() == *wanted, "{line}: {said}");
     }
     Ok(())
 }
 
-/// Puts the line of a frame that was sent.
-fn put_sent(lines: &mut String, index: u64, world: &World) -> Result<(), Trouble> {
-    let Some(bytes) = frame_at(world, index) else {
-        return Err(Trouble::BadFrame);
-    };
-    let Some(look) = look_at(bytes) else {
-        return Err(Trouble::BadFrame);
-    };
-    let (from, to) = (NodeWord(look.from), NodeWord(look.to));
-    let (kind, length) = (look.kind.name(), bytes.len());
-    put(write!(lines, " + sent {index} {from} {to} {kind} {length}"))
-}
-
-/// The bytes of a frame.
-pub fn frame_at(world: &World, index: u64) -> Option<&[u8]> {
-    match usize::try_from(index) {
-        Ok(index) => world.frames().get(index),
-        Err(_) => None,
+#[test]
+fn lines_that_are_not_read(rt: HostRuntime) -> Result<(), Fail> {
+    for line in UNREAD {
+        let said = said(rt.alloc(), line)?;
+        assert!(rt; said.as_str() == "Unread", "{line}: {said}");
     }
-}
-
-/// The number of the server to which a frame goes, if there is such a frame and it goes to one.
-pub fn server_of(world: &World, index: u64) -> Option<u32> {
-    let bytes = frame_at(world, index)?;
-    let look = look_at(bytes)?;
-    if look.to.is_client() || look.to.is_mirror() {
-        None
-    } else {
-        Some(look.to.number())
-    }
-}
-
-/// A node, as rows name it.
-#[derive(Drop)]
-struct NodeWord(Node);
-
-impl fmt::Display for NodeWord {
-    fn fmt<W: fmt::Write>(&self, f: &mut fmt::Formatter<W>) -> fmt::Result {
-        match self.0 {
-            Node::Client => write!(f, "client"),
-            Node::Mirror => write!(f, "mirror"),
-            Node::Server(server) => write!(f, "{}", server.0),
-        }
-    }
+    Ok(())
 }

@@ -1,19 +1,14 @@
 //! What a world shows, and what rows say of it.
 
 use super::frames::named;
-use super::lines::frame_at;
 use super::same::key;
+use super::spelling::are_spelled;
 use super::trouble::Trouble;
-use super::words::{are_spelled, number, short_number};
 use fc_base::{Seq, ServerNo};
 use net_world::World;
 use server_core::{Stage, Status};
+use std::str::SplitWhitespace;
 use verify_state::VerifyState;
-
-/// Whether a row with this word asks for what the world shows.
-pub fn is_look(word: &str) -> bool {
-    matches!(word, "frame" | "frames" | "status" | "saved")
-}
 
 /// Whether the world shows what the words say.
 pub fn shows(world: &World, look: &str, wanted: &str) -> Result<bool, Trouble> {
@@ -36,6 +31,26 @@ pub fn shows(world: &World, look: &str, wanted: &str) -> Result<bool, Trouble> {
         }
         _ => Err(Trouble::BadRow),
     }
+}
+
+/// The bytes of a frame.
+fn frame_at(world: &World, index: u64) -> Option<&[u8]> {
+    match usize::try_from(index) {
+        Ok(index) => world.frames().get(index),
+        Err(_) => None,
+    }
+}
+
+/// The next word, as a number.
+fn number(words: &mut SplitWhitespace) -> Result<u64, Trouble> {
+    let word = words.next().ok_or(Trouble::BadRow)?;
+    word.parse::<u64>().ok().ok_or(Trouble::BadRow)
+}
+
+/// The next word, as a smaller number.
+fn short_number(words: &mut SplitWhitespace) -> Result<u32, Trouble> {
+    let word = words.next().ok_or(Trouble::BadRow)?;
+    word.parse::<u32>().ok().ok_or(Trouble::BadRow)
 }
 
 /// The words are `off`, or a name and its number for each that is looked at.

@@ -1,11 +1,8 @@
 //! Stories that are played at once, and with a cut put in.
 
-use super::commands::event_in;
-use super::looks::is_look;
+use super::rows::{Row, config_in, event_in, row_in};
 use super::same::{are_same, are_same_states, key};
-use super::teller::{Teller, config_in};
 use super::trouble::Trouble;
-use super::words::first_word;
 use messages::{Node, look_at};
 use net_world::{Config, World, WorldEvent, play, with_cut, with_stop};
 use std::alloc::Global;
@@ -36,17 +33,9 @@ const REPORT: [u8; 25] = [
     0, 0, 0, 0, 0, 0, 0, 1, 0, 0, 0, 0, 0, 0, 0, 0, 1, 0, 0, 0, 0, 0, 0, 0, 0,
 ];
 
-/// Whether a story that is played at once gives the world that it gives event by event.
-pub fn plays_the_same(alloc: Global, story: &str) -> Result<bool, Trouble> {
-    let mut teller = Teller::new(alloc, story)?;
-    if teller.first_unlike(story).is_some() {
-        return Ok(false);
-    }
-    plays_as(alloc, story, &teller.world)
-}
-
-fn plays_as(alloc: Global, story: &str, told: &World) -> Result<bool, Trouble> {
-    match played(alloc, story, &None) {
+/// Whether a story that is played at once gives the world that it has given event by event.
+pub fn plays_as(alloc: Global, rows: &str, told: &World) -> Result<bool, Trouble> {
+    match played(alloc, rows, &None) {
         Ok(world) => Ok(are_same(&world, told)),
         Err(trouble) => Err(trouble),
     }
@@ -56,24 +45,24 @@ fn plays_as(alloc: Global, story: &str, told: &World) -> Result<bool, Trouble> {
 /// another state, or a check is reported otherwise.
 pub fn left(
     alloc: Global,
-    story: &str,
+    rows: &str,
     run: u64,
     change: Change,
 ) -> Result<Option<Leaves>, Trouble> {
-    match played(alloc, story, &None) {
-        Ok(world) => left_of(alloc, story, run, change, &world),
+    match played(alloc, rows, &None) {
+        Ok(world) => left_of(alloc, rows, run, change, &world),
         Err(trouble) => Err(trouble),
     }
 }
 
 fn left_of(
     alloc: Global,
-    story: &str,
+    rows: &str,
     run: u64,
     change: Change,
     whole: &World,
 ) -> Result<Option<Leaves>, Trouble> {
-    match played(alloc, story, &Some(change)) {
+    match played(alloc, rows, &Some(change)) {
         Ok(world) => Ok(compare(&world, whole, run)),
         Err(trouble) => Err(trouble),
     }
@@ -117,16 +106,16 @@ fn is_report(frame: &[u8]) -> bool {
 }
 
 /// The world of a story's commands. Where memory runs out, it is played once more.
-fn played(alloc: Global, story: &str, change: &Option<Change>) -> Result<World, Trouble> {
-    match played_once(alloc, story, change) {
-        Err(Trouble::NoMemory) => played_once(alloc, story, change),
+fn played(alloc: Global, rows: &str, change: &Option<Change>) -> Result<World, Trouble> {
+    match played_once(alloc, rows, change) {
+        Err(Trouble::NoMemory) => played_once(alloc, rows, change),
         answer => answer,
     }
 }
 
-fn played_once(alloc: Global, story: &str, change: &Option<Change>) -> Result<World, Trouble> {
-    match events_of(alloc, story) {
-        Ok(events) => played_with(alloc, config_in(story), &events, change),
+fn played_once(alloc: Global, rows: &str, change: &Option<Change>) -> Result<World, Trouble> {
+    match events_of(alloc, rows) {
+        Ok(events) => played_with(alloc, config_in(rows), &events, change),
         Err(trouble) => Err(trouble),
     }
 }
@@ -183,25 +172,14 @@ fn played_by(
 }
 
 /// The events of a story's commands.
-fn events_of(alloc: Global, story: &str) -> Result<Vec<WorldEvent>, Trouble> {
+fn events_of(alloc: Global, rows: &str) -> Result<Vec<WorldEvent>, Trouble> {
     let mut events = Vec::new(alloc);
-    for row in story.lines() {
-        let Some(command) = command_in(row) else {
-            continue;
-        };
-        put(&mut events, event_in(alloc, command))?;
+    for row in rows.lines() {
+        if let Row::Happens { command, .. } = row_in(row) {
+            put(&mut events, event_in(alloc, command))?;
+        }
     }
     Ok(events)
-}
-
-/// The command of a row, if it has one.
-fn command_in(row: &str) -> Option<&str> {
-    let (command, _) = row.split_once("=>")?;
-    let (word, _) = first_word(command);
-    if is_look(word) {
-        return None;
-    }
-    Some(command.trim())
 }
 
 fn put(events: &mut Vec<WorldEvent>, event: Result<WorldEvent, Trouble>) -> Result<(), Trouble> {

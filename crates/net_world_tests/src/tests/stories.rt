@@ -1,13 +1,18 @@
 //! Stories: a row for each command, and behind `=>` the lines that it is answered, joined by `+`.
 //!
-//! The commands are those of a script: `servers N` or `servers N mirror`, the first row, makes the
-//! world, `begin TEXT` and `verify R TEXT` name a job file that `texts` has, `land S J K all` or
-//! `first N` lands sectors, and `cutold` and `cutnew` stand before a command in whose save the power
-//! goes. Looks: `frame I` is the one that `frames` has under a name, or has its bytes in hexadecimal,
-//! where `78*3` is a byte three times over; `frames` how many there are; `status S` what a server shows
-//! of itself, or `off`; `saved R S J` the state that the client keeps of a job, or `none`.
+//! The commands are those of a script, as docs/SCRIPTS.md has them: `/` ends a line, so that a text stands behind
+//! its `begin` or `verify`, and `#x*3` is `#xxx`. A row without `=>` prints nothing. What a script can't say has
+//! rows of its own:
+//!
+//! - `frame I`: the frame is the one that `frames` has under a name, or has these bytes in hexadecimal, where
+//!   `78*3` is a byte three times over; `frames`: so many were sent;
+//! - `status S`: what a server shows of itself, or `off`;
+//! - `saved R S J`: the state that the client keeps of a job, or `none`;
+//! - `barred`, before `cutold` or `cutnew` and a command that makes no save: what the world refuses of it.
 
+pub mod copies;
 pub mod disks;
+pub mod mirror_refusals;
 pub mod mirrors;
 pub mod numbers;
 pub mod pieces;
@@ -17,17 +22,11 @@ pub mod runs;
 pub mod saves;
 pub mod stops;
 
-/// The name of a story, and its rows.
-pub type Story = (&'static str, &'static str);
-
-/// The stories of each file.
-pub const ALL: [&[Story]; 8] = [
-    runs::STORIES,
-    stops::STORIES,
-    refusals::STORIES,
-    pieces::STORIES,
-    numbers::STORIES,
-    disks::STORIES,
-    mirrors::STORIES,
-    renewals::STORIES,
-];
+/// A story by its rows, with the status of its script.
+pub struct Story {
+    pub name: &'static str,
+    /// Whether the rows of `BEGUN` stand before its own.
+    pub is_begun: bool,
+    pub rows: &'static str,
+    pub status: u8,
+}

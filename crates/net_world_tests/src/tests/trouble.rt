@@ -8,8 +8,6 @@ pub enum Trouble {
     NoMemory,
     /// The row is none.
     BadRow,
-    /// A frame that was sent isn't read.
-    BadFrame,
     /// A refused event has changed the world.
     Changed,
 }

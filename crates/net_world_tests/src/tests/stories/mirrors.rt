@@ -2,16 +2,17 @@
 
 use super::Story;
 
-pub const STORIES: &[Story] = &[
-    (
-        "what was lost is fetched",
-        "
-servers 1 mirror
-begin writing => refused 72 NumbersSpent
+pub static STORIES: [Story; 7] = [
+    Story {
+        name: "what was lost is fetched",
+        is_begun: false,
+        rows: "\
+servers 1 mirror => ok
+begin / [a] / rw=write / bs=512 / size=1k / iodepth=2 / . => refused 72 NumbersSpent
 tick => ok + sent 0 client mirror Fetch 24
 deliver 0 => ok + sent 1 mirror client Granted 24
 deliver 1 => ok
-begin writing => ok run 4294967297 + sent 2 client 0 Jobs 62
+begin / [a] / rw=write / bs=512 / size=1k / iodepth=2 / . => ok run 4294967297 + sent 2 client 0 Jobs 62
 deliver 2 => ok + sent 3 0 client JobsOk 28
 deliver 3 => ok + sent 4 client 0 Start 24
 deliver 4 => ok + sent 5 0 client Started 24
@@ -35,11 +36,11 @@ deliver 11 => ok + sent 12 mirror client Granted 24 + sent 13 mirror client Copy
 deliver 12 => ok
 deliver 13 => ok
 saved 4294967297 0 0 => issued 1 counted 0
-begin writing => ok run 8589934593 + sent 14 client 0 Jobs 62
+begin / [a] / rw=write / bs=512 / size=1k / iodepth=2 / . => ok run 8589934593 + sent 14 client 0 Jobs 62
 deliver 8 => ok + act cut 0
 cut 0 => ok
 restart 0 => ok
-verify 4294967297 loading => ok attempt 8589934593 + sent 15 client 0 Verify 79
+verify 4294967297 / [a] / rw=read / bs=512 / size=1k / verify_state_load=1 / . => ok attempt 8589934593 + sent 15 client 0 Verify 79
 deliver 15 => ok + sent 16 0 client WantState 36
 deliver 16 => ok + sent 17 client 0 Saved 160
 deliver 17 => ok
@@ -52,15 +53,17 @@ frame 10 => 46430113_00000009_00000008_00000010_0000000100000001_00000000_000000
 frame 11 => 46430114_00000008_00000009_00000008_0000000000000002
 frame 12 => 46430115_00000009_00000008_00000008_0000000000000002
 ",
-    ),
-    (
-        "the mirror is stopped within the save of a copy",
-        "
-servers 1 mirror
+        status: 0,
+    },
+    Story {
+        name: "the mirror is stopped within the save of a copy",
+        is_begun: false,
+        rows: "\
+servers 1 mirror => ok
 tick => ok + sent 0 client mirror Fetch 24
 deliver 0 => ok + sent 1 mirror client Granted 24
 deliver 1 => ok
-begin writing => ok run 4294967297 + sent 2 client 0 Jobs 62
+begin / [a] / rw=write / bs=512 / size=1k / iodepth=2 / . => ok run 4294967297 + sent 2 client 0 Jobs 62
 deliver 2 => ok + sent 3 0 client JobsOk 28
 deliver 3 => ok + sent 4 client 0 Start 24
 deliver 4 => ok + sent 5 0 client Started 24
@@ -83,15 +86,17 @@ deliver 12 => ok
 deliver 11 => ok
 saved 4294967297 0 0 => issued 1 counted 0
 ",
-    ),
-    (
-        "a copy that is lost: the check is a full pass",
-        "
-servers 1 mirror
+        status: 0,
+    },
+    Story {
+        name: "a copy that is lost: the check is a full pass",
+        is_begun: false,
+        rows: "\
+servers 1 mirror => ok
 tick => ok + sent 0 client mirror Fetch 24
 deliver 0 => ok + sent 1 mirror client Granted 24
 deliver 1 => ok
-begin writing => ok run 4294967297 + sent 2 client 0 Jobs 62
+begin / [a] / rw=write / bs=512 / size=1k / iodepth=2 / . => ok run 4294967297 + sent 2 client 0 Jobs 62
 deliver 2 => ok + sent 3 0 client JobsOk 28
 deliver 3 => ok + sent 4 client 0 Start 24
 deliver 4 => ok + sent 5 0 client Started 24
@@ -114,22 +119,24 @@ saved 4294967297 0 0 => none
 deliver 8 => ok + act cut 0
 cut 0 => ok
 restart 0 => ok
-verify 4294967297 loading => ok attempt 8589934593 + sent 12 client 0 Verify 79
+verify 4294967297 / [a] / rw=read / bs=512 / size=1k / verify_state_load=1 / . => ok attempt 8589934593 + sent 12 client 0 Verify 79
 deliver 12 => ok + sent 13 0 client WantState 36
 deliver 13 => ok + sent 14 client 0 NoSaved 36
 deliver 14 => ok
 check 0 0 => ok report checked 2 faults 1 end whole first 1 + sent 15 0 client Report 61
 deliver 15 => ok
 ",
-    ),
-    (
-        "a copy of an older life comes late",
-        "
-servers 1 mirror
+        status: 1,
+    },
+    Story {
+        name: "a copy of an older life comes late",
+        is_begun: false,
+        rows: "\
+servers 1 mirror => ok
 tick => ok + sent 0 client mirror Fetch 24
 deliver 0 => ok + sent 1 mirror client Granted 24
 deliver 1 => ok
-begin writing => ok run 4294967297 + sent 2 client 0 Jobs 62
+begin / [a] / rw=write / bs=512 / size=1k / iodepth=2 / . => ok run 4294967297 + sent 2 client 0 Jobs 62
 deliver 2 => ok + sent 3 0 client JobsOk 28
 deliver 3 => ok + sent 4 client 0 Start 24
 deliver 4 => ok + sent 5 0 client Started 24
@@ -150,7 +157,7 @@ cut client => ok
 losenote => ok
 renew 3 => ok
 deliver 12 => ok
-begin writing => refused 72 NumbersSpent
+begin / [a] / rw=write / bs=512 / size=1k / iodepth=2 / . => refused 72 NumbersSpent
 deliver 13 => ok
 saved 4294967297 0 0 => issued 1 counted 0
 tick => ok + sent 14 client mirror Fetch 24 + sent 15 client mirror Copy 152
@@ -160,17 +167,19 @@ deliver 16 => ok
 deliver 18 => ok
 deliver 17 => ok
 tick => ok
-begin writing => ok run 12884901889 + sent 19 client 0 Jobs 62
+begin / [a] / rw=write / bs=512 / size=1k / iodepth=2 / . => ok run 12884901889 + sent 19 client 0 Jobs 62
 ",
-    ),
-    (
-        "a request and a copy come twice",
-        "
-servers 1 mirror
+        status: 0,
+    },
+    Story {
+        name: "a request and a copy come twice",
+        is_begun: false,
+        rows: "\
+servers 1 mirror => ok
 tick => ok + sent 0 client mirror Fetch 24
 deliver 0 => ok + sent 1 mirror client Granted 24
 deliver 1 => ok
-begin writing => ok run 4294967297 + sent 2 client 0 Jobs 62
+begin / [a] / rw=write / bs=512 / size=1k / iodepth=2 / . => ok run 4294967297 + sent 2 client 0 Jobs 62
 deliver 2 => ok + sent 3 0 client JobsOk 28
 deliver 3 => ok + sent 4 client 0 Start 24
 deliver 4 => ok + sent 5 0 client Started 24
@@ -198,15 +207,17 @@ deliver 16 => ok
 deliver 15 => ok
 saved 4294967297 0 0 => issued 1 counted 0
 ",
-    ),
-    (
-        "the note is lost while a check is open",
-        "
-servers 1 mirror
+        status: 0,
+    },
+    Story {
+        name: "the note is lost while a check is open",
+        is_begun: false,
+        rows: "\
+servers 1 mirror => ok
 tick => ok + sent 0 client mirror Fetch 24
 deliver 0 => ok + sent 1 mirror client Granted 24
 deliver 1 => ok
-begin writing => ok run 4294967297 + sent 2 client 0 Jobs 62
+begin / [a] / rw=write / bs=512 / size=1k / iodepth=2 / . => ok run 4294967297 + sent 2 client 0 Jobs 62
 deliver 2 => ok + sent 3 0 client JobsOk 28
 deliver 3 => ok + sent 4 client 0 Start 24
 deliver 4 => ok + sent 5 0 client Started 24
@@ -221,7 +232,7 @@ deliver 9 => ok + sent 10 mirror client CopyOk 32
 deliver 8 => ok + act cut 0
 cut 0 => ok
 restart 0 => ok
-verify 4294967297 loading => ok attempt 4294967297 + sent 11 client 0 Verify 79
+verify 4294967297 / [a] / rw=read / bs=512 / size=1k / verify_state_load=1 / . => ok attempt 4294967297 + sent 11 client 0 Verify 79
 deliver 11 => ok + sent 12 0 client WantState 36
 cut client => ok
 losenote => ok
@@ -235,15 +246,17 @@ deliver 16 => ok
 check 0 0 => ok report checked 1 faults 0 end whole first - + sent 17 0 client Report 57
 deliver 17 => ok
 ",
-    ),
-    (
-        "the note is lost between the acks of two servers",
-        "
-servers 2 mirror
+        status: 0,
+    },
+    Story {
+        name: "the note is lost between the acks of two servers",
+        is_begun: false,
+        rows: "\
+servers 2 mirror => ok
 tick => ok + sent 0 client mirror Fetch 24
 deliver 0 => ok + sent 1 mirror client Granted 24
 deliver 1 => ok
-begin writing => ok run 4294967297 + sent 2 client 0 Jobs 62 + sent 3 client 1 Jobs 62
+begin / [a] / rw=write / bs=512 / size=1k / iodepth=2 / . => ok run 4294967297 + sent 2 client 0 Jobs 62 + sent 3 client 1 Jobs 62
 deliver 2 => ok + sent 4 0 client JobsOk 28
 deliver 3 => ok + sent 5 1 client JobsOk 28
 deliver 4 => ok + sent 6 client 0 Start 24
@@ -272,5 +285,6 @@ saved 4294967297 0 0 => issued 0 counted -
 saved 4294967297 1 0 => issued 1 counted 0
 deliver 17 => ok + act cut 1
 ",
-    ),
+        status: 0,
+    },
 ];

@@ -2,26 +2,29 @@
 
 use super::Story;
 
-pub const STORIES: &[Story] = &[
-    (
-        "a run whose number was saved isn't begun again",
-        "
-servers 1
-cutold begin writing => ok
-begin writing => refused 81 NodeOff
+pub static STORIES: [Story; 4] = [
+    Story {
+        name: "a run whose number was saved isn't begun again",
+        is_begun: false,
+        rows: "\
+servers 1 => ok
+cutold begin / [a] / rw=write / bs=512 / size=1k / iodepth=2 / . => ok
+begin / [a] / rw=write / bs=512 / size=1k / iodepth=2 / . => refused 81 NodeOff
 restart client => ok
-cutnew begin writing => ok
+cutnew begin / [a] / rw=write / bs=512 / size=1k / iodepth=2 / . => ok
 restart client => ok
-begin writing => ok run 2 + sent 0 client 0 Jobs 62
-cutnew verify 2 loading => ok
+begin / [a] / rw=write / bs=512 / size=1k / iodepth=2 / . => ok run 2 + sent 0 client 0 Jobs 62
+cutnew verify 2 / [a] / rw=read / bs=512 / size=1k / verify_state_load=1 / . => ok
 restart client => ok
-verify 2 loading => ok attempt 2 + sent 1 client 0 Verify 79
+verify 2 / [a] / rw=read / bs=512 / size=1k / verify_state_load=1 / . => ok attempt 2 + sent 1 client 0 Verify 79
 ",
-    ),
-    (
-        "a boot whose number was saved isn't had again",
-        "
-servers 2
+        status: 0,
+    },
+    Story {
+        name: "a boot whose number was saved isn't had again",
+        is_begun: false,
+        rows: "\
+servers 2 => ok
 cut 1 => ok
 cutnew restart 1 => ok
 status 1 => off
@@ -33,11 +36,13 @@ restart 1 => ok
 status 1 => boot=4 last_run=0
 status 0 => boot=1
 ",
-    ),
-    (
-        "numbers beyond those that are there",
-        "
-servers 2
+        status: 0,
+    },
+    Story {
+        name: "numbers beyond those that are there",
+        is_begun: false,
+        rows: "\
+servers 2 => ok
 issue 2 0 => refused 85 NoServer
 cut 2 => refused 85 NoServer
 restart 8 => refused 85 NoServer
@@ -52,23 +57,26 @@ deliver 18446744073709551615 => refused 80 NoFrame
 check 1 0 => refused 21 NotInFlight
 trigger 1 => refused 70 NoSuchRun
 ",
-    ),
-    (
-        "what makes no save isn't stopped in one",
-        "
-servers 1
-cutold tick => refused 84 NoSave
-cutnew check 0 0 => refused 84 NoSave
-cutold cutnew deliver 0 => refused 84 NoSave
+        status: 0,
+    },
+    Story {
+        name: "what makes no save isn't stopped in one",
+        is_begun: false,
+        rows: "\
+servers 1 => ok
+barred cutold tick => refused 84 NoSave
+barred cutnew check 0 0 => refused 84 NoSave
+barred cutold cutnew deliver 0 => refused 84 NoSave
 cutold restart 0 => refused 82 NodeOn
 cutnew deliver 0 => refused 80 NoFrame
-begin writing => ok run 1 + sent 0 client 0 Jobs 62
+begin / [a] / rw=write / bs=512 / size=1k / iodepth=2 / . => ok run 1 + sent 0 client 0 Jobs 62
 cutnew deliver 0 => refused 84 NoSave
 cut client => ok
-cutold tick => refused 81 NodeOff
+barred cutold tick => refused 81 NodeOff
 cutold restart client => refused 84 NoSave
 saved 1 0 0 => none
 frames => 1
 ",
-    ),
+        status: 0,
+    },
 ];

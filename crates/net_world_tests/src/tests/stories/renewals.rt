@@ -2,11 +2,12 @@
 
 use super::Story;
 
-pub const STORIES: &[Story] = &[
-    (
-        "what is of a mirror is refused where there is none",
-        "
-servers 1
+pub static STORIES: [Story; 4] = [
+    Story {
+        name: "what is of a mirror is refused where there is none",
+        is_begun: false,
+        rows: "\
+servers 1 => ok
 losenote => refused 89 NoMirror
 renew 0 => refused 89 NoMirror
 cut mirror => refused 89 NoMirror
@@ -17,11 +18,13 @@ cut client => ok
 losenote => refused 89 NoMirror
 restart client => ok
 ",
-    ),
-    (
-        "refusals in their order",
-        "
-servers 1 mirror
+        status: 0,
+    },
+    Story {
+        name: "refusals in their order",
+        is_begun: false,
+        rows: "\
+servers 1 mirror => ok
 losenote => refused 82 NodeOn
 renew 0 => refused 82 NodeOn
 cutold renew 0 => refused 82 NodeOn
@@ -33,14 +36,14 @@ renew 4294967296 => refused 88 BadGeneration
 renew 1 => refused 87 UsedGeneration
 renew 2 => refused 54 BadNote
 cutold renew 2 => refused 84 NoSave
-cutnew losenote => refused 84 NoSave
+barred cutnew losenote => refused 84 NoSave
 losenote => ok
 losenote => ok
 restart client => refused 54 BadNote
 renew 2 => ok
 cut mirror => ok
 cut mirror => refused 81 NodeOff
-cutnew cut mirror => refused 81 NodeOff
+barred cutnew cut mirror => refused 81 NodeOff
 tick => ok + sent 0 client mirror Fetch 24
 deliver 0 => refused 81 NodeOff
 cutnew deliver 0 => refused 81 NodeOff
@@ -50,11 +53,13 @@ cutnew deliver 0 => refused 84 NoSave
 deliver 0 => ok + sent 2 mirror client Granted 24
 deliver 7 => refused 80 NoFrame
 ",
-    ),
-    (
-        "a stop within a renewal, before its save",
-        "
-servers 1 mirror
+        status: 0,
+    },
+    Story {
+        name: "a stop within a renewal, before its save",
+        is_begun: false,
+        rows: "\
+servers 1 mirror => ok
 cut client => ok
 losenote => ok
 cutold renew 2 => ok
@@ -65,13 +70,15 @@ tick => ok + sent 0 client mirror Fetch 24
 frame 0 => 46430114_00000008_00000009_00000008_0000000000000003
 deliver 0 => ok + sent 1 mirror client Granted 24
 deliver 1 => ok
-begin writing => ok run 12884901889 + sent 2 client 0 Jobs 62
+begin / [a] / rw=write / bs=512 / size=1k / iodepth=2 / . => ok run 12884901889 + sent 2 client 0 Jobs 62
 ",
-    ),
-    (
-        "a stop within a renewal, behind its save",
-        "
-servers 1 mirror
+        status: 0,
+    },
+    Story {
+        name: "a stop within a renewal, behind its save",
+        is_begun: false,
+        rows: "\
+servers 1 mirror => ok
 cut client => ok
 losenote => ok
 cutnew renew 2 => ok
@@ -80,7 +87,8 @@ restart client => ok
 tick => ok + sent 0 client mirror Fetch 24
 deliver 0 => ok + sent 1 mirror client Granted 24
 deliver 1 => ok
-begin writing => ok run 8589934593 + sent 2 client 0 Jobs 62
+begin / [a] / rw=write / bs=512 / size=1k / iodepth=2 / . => ok run 8589934593 + sent 2 client 0 Jobs 62
 ",
-    ),
+        status: 0,
+    },
 ];

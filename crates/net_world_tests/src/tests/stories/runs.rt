@@ -2,12 +2,13 @@
 
 use super::Story;
 
-pub const STORIES: &[Story] = &[
-    (
-        "stored run",
-        "
-servers 1
-begin writing => ok run 1 + sent 0 client 0 Jobs 62
+pub static STORIES: [Story; 5] = [
+    Story {
+        name: "stored run",
+        is_begun: false,
+        rows: "\
+servers 1 => ok
+begin / [a] / rw=write / bs=512 / size=1k / iodepth=2 / . => ok run 1 + sent 0 client 0 Jobs 62
 deliver 0 => ok + sent 1 0 client JobsOk 28
 deliver 1 => ok + sent 2 client 0 Start 24
 deliver 2 => ok + sent 3 0 client Started 24
@@ -22,7 +23,7 @@ deliver 5 => ok + sent 6 client 0 StateAck 28
 deliver 6 => ok + act cut 0
 cut 0 => ok
 restart 0 => ok
-verify 1 loading => ok attempt 1 + sent 7 client 0 Verify 79
+verify 1 / [a] / rw=read / bs=512 / size=1k / verify_state_load=1 / . => ok attempt 1 + sent 7 client 0 Verify 79
 deliver 7 => ok + sent 8 0 client WantState 36
 deliver 8 => ok + sent 9 client 0 Saved 160
 deliver 9 => ok
@@ -42,12 +43,14 @@ frame 10 => 4643010f000000000000000800000029000000000000000100000000000000010000
 status 0 => boot=2 last_run=1 staged=0 run=0 stage=Idle attempt=1
 saved 1 0 0 => issued 2 counted 0
 ",
-    ),
-    (
-        "full pass",
-        "
-servers 1
-begin writing => ok run 1 + sent 0 client 0 Jobs 62
+        status: 0,
+    },
+    Story {
+        name: "full pass",
+        is_begun: false,
+        rows: "\
+servers 1 => ok
+begin / [a] / rw=write / bs=512 / size=1k / iodepth=2 / . => ok run 1 + sent 0 client 0 Jobs 62
 deliver 0 => ok + sent 1 0 client JobsOk 28
 deliver 1 => ok + sent 2 client 0 Start 24
 deliver 2 => ok + sent 3 0 client Started 24
@@ -58,7 +61,7 @@ land 0 0 0 all => ok
 done 0 0 0 => ok
 cut 0 => ok
 restart 0 => ok
-verify 1 reading => ok attempt 1 + sent 4 client 0 Verify 59
+verify 1 / [a] / rw=read / bs=512 / size=1k / . => ok attempt 1 + sent 4 client 0 Verify 59
 deliver 4 => ok
 check 0 0 => ok report checked 2 faults 1 end whole first 1 + sent 5 0 client Report 61
 frame 0 => Jobs of writing
@@ -69,12 +72,14 @@ frame 4 => 4643010b00000008000000000000002b000000000000000100000000000000015b615
 frame 5 => Report of a fault
 status 0 => boot=2 last_run=1 staged=0 run=0 stage=Idle attempt=1
 ",
-    ),
-    (
-        "no state kept",
-        "
-servers 1
-begin writing => ok run 1 + sent 0 client 0 Jobs 62
+        status: 1,
+    },
+    Story {
+        name: "no state kept",
+        is_begun: false,
+        rows: "\
+servers 1 => ok
+begin / [a] / rw=write / bs=512 / size=1k / iodepth=2 / . => ok run 1 + sent 0 client 0 Jobs 62
 deliver 0 => ok + sent 1 0 client JobsOk 28
 deliver 1 => ok + sent 2 client 0 Start 24
 deliver 2 => ok + sent 3 0 client Started 24
@@ -85,7 +90,7 @@ land 0 0 0 all => ok
 done 0 0 0 => ok
 cut 0 => ok
 restart 0 => ok
-verify 1 loading => ok attempt 1 + sent 4 client 0 Verify 79
+verify 1 / [a] / rw=read / bs=512 / size=1k / verify_state_load=1 / . => ok attempt 1 + sent 4 client 0 Verify 79
 deliver 4 => ok + sent 5 0 client WantState 36
 deliver 5 => ok + sent 6 client 0 NoSaved 36
 deliver 6 => ok
@@ -100,12 +105,14 @@ frame 6 => 4643010e0000000800000000000000140000000000000001000000000000000100000
 frame 7 => Report of a fault
 status 0 => boot=2 last_run=1 staged=0 run=0 stage=Idle attempt=1
 ",
-    ),
-    (
-        "trigger before any issue",
-        "
-servers 1
-begin one_block => ok run 1 + sent 0 client 0 Jobs 53
+        status: 1,
+    },
+    Story {
+        name: "trigger before any issue",
+        is_begun: false,
+        rows: "\
+servers 1 => ok
+begin / [a] / rw=write / bs=512 / size=512 / . => ok run 1 + sent 0 client 0 Jobs 53
 deliver 0 => ok + sent 1 0 client JobsOk 28
 deliver 1 => ok + sent 2 client 0 Start 24
 deliver 2 => ok + sent 3 0 client Started 24
@@ -116,7 +123,7 @@ deliver 5 => ok + sent 6 client 0 StateAck 28
 deliver 6 => ok
 cut 0 => ok
 restart 0 => ok
-verify 1 loading_one_block => ok attempt 1 + sent 7 client 0 Verify 80
+verify 1 / [a] / rw=read / bs=512 / size=512 / verify_state_load=1 / . => ok attempt 1 + sent 7 client 0 Verify 80
 deliver 7 => ok + sent 8 0 client WantState 36
 deliver 8 => ok + sent 9 client 0 Saved 160
 deliver 9 => ok
@@ -135,17 +142,19 @@ frame 10 => 4643010f000000000000000800000029000000000000000100000000000000010000
 status 0 => boot=2 last_run=1 staged=0 run=0 stage=Idle attempt=1
 saved 1 0 0 => issued 0 counted -
 ",
-    ),
-    (
-        "verify with an open write",
-        "
-servers 1
-begin writing => ok run 1 + sent 0 client 0 Jobs 62
+        status: 0,
+    },
+    Story {
+        name: "verify with an open write",
+        is_begun: false,
+        rows: "\
+servers 1 => ok
+begin / [a] / rw=write / bs=512 / size=1k / iodepth=2 / . => ok run 1 + sent 0 client 0 Jobs 62
 deliver 0 => ok + sent 1 0 client JobsOk 28
 deliver 1 => ok + sent 2 client 0 Start 24
 deliver 2 => ok + sent 3 0 client Started 24
 issue 0 0 => ok write 0 block 0
-verify 1 loading => ok attempt 1 + sent 4 client 0 Verify 79
+verify 1 / [a] / rw=read / bs=512 / size=1k / verify_state_load=1 / . => ok attempt 1 + sent 4 client 0 Verify 79
 deliver 4 => ok + sent 5 0 client Refused 50
 fail 0 0 0 => ok
 deliver 4 => ok + sent 6 0 client WantState 36
@@ -158,5 +167,6 @@ frame 5 => 464301100000000000000008000000220b3d000000000000000000000000000000010
 frame 6 => WantState
 status 0 => boot=1 last_run=1 staged=0 run=1 stage=Writing attempt=1
 ",
-    ),
+        status: 0,
+    },
 ];

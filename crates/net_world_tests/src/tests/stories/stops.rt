@@ -2,12 +2,13 @@
 
 use super::Story;
 
-pub const STORIES: &[Story] = &[
-    (
-        "client stopped before its save",
-        "
-servers 1
-begin writing => ok run 1 + sent 0 client 0 Jobs 62
+pub static STORIES: [Story; 5] = [
+    Story {
+        name: "client stopped before its save",
+        is_begun: false,
+        rows: "\
+servers 1 => ok
+begin / [a] / rw=write / bs=512 / size=1k / iodepth=2 / . => ok run 1 + sent 0 client 0 Jobs 62
 deliver 0 => ok + sent 1 0 client JobsOk 28
 deliver 1 => ok + sent 2 client 0 Start 24
 deliver 2 => ok + sent 3 0 client Started 24
@@ -31,12 +32,14 @@ frame 6 => StateAck
 status 0 => boot=1 last_run=1 staged=0 run=1 stage=Taken attempt=0
 saved 1 0 0 => issued 2 counted 0
 ",
-    ),
-    (
-        "client stopped behind its save",
-        "
-servers 1
-begin writing => ok run 1 + sent 0 client 0 Jobs 62
+        status: 0,
+    },
+    Story {
+        name: "client stopped behind its save",
+        is_begun: false,
+        rows: "\
+servers 1 => ok
+begin / [a] / rw=write / bs=512 / size=1k / iodepth=2 / . => ok run 1 + sent 0 client 0 Jobs 62
 deliver 0 => ok + sent 1 0 client JobsOk 28
 deliver 1 => ok + sent 2 client 0 Start 24
 deliver 2 => ok + sent 3 0 client Started 24
@@ -60,12 +63,14 @@ frame 6 => StateAck
 status 0 => boot=1 last_run=1 staged=0 run=1 stage=Taken attempt=0
 saved 1 0 0 => issued 2 counted 0
 ",
-    ),
-    (
-        "start stopped before its save",
-        "
-servers 1
-begin writing => ok run 1 + sent 0 client 0 Jobs 62
+        status: 0,
+    },
+    Story {
+        name: "start stopped before its save",
+        is_begun: false,
+        rows: "\
+servers 1 => ok
+begin / [a] / rw=write / bs=512 / size=1k / iodepth=2 / . => ok run 1 + sent 0 client 0 Jobs 62
 deliver 0 => ok + sent 1 0 client JobsOk 28
 deliver 1 => ok + sent 2 client 0 Start 24
 cutold deliver 2 => ok
@@ -85,12 +90,14 @@ frame 6 => Start
 frame 7 => Started
 status 0 => boot=2 last_run=1 staged=0 run=1 stage=Writing attempt=0
 ",
-    ),
-    (
-        "start stopped behind its save",
-        "
-servers 1
-begin writing => ok run 1 + sent 0 client 0 Jobs 62
+        status: 0,
+    },
+    Story {
+        name: "start stopped behind its save",
+        is_begun: false,
+        rows: "\
+servers 1 => ok
+begin / [a] / rw=write / bs=512 / size=1k / iodepth=2 / . => ok run 1 + sent 0 client 0 Jobs 62
 deliver 0 => ok + sent 1 0 client JobsOk 28
 deliver 1 => ok + sent 2 client 0 Start 24
 cutnew deliver 2 => ok
@@ -102,12 +109,14 @@ frame 2 => Start
 frame 3 => Refused as an old run
 status 0 => boot=2 last_run=1 staged=0 run=0 stage=Idle attempt=0
 ",
-    ),
-    (
-        "start again after a cut",
-        "
-servers 1
-begin writing => ok run 1 + sent 0 client 0 Jobs 62
+        status: 0,
+    },
+    Story {
+        name: "start again after a cut",
+        is_begun: false,
+        rows: "\
+servers 1 => ok
+begin / [a] / rw=write / bs=512 / size=1k / iodepth=2 / . => ok run 1 + sent 0 client 0 Jobs 62
 deliver 0 => ok + sent 1 0 client JobsOk 28
 deliver 1 => ok + sent 2 client 0 Start 24
 deliver 2 => ok + sent 3 0 client Started 24
@@ -122,5 +131,6 @@ frame 3 => Started
 frame 4 => Refused as an old run
 status 0 => boot=2 last_run=1 staged=0 run=0 stage=Idle attempt=0
 ",
-    ),
+        status: 0,
+    },
 ];

@@ -1,10 +1,10 @@
-//! Scripts of worlds with a mirror that are refused something, or stop a node in its save.
+//! Worlds with a mirror that are refused something, or stop a node in its save; and lines that are bad.
 
-use super::stories::Story;
+use super::Story;
 
-pub static REFUSALS: [Story; 12] = [
-    // What is of a mirror, where there is none.
+pub static STORIES: [Story; 12] = [
     Story {
+        name: "what is of a mirror, where there is none",
         is_begun: false,
         rows: "\
 servers 1 => ok
@@ -19,8 +19,8 @@ begin / . => ok run 1 + sent 0 client 0 Jobs 24
 ",
         status: 0,
     },
-    // Refusals of a renewal, in their order.
     Story {
+        name: "refusals of a renewal, in their order",
         is_begun: false,
         rows: "\
 servers 1 mirror => ok
@@ -39,8 +39,8 @@ renew 4294967295 => refused 87 UsedGeneration
 ",
         status: 0,
     },
-    // Refusals of a renewal that is cut short.
     Story {
+        name: "refusals of a renewal that is cut short",
         is_begun: false,
         rows: "\
 servers 1 mirror => ok
@@ -58,8 +58,8 @@ renew 3 => ok
 ",
         status: 0,
     },
-    // A renewal that is cut short behind its save has renewed.
     Story {
+        name: "a renewal that is cut short behind its save has renewed",
         is_begun: false,
         rows: "\
 servers 1 mirror => ok
@@ -76,8 +76,8 @@ begin / . => ok run 30064771073 + sent 2 client 0 Jobs 24
 ",
         status: 0,
     },
-    // The client's note is lost while it is off, and only then.
     Story {
+        name: "the client's note is lost while it is off, and only then",
         is_begun: false,
         rows: "\
 servers 1 mirror => ok
@@ -91,8 +91,8 @@ cutnew restart client => refused 84 NoSave
 ",
         status: 0,
     },
-    // The mirror is cut and comes back.
     Story {
+        name: "the mirror is cut and comes back",
         is_begun: false,
         rows: "\
 servers 1 mirror => ok
@@ -112,8 +112,8 @@ deliver 0 => ok + sent 2 mirror client Granted 24
 ",
         status: 0,
     },
-    // The mirror is cut in the save of a generation.
     Story {
+        name: "the mirror is cut in the save of a generation",
         is_begun: false,
         rows: "\
 servers 1 mirror => ok
@@ -127,8 +127,8 @@ deliver 0 => ok + sent 1 mirror client Granted 24
 ",
         status: 0,
     },
-    // A request of an older generation.
     Story {
+        name: "a request of an older generation",
         is_begun: false,
         rows: "\
 servers 1 mirror => ok
@@ -146,8 +146,8 @@ deliver 2 => ok + sent 4 mirror client Granted 24
 ",
         status: 0,
     },
-    // No server has the mirror's number, and the words are as they are written.
     Story {
+        name: "no server has the mirror's number, and the words are as they are written",
         is_begun: false,
         rows: "\
  servers  8\tmirror  => ok
@@ -160,16 +160,16 @@ renew\t0002 => ok
 ",
         status: 0,
     },
-    // Another word behind the servers.
     Story {
+        name: "another word behind the servers",
         is_begun: false,
         rows: "\
 servers 1 mirrors => bad line 1
 ",
         status: 2,
     },
-    // The note isn't lost in a save.
     Story {
+        name: "the note isn't lost in a save",
         is_begun: false,
         rows: "\
 servers 1 mirror => ok
@@ -178,8 +178,8 @@ cutold losenote => bad line 3
 ",
         status: 2,
     },
-    // A mirror is there from the beginning or not at all.
     Story {
+        name: "a mirror is there from the beginning or not at all",
         is_begun: false,
         rows: "\
 servers 1 => ok

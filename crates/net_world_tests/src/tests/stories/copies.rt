@@ -1,13 +1,6 @@
-//! Scripts of worlds with a mirror, with what each command prints.
+//! The copies of a mirror: what it is given, and gives back.
 
-/// A script by rows, `COMMAND => LINE + LINE`, where `/` ends a line of the command, and its status. A row
-/// without `=>` prints nothing.
-pub struct Story {
-    /// Whether the rows of `BEGUN` stand before its own.
-    pub is_begun: bool,
-    pub rows: &'static str,
-    pub status: u8,
-}
+use super::Story;
 
 /// The mirror grants the first generation, and a run is started.
 pub static BEGUN: &str = "\
@@ -22,8 +15,8 @@ deliver 4 => ok + sent 5 0 client Started 24
 ";
 
 pub static STORIES: [Story; 8] = [
-    // What was lost is fetched.
     Story {
+        name: "what was lost is fetched",
         is_begun: false,
         rows: "\
 servers 1 mirror => ok
@@ -56,8 +49,8 @@ begin / [a] / rw=write / bs=512 / size=1k / iodepth=2 / . => ok run 8589934593 +
 ",
         status: 0,
     },
-    // A copy is lost, and a check in full condemns a write in flight.
     Story {
+        name: "a copy is lost, and a check in full condemns a write in flight",
         is_begun: true,
         rows: "\
 issue 0 0 => ok write 0 block 0
@@ -85,8 +78,8 @@ deliver 15 => ok
 ",
         status: 1,
     },
-    // The check behind a lost note is the one by the state.
     Story {
+        name: "the check behind a lost note is the one by the state",
         is_begun: true,
         rows: "\
 issue 0 0 => ok write 0 block 0
@@ -116,8 +109,8 @@ check 0 0 => ok report checked 1 faults 0 end whole first - + sent 17 0 client R
 ",
         status: 0,
     },
-    // The mirror is cut in the save of a copy, and has it.
     Story {
+        name: "the mirror is cut in the save of a copy, and has it",
         is_begun: true,
         rows: "\
 trigger 4294967297 => ok + sent 6 client 0 Trigger 25
@@ -131,8 +124,8 @@ deliver 9 => ok + sent 10 mirror client CopyOk 32
 ",
         status: 0,
     },
-    // The mirror is cut in the save of a copy, and hasn't.
     Story {
+        name: "the mirror is cut in the save of a copy, and hasn't",
         is_begun: true,
         rows: "\
 trigger 4294967297 => ok + sent 6 client 0 Trigger 25
@@ -147,8 +140,8 @@ deliver 0 => ok + sent 14 mirror client Granted 24 + sent 15 mirror client Copy 
 ",
         status: 0,
     },
-    // Two servers, of which the mirror has one's state.
     Story {
+        name: "two servers, of which the mirror has one's state",
         is_begun: false,
         rows: "\
 servers 2 mirror => ok
@@ -178,8 +171,8 @@ deliver 19 => ok + sent 23 mirror client Granted 24 + sent 24 mirror client Copy
 ",
         status: 0,
     },
-    // Nothing is given before the mirror granted it, and all else works.
     Story {
+        name: "nothing is given before the mirror granted it, and all else works",
         is_begun: false,
         rows: "\
 servers 1 mirror => ok
@@ -195,8 +188,8 @@ tick => ok + sent 6 client mirror Fetch 24 + sent 7 client 0 Stop 24
 ",
         status: 0,
     },
-    // A number is granted once the mirror answers this life.
     Story {
+        name: "a number is granted once the mirror answers this life",
         is_begun: false,
         rows: "\
 servers 1 mirror => ok
