@@ -4,6 +4,7 @@
 mod disks;
 mod engines;
 mod job_files;
+mod jobs;
 mod numbers;
 mod orders;
 mod parallel;

@@ -3,31 +3,22 @@
 
 mod step;
 
+use super::jobs::{KEY, ONE_WRITE};
 use engine::{Issue, Ticket};
-use fc_base::{Fault, JobNo, JobParts, JobRecord, Key, Kind, RunNo, Seq, ServerNo, Verify};
+use fc_base::{Fault, JobParts, JobRecord, Key, Kind, Seq, ServerNo};
 use std::alloc::Global;
 use std::process::Abort;
 use std::test::Fail;
 use step::{Step, copies_alike, first_unlike, goes_so, state_after};
 use verify_state::VerifyState;
 
-const KEY: Key = Key {
-    run: RunNo(1),
-    server: ServerNo(0),
-    job: JobNo(0),
-};
-
 /// A sequential job of eight blocks, each written once.
 const PARTS: JobParts = JobParts {
-    kind: Kind::Sequential,
-    verify: Verify::Stamp,
-    pattern: 0,
-    bs: 512,
     blocks: 8,
     total: 8,
-    seed: 1,
     depth: 3,
     window: 3,
+    ..ONE_WRITE
 };
 
 /// A random job that writes its one block twice.

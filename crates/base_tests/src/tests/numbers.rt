@@ -1,61 +1,62 @@
 //! What no clause shows: that the limits, the table and the counting rule are the manual's.
 
+use super::jobs::ONE_WRITE;
 use fc_base::{
-    Blocks, CheckReport, Fault, FaultSort, JobParts, JobRecord, Kind, Marks, ReportEnd,
-    ReportParts, Seq, Verify, is_counted,
+    Blocks, CheckReport, Fault, FaultSort, JobParts, JobRecord, Marks, ReportEnd, ReportParts, Seq,
+    is_counted,
 };
 use std::test::Fail;
 
-const PARTS: JobParts = JobParts {
-    kind: Kind::Sequential,
-    verify: Verify::Stamp,
-    pattern: 0,
-    bs: 512,
-    blocks: 1,
-    total: 1,
-    seed: 1,
-    depth: 1,
-    window: 1,
-};
-
 #[test]
 fn limits_of_a_record(rt: HostRuntime) {
-    assert!(rt; JobRecord::make(PARTS).is_some());
+    assert!(rt; JobRecord::make(ONE_WRITE).is_some());
     let past = [
-        JobParts { bs: 0, ..PARTS },
-        JobParts { bs: 1000, ..PARTS },
+        JobParts { bs: 0, ..ONE_WRITE },
+        JobParts {
+            bs: 1000,
+            ..ONE_WRITE
+        },
         JobParts {
             bs: 66_048,
-            ..PARTS
+            ..ONE_WRITE
         },
-        JobParts { blocks: 0, ..PARTS },
+        JobParts {
+            blocks: 0,
+            ..ONE_WRITE
+        },
         JobParts {
             blocks: 65_537,
-            ..PARTS
+            ..ONE_WRITE
         },
-        JobParts { total: 0, ..PARTS },
+        JobParts {
+            total: 0,
+            ..ONE_WRITE
+        },
         JobParts {
             total: 1_000_001,
-            ..PARTS
+            ..ONE_WRITE
         },
-        JobParts { depth: 0, ..PARTS },
+        JobParts {
+            depth: 0,
+            ..ONE_WRITE
+        },
         JobParts {
             depth: 65,
             window: 65,
-            ..PARTS
+            ..ONE_WRITE
         },
         JobParts {
             depth: 2,
             window: 1,
-            ..PARTS
+            ..ONE_WRITE
         },
         JobParts {
             window: 257,
-            ..PARTS
+            ..ONE_WRITE
         },
         JobParts {
             pattern: 1,
-            ..PARTS
+            ..ONE_WRITE
         },
     ];
     for parts in past {

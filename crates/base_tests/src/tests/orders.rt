@@ -3,6 +3,7 @@
 
 mod vectors;
 
+use super::jobs::{KEY, ONE_WRITE};
 use fc_base::{JobNo, JobParts, JobRecord, Key, Kind, RunNo, Seq, ServerNo, Verify};
 use std::alloc::{AllocError, Global};
 use std::test::Fail;
@@ -10,15 +11,9 @@ use vectors::{BLOCKS, FRONTS, Front, PLACES, WORDS};
 use write_order::{Order, fill_block, holds_write, pick_blocks, place_of};
 
 const JOB: JobParts = JobParts {
-    kind: Kind::Sequential,
-    verify: Verify::Stamp,
-    pattern: 0,
-    bs: 512,
     blocks: 4,
     total: 6,
-    seed: 1,
-    depth: 1,
-    window: 1,
+    ..ONE_WRITE
 };
 
 fn job(kind: Kind, seed: u64, blocks: u64, total: u64) -> Option<JobRecord> {
@@ -163,12 +158,6 @@ fn order_beside_pick_blocks(rt: HostRuntime) {
     assert!(rt; follows_picks(rt.alloc(), Kind::RandomMap) == Some(true));
     assert!(rt; follows_picks(rt.alloc(), Kind::RandomFree) == Some(true));
 }
-
-const KEY: Key = Key {
-    run: RunNo(1),
-    server: ServerNo(0),
-    job: JobNo(0),
-};
 
 /// Whether the block of a write begins and ends with these bytes, where the block has one sector.
 fn is_framed(rec: &JobRecord, seq: u64, block: u32, front: &[u8], back: &[u8]) -> bool {

@@ -5,11 +5,9 @@ ghost use Rattle.std.specs.Prelude.{◌≡◌, ◌≤◌, IfOk};
 
 mod meeting;
 
+use super::jobs::{KEY, ONE_WRITE};
 use disk_model::{FaultDisk, MemDisk};
-use fc_base::{
-    CheckReport, Fault, JobNo, JobParts, JobRecord, Key, Kind, ReportEnd, RunNo, Seq, ServerNo,
-    Verify,
-};
+use fc_base::{CheckReport, Fault, JobParts, JobRecord, ReportEnd, Seq};
 use meeting::Meeting;
 use parallel_checks::{CheckTask, check_jobs};
 use std::alloc::Global;
@@ -18,23 +16,13 @@ use std::thread::Threads;
 use verify_state::VerifyState;
 use write_order::{fill_block, place_of};
 
-const KEY: Key = Key {
-    run: RunNo(1),
-    server: ServerNo(0),
-    job: JobNo(0),
-};
-
 /// Four blocks of a sector, each written once, two writes at the same time.
 const JOB: JobParts = JobParts {
-    kind: Kind::Sequential,
-    verify: Verify::Stamp,
-    pattern: 0,
-    bs: 512,
     blocks: 4,
     total: 4,
-    seed: 1,
     depth: 2,
     window: 2,
+    ..ONE_WRITE
 };
 
 /// A disk on which all four writes have landed, and what its check has to tell.

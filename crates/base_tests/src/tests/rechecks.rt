@@ -9,34 +9,22 @@ mod disks;
 mod machine;
 mod plain;
 
+use super::jobs::{KEY, ONE_WRITE};
 use disk_model::{Disk, MemDisk};
-use fc_base::{
-    CheckReport, Fault, JobNo, JobParts, JobRecord, Key, Kind, ReportEnd, RunNo, Seq, ServerNo,
-    Verify,
-};
+use fc_base::{CheckReport, Fault, JobParts, JobRecord, Key, ReportEnd, Seq, ServerNo};
 use recheck::{Recheck, Verdict, check_disk};
 use std::alloc::Global;
 use std::test::Fail;
 use verify_state::VerifyState;
 use write_order::{fill_block, place_of};
 
-const KEY: Key = Key {
-    run: RunNo(1),
-    server: ServerNo(0),
-    job: JobNo(0),
-};
-
 /// Two blocks of a sector, written once in turn, both writes at the same time.
 const JOB: JobParts = JobParts {
-    kind: Kind::Sequential,
-    verify: Verify::Stamp,
-    pattern: 0,
-    bs: 512,
     blocks: 2,
     total: 2,
-    seed: 1,
     depth: 2,
     window: 2,
+    ..ONE_WRITE
 };
 
 /// A job and its key.

@@ -1,6 +1,6 @@
 //! Histories of an engine, as data.
 
-use super::KEY;
+use crate::tests::jobs::KEY;
 use engine::{Engine, Issue, Ticket};
 use fc_base::{Fault, JobParts, JobRecord, Seq};
 use std::alloc::Global;
