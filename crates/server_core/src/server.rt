@@ -4,7 +4,7 @@ ghost use Rattle.std.specs.Prelude.{◌≡◌, ◌<◌, false, List, Some, None,
 ghost use Rattle.std.specs.Option.{option_copied, option_map};
 ghost use Rattle.fc_base.specs.declared.limits.TheConstants.{MAX_SERVERS};
 ghost use Rattle.messages.specs.declared.frame.Frame.TheVariants.{Piece as OfPiece};
-ghost use Rattle.server_core.specs.declared.input.Input.TheVariants.{Deliver, Issue as ToIssue, WriteDone as ToEnd};
+ghost use Rattle.server_core.specs.declared.input.Input.TheVariants.{Deliver, Issue as ToIssue, WriteDone as ToEnd, CheckDone as ToReport};
 ghost use Rattle.server_core.specs.Hearing.{is_piece_for};
 
 use crate::event::{Event, WriteEnd};
@@ -15,7 +15,7 @@ use crate::progress::Progress;
 use crate::status::Status;
 use disk_model::Notes;
 use engine::{Issue, Ticket};
-use fc_base::{Fault, JobNo, Seq, ServerNo};
+use fc_base::{Attempt, CheckReport, Fault, JobNo, Seq, ServerNo};
 use job_file::Job;
 use messages::{Assembly, Frame, Frames, Piece};
 use std::alloc::Global;
@@ -168,7 +168,7 @@ impl<N: Notes> Server<N> {
     /// piece completes a body that isn't the packet of its tag, which is dropped. `NoMemory`: nothing
     /// changes. `SaveFault`: the device failed, and the server is down. Any other fault is a refusal,
     /// which changes nothing.
-    // Inlined with the way of writes, so that their caller makes no room for packets and frames.
+    // Inlined with the way of writes alone, so that their caller makes no room for packets and frames.
     #[inline(always)]
     pub fn step(&mut self, input: Input) -> Result<Outs, Fault>
         ensures ends { (o : Opening) (past : List FrameEntry) → StandsFor N.note self.old o past →
@@ -177,11 +177,16 @@ impl<N: Notes> Server<N> {
             HearsInRange IsInRange (sense o past input) result }
         ensures memory { WritesTakeNone input result }
     {
-        // A function pays for the room of all its values, so the two that come most take a way of their own.
-        match &input {
-            Input::Issue(job) => Outs::issued(self.alloc, self.issue(*job)),
-            Input::WriteDone(ticket, end) => Outs::ended(self.alloc, self.end_write(*ticket, *end)),
-            _ => self.take(input),
+        match input {
+            Input::Issue(job) => Outs::issued(self.alloc, self.issue(job)),
+            Input::WriteDone(ticket, end) => Outs::ended(self.alloc, self.end_write(ticket, end)),
+            Input::Deliver(frame) => self.deliver(frame),
+            Input::CheckDone {
+                boot,
+                attempt,
+                job,
+                report,
+            } => self.end_check(boot, attempt, job, report),
         }
     }
 
@@ -209,36 +214,32 @@ impl<N: Notes> Server<N> {
         self.core.end_write(ticket, end)
     }
 
-    /// Takes what comes.
+    /// Takes what a check found.
     #[inline(never)]
-    fn take(&mut self, input: Input) -> Result<Outs, Fault>
+    fn end_check(
+        &mut self,
+        boot: u64,
+        attempt: Attempt,
+        job: JobNo,
+        report: CheckReport,
+    ) -> Result<Outs, Fault>
         ensures ends { (o : Opening) (past : List FrameEntry) → StandsFor N.note self.old o past →
-            Ends (steps N.note o) past input self.old self.new result }
+            Ends (steps N.note o) past (ToReport boot attempt job report)
+            self.old self.new result }
         ensures ranges { (o : Opening) (past : List FrameEntry) → StandsFor N.note self.old o past →
-            HearsInRange IsInRange (sense o past input) result }
+            HearsInRange IsInRange (sense o past (ToReport boot attempt job report)) result }
     {
-        match input {
-            Input::Deliver(frame) => self.deliver(frame),
-            Input::Issue(job) => self.core.step(Event::Issue(job)),
-            Input::WriteDone(ticket, end) => self.core.step(Event::WriteDone(ticket, end)),
-            Input::CheckDone {
-                boot,
-                attempt,
-                job,
-                report,
-            } => {
-                let _in_range = report.parts();
-                self.core.step(Event::CheckDone {
-                    boot,
-                    attempt,
-                    job,
-                    report,
-                })
-            }
-        }
+        let _in_range = report.parts();
+        self.core.step(Event::CheckDone {
+            boot,
+            attempt,
+            job,
+            report,
+        })
     }
 
-    /// Takes a frame.
+    /// Takes a frame. Not inlined: a function pays for the room of all its values, and writes come most.
+    #[inline(never)]
     fn deliver(&mut self, frame: Frame) -> Result<Outs, Fault>
         ensures ends { (o : Opening) (past : List FrameEntry) → StandsFor N.note self.old o past →
             Ends (steps N.note o) past (Deliver frame) self.old self.new result }

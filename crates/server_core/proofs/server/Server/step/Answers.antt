@@ -1,4 +1,4 @@
--- A request for a write, and the end of one, take a way of their own.
+-- Each input takes a way of its own.
 use Rattle.std.proofs.Common.{sym, subst}
 use Rattle.disk_model.specs.Steps.{Ends}
 use Rattle.server_core.specs.declared.input.Input.TheVariants.{Issue, WriteDone}
@@ -16,3 +16,12 @@ returns-in-WriteDone-clause-ends g c o past s =
     subst (λ e. Ends (steps g.N.Notes.note o) past e c.args.self.now c.end_write.new.self c.ended.result) (sym c.in-WriteDone.is)
     (subst (λ r. Ends (steps g.N.Notes.note o) past (WriteDone c.in-WriteDone.ticket c.in-WriteDone.end) c.args.self.now c.end_write.new.self r)
     (sym c.ended.ensures) (c.end_write.ensures.ends o past s))
+
+pub returns-in-Deliver-clause-ends : goal.returns-in-Deliver-clause-ends
+returns-in-Deliver-clause-ends g c o past s = rw c.in-Deliver.is (c.deliver.ensures.ends o past s)
+
+pub returns-in-Deliver-clause-ranges : goal.returns-in-Deliver-clause-ranges
+returns-in-Deliver-clause-ranges g c o past s = rw c.in-Deliver.is (c.deliver.ensures.ranges o past s)
+
+pub returns-in-CheckDone-clause-ends : goal.returns-in-CheckDone-clause-ends
+returns-in-CheckDone-clause-ends g c o past s = rw c.in-CheckDone.is (c.end_check.ensures.ends o past s)
