@@ -12,15 +12,15 @@ use std::alloc::Global;
 /// The world that the first row of a story asks for. Where memory runs out, it is made once more.
 pub fn world_of(alloc: Global, rows: &str) -> Result<World, Trouble> {
     match config_in(rows) {
-        Some(config) if config.servers >= 1 && config.servers <= 8 => new_world(alloc, config),
-        _ => Err(Trouble::BadRow),
+        Some(config) => new_world(alloc, config),
+        None => Err(Trouble::BadRow),
     }
 }
 
-fn new_world(alloc: Global, config: Config) -> Result<World, Trouble>
-    requires few { config.servers ≤ 8 }
-    requires some { 1 ≤ config.servers }
-{
+fn new_world(alloc: Global, config: Config) -> Result<World, Trouble> {
+    if config.servers < 1 || config.servers > 8 {
+        return Err(Trouble::BadRow);
+    }
     match World::new(alloc, config) {
         Ok(world) => Ok(world),
         Err(_) => match World::new(alloc, config) {
