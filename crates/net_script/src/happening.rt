@@ -13,11 +13,7 @@ const SECTOR: usize = 512;
 
 /// The event of a command, with the text below it: what a world applies, where no script is run. It wants memory
 /// for a text and for a sector.
-pub fn event_of(
-    alloc: Global,
-    command: &Command,
-    text: &[u8],
-) -> Result<WorldEvent, AllocError>
+pub fn event_of(alloc: Global, command: &Command, text: &[u8]) -> Result<WorldEvent, AllocError>
     ensures { IfOk result (λ event. happening event ≡ happens command.now text.now) }
 {
     let event = match *command {
