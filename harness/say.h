@@ -1,0 +1,17 @@
+/* What the harness says on standard error, and how it ends where it can't go on. */
+#ifndef SAY_H
+#define SAY_H
+
+/* The statuses that drive-target ends with. */
+enum { STATUS_SOUND = 0, STATUS_FAULTS = 1, STATUS_FAILED = 2, STATUS_NO_VERDICT = 3 };
+
+/* Says one line: `drive-target: ` and these words. */
+void say(const char *form, ...) __attribute__((format(printf, 1, 2)));
+
+/* Says what can't be done and why, and ends the program with STATUS_FAILED. The other threads end with it, whatever they wait for. */
+_Noreturn void give_up(const char *what, const char *why);
+
+/* The same, where the system says why. */
+_Noreturn void give_up_by_errno(const char *what);
+
+#endif
