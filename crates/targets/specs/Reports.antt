@@ -1,5 +1,5 @@
 -- What `drive` answers where a target is to be checked.
-use Rattle.std.specs.Prelude.{◌≡◌, ◌⊎◌, ◌≤◌, ℕ, nat_lt, List, [], ◌∷◌, length, Option, Some, None, codes, if◌then◌else◌, Result, Ok, Err}
+use Rattle.std.specs.Prelude.{◌≡◌, ◌⊎◌, ◌<◌, ◌≤◌, ℕ, nat_lt, List, [], ◌∷◌, length, Option, Some, None, codes, if◌then◌else◌, Result, Ok, Err}
 use Rattle.fc_base.specs.declared.fault.Fault.{Fault}
 use Rattle.fc_base.specs.declared.fault.Fault.TheVariants.{StateTrailing}
 use Rattle.fc_base.specs.declared.report.ReportEnd.{ReportEnd}
@@ -42,7 +42,7 @@ abbrev pub HasNoState : Option (List ℕ) → Fault → Type 0
 HasNoState input fault =
     HasNoText MAX_STATE input fault
     ⊎ ((bytes : List ℕ) × (rest : Option (List ℕ)) × IsText MAX_STATE input rest bytes
-    × (Answers (Err fault) bytes ⊎ (fault ≡ StateTrailing)))
+    × (Answers (Err fault) bytes ⊎ ((MAX_STATE < length bytes) × (fault ≡ StateTrailing))))
 
 -- An input is checked: it has the job, its state or none, and the bytes of the target, and this
 -- comes of them.

@@ -16,7 +16,7 @@ use std::io;
 use std::io::{Read, Write};
 use verify_state::VerifyState;
 
-/// The most bytes of a state that are read. The longest has 4,200, in the older layout.
+/// The most bytes of a state that are read. The longest has 4,196, in the older layout.
 pub const MAX_STATE: usize = 8_192;
 
 /// The exit status where the report has no faults.

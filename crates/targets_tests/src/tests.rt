@@ -2,6 +2,7 @@
 
 mod checks;
 mod fakes;
+mod flushes;
 mod inputs;
 mod reads;
 mod runs;

@@ -1,7 +1,7 @@
 //! Checks of a target's bytes: the line of the report, and the status.
 
 use super::inputs::Tell::*;
-use super::inputs::{Tell, input_of, push_text};
+use super::inputs::{TWO_BLOCKS, Tell, input_of, push_text};
 use super::stamps::{RUN, target_of};
 use fake_io::{Page, Source, failing_at, in_steps, page_with, source_of};
 use fc_base::{JobNo, RunNo};
@@ -9,9 +9,6 @@ use std::alloc::Global;
 use std::io::BufReader;
 use std::test::Fail;
 use targets::{check_job, write_job};
-
-/// Four writes to two blocks, two of them in flight at once.
-const TWO_BLOCKS: &[u8] = b"[a]\nrw=write\nbs=512\nsize=1k\nio_size=2k\niodepth=2\n";
 
 /// The same, where the first fault is fatal.
 const FATAL: &[u8] = b"[a]\nrw=write\nbs=512\nsize=1k\nio_size=2k\niodepth=2\nverify_fatal=1\n";
@@ -294,6 +291,34 @@ fn is_refused(alloc: Global, text: &[u8], change: State, run: u64, line: &str) -
     let target = target_of(alloc, &[Some((0, 0)), Some((1, 1))]).ok()?;
     let input = check_input(alloc, text, &state, &target)?;
     Some(answers(alloc, run, source_of(&input), 2, line))
+}
+
+/// The state in its older layout: its front but for the four letters, how many writes it counts, and their numbers.
+fn in_layout_1(alloc: Global) -> Option<Vec<u8>> {
+    let state = state_of(alloc, TWO_DONE)?;
+    let mut older = Vec::from_slice(alloc, b"FCV1").ok()?;
+    older.extend_from_slice(state.get(4..96)?).ok()?;
+    older.extend_from_slice(&2u32.to_be_bytes()).ok()?;
+    for write in 0..2u64 {
+        older.extend_from_slice(&write.to_be_bytes()).ok()?;
+    }
+    Some(older)
+}
+
+/// Whether a target is checked by the state in its older layout.
+fn checks_by_layout_1(alloc: Global, line: &str) -> Option<bool> {
+    let state = in_layout_1(alloc)?;
+    let target = target_of(alloc, &[Some((2, 0)), Some((1, 1))]).ok()?;
+    let input = check_input(alloc, TWO_BLOCKS, &state, &target)?;
+    Some(is_answered(alloc, RUN, &input, 0, line))
+}
+
+#[test]
+fn a_state_in_the_older_layout(rt: HostRuntime) -> Result<(), Fail> {
+    match checks_by_layout_1(rt.alloc(), "report checked 2 faults 0 end whole first -\n") {
+        Some(true) => Ok(()),
+        _ => Err(Fail::new("layout 1")),
+    }
 }
 
 #[test]

@@ -13,6 +13,9 @@ pub(super) enum Tell {
 
 use Tell::*;
 
+/// Four writes to two blocks, two of them in flight at once.
+pub(super) const TWO_BLOCKS: &[u8] = b"[a]\nrw=write\nbs=512\nsize=1k\nio_size=2k\niodepth=2\n";
+
 /// Adds a text behind its length.
 pub(super) fn push_text(bytes: &mut Vec<u8>, text: &[u8]) -> Result<(), AllocError> {
     let length = text.len().min(65_536) as u32;

@@ -1,7 +1,7 @@
 //! Runs of a job by recorded inputs: the orders, and the state or the line behind them.
 
 use super::inputs::Tell::*;
-use super::inputs::{Tell, input_of};
+use super::inputs::{TWO_BLOCKS, Tell, input_of};
 use super::stamps::{RUN, push_order};
 use fake_io::{Page, Source, failing, failing_at, in_steps, page_with, source_of};
 use fc_base::{JobNo, RunNo, Seq};
@@ -10,9 +10,6 @@ use std::io::BufReader;
 use std::test::Fail;
 use targets::write_job;
 use verify_state::VerifyState;
-
-/// Four writes to two blocks, two of them in flight at once.
-const TWO_BLOCKS: &[u8] = b"[a]\nrw=write\nbs=512\nsize=1k\nio_size=2k\niodepth=2\n";
 
 /// What stands behind the orders.
 #[derive(Clone, Copy)]
