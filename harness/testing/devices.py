@@ -1,0 +1,62 @@
+"""A root without /dev/fd, file systems that are full, and devices, where this machine lets that be tried."""
+import os
+import shutil
+import subprocess
+
+from trying import QUIET, TARGET, check, job, report, run, tell, write
+
+
+def no_dev_fd():
+    """A root whose /dev has nothing but /dev/null, as that of a small virtual machine."""
+    apart = ["unshare", "-m", "-r", "sh", "-c", 'mount -t tmpfs none /dev && : >/dev/null && [ ! -e /dev/fd ] && exec "$@"', "sh"]
+    if subprocess.run([*apart, "true"], **QUIET).returncode != 0:
+        print("not tried, since this machine gives no namespace: a root without /dev/fd")
+        return
+    for words in (["write", "two.fio", "apart", "as"], ["check", "two.fio", "apart", "as"]):
+        ran = subprocess.run([*apart, TARGET, *words], capture_output=True, text=True)
+        tell(f"{words[0]} without /dev/fd", (ran.returncode, ran.stdout == report([])), (0, words[0] == "check"))
+
+
+def mounts():
+    """A device that is mounted or too short, and a file system that is full, where this machine lets that be tried."""
+    if os.geteuid() != 0:
+        print("not tried, for want of root: devices")
+        return
+    os.makedirs("small", exist_ok=True)
+    if subprocess.run(["mount", "-t", "tmpfs", "-o", "size=64k", "none", "small"], **QUIET).returncode == 0:
+        try:
+            status, _, said = run("write", "two.fio", "small/t", "fs", "--cached")
+            tell("a full file system", (status, "No space left" in said), (2, True))
+            status, _, said = run("write", "two.fio", "full", "small/s", "--cut", "touch cut-by-mistake")
+            tell("a full disk for the state", (status, "No space left" in said, os.path.exists("cut-by-mistake")), (2, True, False))
+        finally:
+            subprocess.run(["umount", "small"])
+    else:
+        print("not tried: this machine mounts nothing")
+    devices()
+
+
+def devices():
+    """Loop devices."""
+    write("disk", bytes(1 << 20))
+    device = subprocess.run(["losetup", "-f", "--show", "disk"], capture_output=True, text=True).stdout.strip()
+    if not device:
+        print("not tried: this machine gives no loop device")
+        return
+    try:
+        tell("a device", run("write", "two.fio", device, "ds", "--torn")[0], 0)
+        check("the check of a device", "two.fio", device, "ds", [])
+        tell("a device that holds stamps", run("write", "two.fio", device, "ds", "--torn")[0], 0)
+        job("large.fio", blocks=512)
+        status, _, said = run("write", "large.fio", device, "ds", "--torn")
+        tell("a device that is too short", (status, "shorter than the job's region" in said), (2, True))
+        if shutil.which("mkfs.ext4") and subprocess.run(["mkfs.ext4", "-qF", device], stderr=subprocess.DEVNULL).returncode == 0:
+            status, _, said = run("write", "two.fio", device, "ds", "--torn")
+            tell("a file system", (status, "--yes writes over them" in said), (2, True))
+            os.makedirs("mounted", exist_ok=True)
+            if subprocess.run(["mount", device, "mounted"], stderr=subprocess.DEVNULL).returncode == 0:
+                status, _, said = run("write", "two.fio", device, "ds", "--torn", "--yes")
+                tell("a mounted one, with --yes", (status, "mounted, or in use" in said), (2, True))
+                subprocess.run(["umount", "mounted"])
+    finally:
+        subprocess.run(["losetup", "-d", device])

@@ -1,0 +1,87 @@
+"""The numbers of runs, and what is refused: targets, options, job files and states."""
+import os
+import subprocess
+
+from trying import LIAR, QUIET, TARGET, await_file, check, job, read, report, run, run_of, tell, tell_has, write
+
+
+def run_numbers():
+    """Two runs with two names, and a run that left no state."""
+    tell("a first run", run("write", "two.fio", "named", "mon")[0], 0)
+    first = run_of("mon")
+    env = {"LD_PRELOAD": LIAR, "LIE": "lost:1", "LIE_TARGET": "/named"}
+    tell("a run that is lost", run("write", "two.fio", "named", "tue", env=env)[0], 0)
+    tell("two runs have two numbers", first != run_of("tue"), True)
+    check("the lost run", "two.fio", "named", "tue", list(range(64)))
+    tell("numbers of many bits", all(it > 2**32 for it in (first, run_of("tue"))), True)
+    ran = subprocess.Popen([TARGET, "write", "long.fio", "named2", "mon"], **QUIET)
+    await_file("mon.old")
+    ran.kill()
+    ran.wait()
+    status, printed, said = run("check", "two.fio", "named2", "mon")
+    tell("killed before its state: the old one isn't there", (status, printed), (2, ""))
+    tell_has("what is said", said, "mon: No such file")
+
+
+def refusals():
+    """What is refused, and that nothing was changed then."""
+    def refused(what, words, part, **more):
+        status, printed, said = run(*words, **more)
+        tell(f"{what}: the status", (status, printed), (2, ""))
+        tell_has(f"{what}: what is said", said, part)
+
+    full = "two.fio"
+    refused("a target below /dev that isn't there", ["write", full, "/dev/sdzz", "rs"], "no file is made below /dev")
+    tell("and none was made", os.path.exists("/dev/sdzz"), False)
+    refused("a folder", ["write", full, ".", "rs"], "neither a file nor a block device")
+    write("letter", b"Dear all,\n" * 40000)
+    refused("a file with other bytes", ["write", full, "letter", "rs"], "--yes writes over them")
+    tell("and it is as it was", read("letter"), b"Dear all,\n" * 40000)
+    write("at the end", bytes(3 << 20) + b"EFI PART" + bytes(504))
+    refused("other bytes at the end", ["write", full, "at the end", "rs"], "it holds other bytes, at 3145728")
+    tell("with --yes", run("write", full, "letter", "rs", "--yes")[0], 0)
+    write("there", "")
+    refused("a trigger that is there", ["write", full, "t", "rs2", "--trigger", "there"], "remove it first")
+    refused("a full pass without a run", ["check", full, "t", "-"], "--run")
+    for words, part in (
+        (["--after", "1k"], "wants a number"), (["--job", "-1"], "wants a number"), (["--after"], "nothing stands behind it"), (["--afer", "1"], "no such option"),
+        (["--run", "1"], "it is for check"), (["--job", "1"], "no such job"),
+    ):
+        refused(" ".join(words), ["write", full, "t", "rs2", *words], part)
+    write("bad.fio", "[a]\nrw=write\n")
+    refused("a job file that is refused", ["write", "bad.fio", "t", "rs2"], "refused 8 NoSize 0")
+    refused("no fiocut", ["write", full, "t", "rs2"], "No such file", env={"FIOCUT": "/nowhere/fiocut"})
+    refused("no drive", ["write", full, "t", "rs2"], "No such file", env={"DRIVE": "/nowhere/drive"})
+    tell("nothing of these has put a state aside", os.path.exists("rs2"), False)
+    status, printed, _ = run("--help")
+    tell_has("--help", printed, "--after N")
+    fields = "sequential blocks=1 total=1 bs=512 seed=1 depth=1 window=1 verify=stamp save=1 load=0 fatal=0 file=x"
+    write("name.fio", f"[a {fields[:60]}]\nrw=write\nbs=4k\nsize=256k\nfilename=b {fields}\n")
+    tell("names that read like fields: the write", run("write", "name.fio", "named3", "ns")[0], 0)
+    check("names that read like fields: the check", "name.fio", "named3", "ns", [])
+
+
+def states():
+    """States that can't be kept or read."""
+    write("long state", bytes(5000))
+    status, _, said = run("check", "two.fio", "t", "long state")
+    tell("a state that is too long", (status, "too long" in said), (2, True))
+    write("cut", read("s")[:135])
+    status, printed, _ = run("check", "two.fio", "t", "cut")
+    tell("a state that is cut short", (status, printed), (2, "refused 30 Short\n"))
+    job("larger.fio", blocks=32, writes=64, block_size=8192)
+    status, printed, _ = run("check", "larger.fio", "t", "s")
+    tell("another job", (status, printed), (2, "refused 37 OtherJob\n"))
+    status, _, said = run("write", "two.fio", "kept", "ks", "--keep", "false", "--cut", "touch was-cut")
+    tell("a state that isn't kept elsewhere: no cut", (status, os.path.exists("was-cut")), (2, False))
+    status, _, said = run("write", "two.fio", "kept", "ks", "--keep", "cat >elsewhere", "--cut", "touch was-cut")
+    tell("kept elsewhere, and cut", (status, os.path.exists("was-cut"), read("elsewhere") == read("ks")), (0, True, True))
+    tell_has("the state on the tested drive", said, "empties that drive's cache")
+    status, _, said = run("write", "two.fio", "kept", "nowhere/ks")
+    tell("a folder that isn't there", (status, "nowhere/ks: No such file" in said), (2, True))
+    job("none.fio", blocks=64, writes=64)
+    env = {"LD_PRELOAD": LIAR, "LIE": "failed:1", "LIE_TARGET": "/none"}
+    tell("all writes fail", run("write", "none.fio", "none", "ns", env=env)[0], 2)
+    status, printed, said = run("check", "none.fio", "none", "ns")
+    tell("a check that checks nothing", (status, printed), (3, report([], 0)))
+    tell_has("what is said of it", said, "this is no verdict")

@@ -1,0 +1,82 @@
+"""What the tests of the harness share: runs of drive-target, the bytes that are due, and the counts."""
+import os
+import struct
+import subprocess
+import time
+
+HERE = os.path.dirname(os.path.realpath(__file__))
+OUT = f"{os.path.dirname(HERE)}/out"
+TARGET, LIAR = f"{OUT}/drive-target", f"{OUT}/liar.so"
+BLOCK = 4096
+QUIET = {"stdout": subprocess.DEVNULL, "stderr": subprocess.DEVNULL}
+counts = {"passed": 0, "failed": 0}
+
+
+def tell(what, got, due):
+    """Counts a test, and says where what came isn't what was due."""
+    counts["passed" if got == due else "failed"] += 1
+    if got != due:
+        print(f"FAILED: {what}: {got!r}, and not {due!r}", flush=True)
+
+
+def tell_has(what, text, part):
+    """Counts a test: whether a text has this part."""
+    tell(what, part if part in text else text, part)
+
+
+def run(*words, **more):
+    """Runs drive-target, and returns its status, what it printed, and what it said."""
+    env = {**os.environ, **more.pop("env", {})}
+    ran = subprocess.run([TARGET, *words], capture_output=True, text=True, errors="replace", env=env, stdin=subprocess.DEVNULL, timeout=100, **more)
+    return ran.returncode, ran.stdout, ran.stderr
+
+
+def write(path, data):
+    with open(path, "wb" if isinstance(data, bytes) else "w") as it:
+        it.write(data)
+
+
+def read(path):
+    with open(path, "rb") as it:
+        return it.read()
+
+
+def job(name, blocks=64, writes=None, depth=8, order="randwrite", block_size=BLOCK, more=""):
+    """Makes a job file of one job."""
+    text = f"[a]\nrw={order}\nbs={block_size}\nsize={blocks * block_size}\nio_size={(writes or blocks) * block_size}\niodepth={depth}\n{more}"
+    write(name, text)
+    return name
+
+
+def stamp(run_number, job_number, number, block, block_size=BLOCK):
+    """What a write puts into a block, by the manual's layout of a stamped sector."""
+    tail = bytes((number + at) % 256 for at in range(476))
+    front = struct.pack(">QIIQQ", run_number, 0, job_number, number, block)
+    return b"".join(front + struct.pack(">I", sector) + tail for sector in range(block_size // 512))
+
+
+def run_of(state):
+    return struct.unpack(">Q", read(state)[4:12])[0]
+
+
+def report(faults, checked=64, end="whole"):
+    """What a check prints of these faulty blocks, in their order."""
+    first = " ".join(map(str, sorted(faults)[:32])) or "-"
+    return f"report checked {checked} faults {len(faults)} end {end} first {first}\n"
+
+
+def check(what, job_file, target, state, faults, *words, **more):
+    """Checks a target, of which just these blocks have to be faulty."""
+    status, printed, _ = run("check", job_file, target, state, *words, **more)
+    tell(what, (status, printed), (1 if faults else 0, report(faults)))
+
+
+def await_file(path):
+    """Waits until a file is there, at most twenty seconds."""
+    until = time.time() + 20
+    while time.time() < until and not os.path.exists(path):
+        time.sleep(0.002)
+
+
+def put(data, block, bytes_, at=0):
+    data[block * BLOCK + at : block * BLOCK + at + len(bytes_)] = bytes_
