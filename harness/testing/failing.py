@@ -59,7 +59,8 @@ def kills():
 
 def killed_drive():
     """`drive` is killed, and a second harness comes."""
-    ran = subprocess.Popen([TARGET, "write", "long.fio", "alone", "as"], stdout=subprocess.PIPE, stderr=subprocess.PIPE, text=True)
+    job("longest.fio", blocks=4096, writes=1_000_000)
+    ran = subprocess.Popen([TARGET, "write", "longest.fio", "alone", "as"], stdout=subprocess.PIPE, stderr=subprocess.PIPE, text=True)
     time.sleep(0.1)
     status, _, said = run("write", "long.fio", "alone", "as2")
     tell("a second harness", (status, "another harness" in said), (2, True))

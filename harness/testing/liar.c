@@ -2,16 +2,21 @@
  *
  * LIE=KIND:EVERY[:FROM] harms each EVERYth write of a block, from the FROMth on. Kinds: lost; torn, its first half alone; misdirected, to the block behind it;
  * flipped, its last bit; late, behind LIE_HELD further writes; failed, and not made; doubtful, failed but made; short, half of it written and told; stalled, it
- * never comes back. LIE_LOG=FILE has a line for each: `KIND BLOCK WRITE`, in the order in which they were told. LIE_UNREADABLE=BYTE fails each read of the
- * target that has this byte. LIE_TARGET=NAME is the end of the target's path. */
+ * never comes back. LIE=cached:N is a drive with a volatile cache of N blocks: each write is told at once, whatever O_DSYNC says, and another one, by chance, makes
+ * room for it; LIE_FLUSHES has fdatasync empty it. Killed, it loses the rest. LIE_LOG=FILE has a line for each: `KIND BLOCK WRITE`, in the order in which they were
+ * told. LIE_UNREADABLE=BYTE fails each read of the target that has this byte. LIE_TARGET=NAME is the end of the target's path. The kernel's io_uring passes a
+ * library by, so there is none here: the harness writes by threads. */
 #include <dlfcn.h>
 #include <endian.h>
 #include <errno.h>
+#include <limits.h>
 #include <pthread.h>
+#include <stdarg.h>
 #include <stdint.h>
 #include <stdio.h>
 #include <stdlib.h>
 #include <string.h>
+#include <sys/syscall.h>
 #include <unistd.h>
 
 enum { MAX_HELD = 4096, WRITE_AT = 16 };
@@ -89,9 +94,55 @@ static ssize_t lie(int fd, const void *bytes, size_t length, off_t at) {
     return told;
 }
 
+/* Keeps a write in the cache, in the place of an earlier one to its block, or of one that then lands. */
+static void keep_cached(int fd, const void *bytes, size_t length, off_t at) {
+    for (int place = 0; place < held_count; place++) {
+        if (held[place].at != at) continue;
+        memcpy(held[place].bytes, bytes, length);
+        return;
+    }
+    if (held_count == every || held_count == MAX_HELD) {
+        int place = (int)(random() % held_count);
+        real_write(held[place].fd, held[place].bytes, held[place].length, held[place].at);
+        free(held[place].bytes);
+        held[place] = held[--held_count];
+    }
+    held[held_count].bytes = copy_of(bytes, length), held[held_count].length = length, held[held_count].at = at;
+    held[held_count].fd = fd, held[held_count++].due = LONG_MAX;
+}
+
+int fdatasync(int fd) {
+    static int (*real)(int);
+    if (!real) *(void **)&real = dlsym(RTLD_NEXT, "fdatasync");
+    pthread_mutex_lock(&lock);
+    if (getenv("LIE_FLUSHES"))
+        for (int place = 0; place < held_count; place++) held[place].due = 0;
+    let_go();
+    pthread_mutex_unlock(&lock);
+    return real(fd);
+}
+
+long syscall(long number, ...) {
+    static long (*real)(long, ...);
+    if (!real) *(void **)&real = dlsym(RTLD_NEXT, "syscall");
+    if (number == SYS_io_uring_setup) return errno = ENOSYS, -1;
+    long words[6];
+    va_list given;
+    va_start(given, number);
+    for (int at = 0; at < 6; at++) words[at] = va_arg(given, long);
+    va_end(given);
+    return real(number, words[0], words[1], words[2], words[3], words[4], words[5]);
+}
+
 ssize_t pwrite64(int fd, const void *bytes, size_t length, off_t at) {
     if (!is_target(fd)) return real_write(fd, bytes, length, at);
     pthread_mutex_lock(&lock);
+    if (!strcmp(kind, "cached")) {
+        note(kind, bytes, length, at);
+        keep_cached(fd, bytes, length, at);
+        pthread_mutex_unlock(&lock);
+        return (ssize_t)length;
+    }
     int harms = every && ++count >= from && count % every == 0;
     note(harms ? kind : "made", bytes, length, at);
     if (harms && !strcmp(kind, "stalled")) {

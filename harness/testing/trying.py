@@ -6,7 +6,7 @@ import time
 
 HERE = os.path.dirname(os.path.realpath(__file__))
 OUT = f"{os.path.dirname(HERE)}/out"
-TARGET, LIAR = f"{OUT}/drive-target", f"{OUT}/liar.so"
+TARGET, AGENT, WITNESS, LIAR = (f"{OUT}/{it}" for it in ("drive-target", "drive-agent", "drive-witness", "liar.so"))
 BLOCK = 4096
 QUIET = {"stdout": subprocess.DEVNULL, "stderr": subprocess.DEVNULL}
 counts = {"passed": 0, "failed": 0}
@@ -24,10 +24,10 @@ def tell_has(what, text, part):
     tell(what, part if part in text else text, part)
 
 
-def run(*words, **more):
-    """Runs drive-target, and returns its status, what it printed, and what it said."""
+def run(*words, program=TARGET, **more):
+    """Runs drive-target, or another program, and returns its status, what it printed, and what it said."""
     env = {**os.environ, **more.pop("env", {})}
-    ran = subprocess.run([TARGET, *words], capture_output=True, text=True, errors="replace", env=env, stdin=subprocess.DEVNULL, timeout=100, **more)
+    ran = subprocess.run([program, *words], capture_output=True, text=True, errors="replace", env=env, stdin=subprocess.DEVNULL, timeout=100, **more)
     return ran.returncode, ran.stdout, ran.stderr
 
 

@@ -1,0 +1,142 @@
+/* Runs on the machine under test: carries out the orders of a witness, or reads for it, and keeps nothing. docs/DRIVE.md is the manual. */
+#include "bytes.h"
+#include "chunk.h"
+#include "executor.h"
+#include "hello.h"
+#include "reading.h"
+#include "say.h"
+#include "words.h"
+
+#include <endian.h>
+#include <signal.h>
+#include <stdio.h>
+#include <stdlib.h>
+#include <string.h>
+#include <unistd.h>
+
+static const char USAGE[] =
+    "usage: drive-agent TARGET [OPTIONS]    on the machine under test; started by drive-witness --link\n"
+    "  --flush N    tells writes as done behind a flush: N of them, or fewer where no other is out\n"
+    "  --yes        writes over what the target holds; what is mounted or in use it never writes\n"
+    "  --torn       takes blocks that are larger than what the device writes whole\n"
+    "  --cached     without O_DIRECT and O_DSYNC\n"
+    "It is spoken to on standard input and answers on standard output. Status: 0; 2 something failed or was refused\n";
+
+struct settings {
+    struct opening opening;
+    uint64_t flush;
+};
+
+static struct settings read_settings(int count, char **words) {
+    struct settings read = {0};
+    const struct option all[] = {
+        {"--flush", 0, &read.flush, 0, 1}, {"--yes", 0, 0, &read.opening.yes, 1}, {"--torn", 0, 0, &read.opening.torn, 1}, {"--cached", 0, 0, &read.opening.cached, 1}, {0, 0, 0, 0, 0},
+    };
+    bool asks = asks_for_help(count, words);
+    if (asks || count < 2) {
+        fputs(USAGE, asks ? stdout : stderr);
+        exit(asks ? STATUS_SOUND : STATUS_FAILED);
+    }
+    read_words(all, 1, count - 2, words + 2);
+    read.opening.name = words[1];
+    read.opening.flushed = read.flush > 0;
+    return read;
+}
+
+static void answer(const void *bytes, size_t length) {
+    if (write_all(STDOUT_FILENO, bytes, length)) give_up_by_errno("the link");
+}
+
+/* Until it has welcomed the witness, the agent gives up before the witness's eyes. */
+static void tell_refusal(const char *line) {
+    uint8_t bytes[WELCOME_BYTES];
+    struct welcome welcome = {.is_refused = true};
+    snprintf(welcome.why, sizeof welcome.why, "%s", line);
+    write_welcome(bytes, &welcome);
+    write_all(STDOUT_FILENO, bytes, sizeof bytes);
+}
+
+static void welcome_witness(const struct settings *settings, const struct target *target, const struct hello *hello) {
+    uint8_t bytes[WELCOME_BYTES];
+    struct welcome welcome = {.size = target->size, .whole = target->whole, .flush = settings->flush, .cached = settings->opening.cached, .block_size = hello->region.block_size,
+                              .blocks = hello->region.blocks};
+    if (!strcmp(target->cache, "write back")) welcome.cache = CACHE_WRITE_BACK;
+    if (!strcmp(target->cache, "write through")) welcome.cache = CACHE_WRITE_THROUGH;
+    write_welcome(bytes, &welcome);
+    also_tell_end(NULL);
+    answer(bytes, sizeof bytes);
+}
+
+static struct hello await_hello(void) {
+    uint8_t bytes[HELLO_BYTES];
+    struct hello hello;
+    if (read_all(STDIN_FILENO, bytes, sizeof bytes) != sizeof bytes) give_up("the link", "no witness said hello");
+    if (!read_hello(bytes, &hello)) give_up("the link", "what speaks there is no witness of this version");
+    const struct region *region = &hello.region;
+    bool is_possible = region->blocks && region->block_size && hello.depth && hello.depth <= 4096 && region->stride >= region->block_size;
+    is_possible = is_possible && region->blocks <= INT64_MAX / 4 / region->stride && region->offset <= INT64_MAX / 4 && region->block_size <= 1 << 30;
+    if (!is_possible) give_up("the link", "no job is as the witness says");
+    return hello;
+}
+
+static void tell_witness(void *none, const struct ending *endings, size_t count) {
+    enum { AT_ONCE = 256 };
+    uint64_t words[2 * AT_ONCE];
+    (void)none;
+    for (size_t at = 0, here = 0; at < count; at++) {
+        words[2 * here] = htobe64(endings[at].is_done ? 1 : 2), words[2 * here + 1] = htobe64(endings[at].write);
+        here++;
+        if (here < AT_ONCE && at + 1 < count) continue;
+        answer(words, 2 * here * sizeof *words);
+        here = 0;
+    }
+}
+
+/* A part of an order may have come, where the link was cut within it: nothing is to be done of it. */
+static void forget_last(void *none, const void *bytes, size_t length) {
+    (void)none, (void)bytes, (void)length;
+}
+
+static bool give_back_bytes(void *none, const void *bytes, size_t length) {
+    struct chunk chunk = {htobe64(CHUNK_BYTES), htobe64(length)};
+    (void)none;
+    answer(&chunk, sizeof chunk);
+    answer(bytes, length);
+    return true;
+}
+
+static void tell_missed(void *none, uint64_t block, const char *why) {
+    struct chunk chunk = {htobe64(CHUNK_MISSED), htobe64(block)};
+    char words[MAX_WHY] = "";
+    (void)none;
+    snprintf(words, sizeof words, "%s", why);
+    answer(&chunk, sizeof chunk);
+    answer(words, sizeof words);
+}
+
+static void write_for(const struct settings *settings, const struct hello *hello) {
+    struct target target = open_to_write(&settings->opening, &hello->region);
+    struct executor executor = {.target = &target, .region = hello->region, .depth = hello->depth, .flush = settings->flush, .orders = STDIN_FILENO,
+                                .tell = tell_witness, .tell_last = forget_last};
+    welcome_witness(settings, &target, hello);
+    carry_out(&executor);
+}
+
+static void read_for(const struct settings *settings, const struct hello *hello) {
+    struct target target = open_to_read(&settings->opening);
+    struct chunk end = {htobe64(CHUNK_END), 0};
+    welcome_witness(settings, &target, hello);
+    read_region(&target, &hello->region, &(struct sink){NULL, give_back_bytes, tell_missed});
+    answer(&end, sizeof end);
+}
+
+int main(int count, char **words) {
+    speak_as("drive-agent");
+    const struct settings settings = read_settings(count, words);
+    signal(SIGPIPE, SIG_IGN);
+    also_tell_end(tell_refusal);
+    const struct hello hello = await_hello();
+    if (hello.writes) write_for(&settings, &hello);
+    else read_for(&settings, &hello);
+    return STATUS_SOUND;
+}

@@ -1,0 +1,106 @@
+#include "drive.h"
+
+#include "bytes.h"
+#include "say.h"
+#include "state.h"
+
+#include <endian.h>
+#include <inttypes.h>
+#include <stdio.h>
+#include <stdlib.h>
+#include <string.h>
+
+/* So many notices are told in one write, which a pipe keeps whole. */
+enum { AT_ONCE = 256 };
+
+struct child start_drive(const char *command, uint64_t run, const struct job *job, int pipes) {
+    const char *own = getenv("DRIVE");
+    char name[] = "drive", word[8], run_word[24], job_word[24];
+    snprintf(word, sizeof word, "%s", command);
+    snprintf(run_word, sizeof run_word, "%" PRIu64, run);
+    snprintf(job_word, sizeof job_word, "%" PRIu64, job->number);
+    struct child child = start_child(own ? own : name, (char *[]){name, word, run_word, job_word, NULL}, pipes);
+    feed(&child, job->text, job->text_length);
+    return child;
+}
+
+void feed(const struct child *child, const void *bytes, size_t length) {
+    uint32_t front = htobe32((uint32_t)length);
+    if (write_all(child->to, &front, sizeof front) == 0) write_all(child->to, bytes, length);
+}
+
+void open_drive(struct drive *drive, uint64_t run, const struct job *job, uint64_t after) {
+    *drive = (struct drive){.lock = PTHREAD_MUTEX_INITIALIZER, .changed = PTHREAD_COND_INITIALIZER};
+    drive->after = after && after < job->total ? after : job->total;
+    drive->child = start_drive("write", run, job, CHILD_READS | CHILD_WRITES);
+}
+
+/* Puts a notice there. Returns how many words of it there are. */
+static size_t put_notice(uint64_t *words, enum notice notice, uint64_t write) {
+    words[0] = htobe64((uint64_t)notice), words[1] = htobe64(write);
+    return 2;
+}
+
+/* Once `drive` has ended a notice reaches nobody, and what it said last says why. */
+void tell_endings(struct drive *drive, const struct ending *endings, size_t count) {
+    uint64_t words[2 * AT_ONCE];
+    size_t length = 0;
+    pthread_mutex_lock(&drive->lock);
+    for (size_t at = 0; at < count && !drive->is_taken; at++) {
+        drive->done += endings[at].is_done;
+        drive->failed += !endings[at].is_done;
+        length += put_notice(words + length, endings[at].is_done ? DONE : FAILED, endings[at].write);
+        drive->is_taken = drive->failed || drive->done >= drive->after;
+        if (drive->is_taken) length += put_notice(words + length, TAKE, 0);
+        if (length + 4 <= 2 * AT_ONCE && at + 1 < count && !drive->is_taken) continue;
+        write_all(drive->child.to, words, length * sizeof *words);
+        length = 0;
+    }
+    pthread_mutex_unlock(&drive->lock);
+}
+
+void tell_take(struct drive *drive) {
+    uint64_t words[2];
+    pthread_mutex_lock(&drive->lock);
+    if (!drive->is_taken) write_all(drive->child.to, words, put_notice(words, TAKE, 0) * sizeof *words);
+    drive->is_taken = true;
+    pthread_mutex_unlock(&drive->lock);
+}
+
+void note_last(struct drive *drive, const void *bytes, size_t length) {
+    pthread_mutex_lock(&drive->lock);
+    drive->last_length = length < MAX_LAST ? length : MAX_LAST;
+    memcpy(drive->last, bytes, drive->last_length);
+    drive->is_ended = true;
+    pthread_cond_broadcast(&drive->changed);
+    pthread_mutex_unlock(&drive->lock);
+}
+
+uint64_t done_by_now(struct drive *drive, bool *is_taken) {
+    pthread_mutex_lock(&drive->lock);
+    uint64_t done = drive->done;
+    *is_taken = drive->is_taken;
+    pthread_mutex_unlock(&drive->lock);
+    return done;
+}
+
+/* Waits until it gives no more orders, and has ended; from then on nothing is told. Returns its exit status, or -1 where a signal ended it. */
+static int await_end(struct drive *drive) {
+    pthread_mutex_lock(&drive->lock);
+    while (!drive->is_ended) pthread_cond_wait(&drive->changed, &drive->lock);
+    drive->is_taken = true;
+    int status = wait_for(&drive->child);
+    pthread_mutex_unlock(&drive->lock);
+    return status;
+}
+
+void await_state(struct drive *drive) {
+    int status = await_end(drive);
+    bool is_state = drive->last_length >= 4 && drive->last_length <= MAX_STATE && !memcmp(drive->last, "FCV", 3);
+    if (status == 0 && is_state) return;
+    drive->last[drive->last_length < MAX_LAST ? drive->last_length : MAX_LAST - 1] = 0;
+    char *words = (char *)drive->last;
+    words[strcspn(words, "\n")] = 0;
+    if (status < 0) give_up("drive", "it was killed, and there is no state");
+    give_up("drive", *words && !is_state ? words : "it ended without a state");
+}

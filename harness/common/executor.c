@@ -1,0 +1,37 @@
+#include "executor.h"
+
+#include "say.h"
+
+#include <inttypes.h>
+#include <string.h>
+
+uint64_t place_of_slot(const struct executor *executor, size_t slot) {
+    uint64_t block = order_of(&executor->slots, slot).block;
+    if (block >= executor->region.blocks) give_up("an order", "it is of a block that the job hasn't");
+    return place_of(&executor->region, block);
+}
+
+struct ending ending_of(const struct executor *executor, size_t slot, long answer) {
+    struct order order = order_of(&executor->slots, slot);
+    bool is_done = answer == (long)executor->region.block_size;
+    if (!is_done)
+        say("%s: write %" PRIu64 " to block %" PRIu64 " failed: %s", executor->target->name, order.write, order.block,
+            answer < 0 ? strerror((int)-answer) : "not all of its bytes were written");
+    return (struct ending){order.write, is_done};
+}
+
+void end_stream(const struct executor *executor) {
+    uint8_t last[8192];
+    executor->tell_last(executor->whose, last, what_is_left(&executor->slots, last, sizeof last));
+}
+
+void carry_out(struct executor *executor) {
+    struct ring ring;
+    /* (one more than are out at once: what stands behind the last order needs a place, too) */
+    make_slots(&executor->slots, executor->region.block_size, executor->depth + 1);
+    unsigned calls = (unsigned)executor->depth + 2; /* a read and a flush */
+    if (open_ring(&ring, calls, executor->slots.blocks, executor->slots.count * executor->region.block_size))
+        carry_out_by_ring(executor, &ring);
+    else
+        carry_out_by_threads(executor);
+}

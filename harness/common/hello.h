@@ -1,0 +1,46 @@
+/* What a witness and an agent say to each other first, so that a wrong pair refuses at once. Behind the magic all are numbers of 8 bytes, the high byte first. */
+#ifndef HELLO_H
+#define HELLO_H
+
+#include "region.h"
+#include "target.h"
+
+#include <stdbool.h>
+#include <stdint.h>
+
+/* The last byte of each magic is the version of all that goes over the link. */
+#define HELLO_MAGIC "FCHELLO1"
+#define WELCOME_MAGIC "FCAGENT1"
+
+enum { MAGIC = 8, HELLO_NUMBERS = 6, WELCOME_NUMBERS = 8, MAX_WHY = 256 };
+enum { HELLO_BYTES = MAGIC + 8 * HELLO_NUMBERS, WELCOME_BYTES = MAGIC + 8 * WELCOME_NUMBERS + MAX_WHY };
+
+/* The witness's: what it wants. */
+struct hello {
+    bool writes; /* and else it reads */
+    uint64_t depth;
+    struct region region;
+};
+
+/* What a device says of its cache. */
+enum cache { CACHE_UNTOLD, CACHE_WRITE_THROUGH, CACHE_WRITE_BACK };
+
+/* The agent's: what it has opened, or why it hasn't. */
+struct welcome {
+    bool is_refused;
+    uint64_t size, whole; /* of the target, and of what its device writes whole, 0 where nobody tells */
+    enum cache cache;
+    uint64_t flush;
+    bool cached;
+    uint64_t block_size, blocks; /* those of the hello */
+    char why[MAX_WHY];
+};
+
+void write_hello(uint8_t bytes[HELLO_BYTES], const struct hello *hello);
+void write_welcome(uint8_t bytes[WELCOME_BYTES], const struct welcome *welcome);
+
+/* Reads it. False where these are other bytes, those of another version among them. */
+bool read_hello(const uint8_t bytes[HELLO_BYTES], struct hello *hello);
+bool read_welcome(const uint8_t bytes[WELCOME_BYTES], struct welcome *welcome);
+
+#endif

@@ -1,0 +1,17 @@
+/* A job of a job file, as `fiocut jobs` tells it. */
+#ifndef JOB_H
+#define JOB_H
+
+#include <stddef.h>
+#include <stdint.h>
+
+struct job {
+    uint64_t number, blocks, total, block_size, depth;
+    const char *text; /* the job file */
+    size_t text_length;
+};
+
+/* Reads the job file, once, and asks fiocut what this job of it is. Where it is refused or hasn't the job, the harness gives up. */
+struct job read_job(const char *file, uint64_t number);
+
+#endif

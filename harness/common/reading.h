@@ -1,0 +1,20 @@
+/* Reads what a target holds in a region. */
+#ifndef READING_H
+#define READING_H
+
+#include "region.h"
+#include "target.h"
+
+#include <stdbool.h>
+
+/* Where it goes. */
+struct sink {
+    void *whose;
+    bool (*take)(void *whose, const void *bytes, size_t length); /* returns whether more is wanted */
+    void (*miss)(void *whose, uint64_t block, const char *why); /* this block can't be read, or the target ends within it */
+};
+
+/* Reads the blocks of a region in their order, many at once, up to the end, or to the first that can't be read. */
+void read_region(const struct target *target, const struct region *region, const struct sink *sink);
+
+#endif

@@ -1,0 +1,37 @@
+/* The file or block device that is tested. */
+#ifndef TARGET_H
+#define TARGET_H
+
+#include "region.h"
+
+#include <stdbool.h>
+#include <sys/types.h>
+
+/* How a target is to be opened. */
+struct opening {
+    const char *name;
+    bool cached;  /* as any program opens it, without O_DIRECT and O_DSYNC */
+    bool flushed; /* without O_DSYNC: who writes makes it keep what was written */
+    bool yes;     /* over what it holds */
+    bool torn;    /* also for blocks larger than what it writes whole */
+};
+
+struct target {
+    int fd;
+    const char *name;
+    uint64_t size; /* of a device, and of a file as it is once it is open */
+    bool is_direct;
+    dev_t device;       /* a device itself, or that of the file system where a file lies */
+    uint64_t whole;     /* how many bytes its device writes whole, or 0 where nobody tells */
+    char cache[32];     /* what its device says of its cache: "write back" or "write through", or nothing */
+};
+
+/* Opens a target for writes to a region. A file that isn't there is made, as large as the region wants, but never below /dev. Refused are what is mounted, in
+ * use, or tested by another harness; a device that is too short; what holds other bytes than zeros and stamps, unless `yes` is set; blocks that are larger
+ * than what the device writes whole, unless `torn` is. Before this has returned, no byte of what was there has changed. */
+struct target open_to_write(const struct opening *opening, const struct region *region);
+
+/* Opens a target for a check. */
+struct target open_to_read(const struct opening *opening);
+
+#endif

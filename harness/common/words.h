@@ -1,0 +1,26 @@
+/* The options of a command line. */
+#ifndef WORDS_H
+#define WORDS_H
+
+#include <stdbool.h>
+#include <stdint.h>
+
+/* An option's name, and where what stands behind it goes: a text, a number, or nothing. */
+struct option {
+    const char *name;
+    const char **text;
+    uint64_t *number;
+    bool *is;
+    int commands; /* a bit for each command of the program that it is for */
+};
+
+/* A number of decimal digits alone. Else the harness gives up, and says of what. */
+uint64_t number_of(const char *name, const char *word);
+
+/* Reads these words by the options, of which the last has no name, for a command, a bit. Where they can't be read so, the harness gives up. */
+void read_words(const struct option *options, int command, int count, char **words);
+
+/* Whether the first word asks how the program is called. */
+bool asks_for_help(int count, char **words);
+
+#endif

@@ -1,0 +1,27 @@
+/* What the command line of drive-target asks for. */
+#ifndef OPTIONS_H
+#define OPTIONS_H
+
+#include "target.h"
+
+#include <stdbool.h>
+#include <stdint.h>
+
+struct options {
+    bool writes; /* `write`, and else `check` */
+    const char *job_file, *state;
+    struct opening opening;
+    const char *trigger, *keep, *cut; /* NULL where the option isn't given */
+    uint64_t job, offset, stride;
+    uint64_t after; /* 0: at no number of writes */
+    uint64_t run;   /* 0: the run of the state */
+    uint64_t flush; /* 0: no write waits for a flush */
+};
+
+/* Reads the command line. Where it can't be read, the harness says how it goes, or what is wrong, and ends. */
+struct options read_options(int count, char **words);
+
+/* Whether the state's place is `-`, which stands for none: a full pass. */
+bool is_full_pass(const struct options *options);
+
+#endif

@@ -1,0 +1,83 @@
+#include "commands.h"
+
+#include "drive.h"
+#include "say.h"
+#include "state.h"
+#include "watch.h"
+
+#include <inttypes.h>
+#include <libgen.h>
+#include <limits.h>
+#include <stdio.h>
+#include <string.h>
+#include <sys/stat.h>
+#include <unistd.h>
+
+/* Says so where keeping the state makes the tested drive keep what lies in its cache: then a cut finds less to lose. */
+static void warn_of_one_drive(const struct options *options, const struct target *target) {
+    char folder[PATH_MAX];
+    struct stat is;
+    snprintf(folder, sizeof folder, "%s", options->state);
+    if (options->cut && stat(dirname(folder), &is) == 0 && is.st_dev == target->device)
+        say("%s lies on the drive that is tested: keeping it empties that drive's cache before the cut", options->state);
+}
+
+/* Refuses what would take the state at once. */
+static void refuse_old_trigger(const char *trigger) {
+    if (trigger && access(trigger, F_OK) == 0) give_up(trigger, "the trigger's file is there already: remove it first");
+}
+
+/* Has the state kept elsewhere, and has the power cut, where that is asked for. */
+static void keep_and_cut(const struct options *options, const struct drive *drive) {
+    if (options->keep && run_command(options->keep, drive->last, drive->last_length)) give_up(options->keep, "it didn't keep the state");
+    if (options->cut && run_command(options->cut, NULL, 0)) give_up(options->cut, "it didn't cut the power");
+}
+
+static void tell_these(void *drive, const struct ending *endings, size_t count) {
+    tell_endings(drive, endings, count);
+}
+
+static void tell_last(void *drive, const void *bytes, size_t length) {
+    note_last(drive, bytes, length);
+}
+
+static void *carry_all_out(void *executor) {
+    carry_out(executor);
+    return NULL;
+}
+
+/* Starts the thread that carries out the orders; its writes may be out for longer than anyone waits. */
+static void start_executor(struct executor *executor) {
+    pthread_t thread;
+    int error = pthread_create(&thread, NULL, carry_all_out, executor);
+    if (error) give_up("threads", strerror(error));
+    pthread_detach(thread);
+}
+
+int write_target(const struct options *options, const struct job *job) {
+    static struct drive drive; /* (its threads may outlive this call) */
+    static struct target target;
+    static struct executor executor;
+    static struct watch watch;
+    struct region region = region_of(job, options->offset, options->stride);
+    refuse_old_trigger(options->trigger);
+    target = open_to_write(&options->opening, &region);
+    warn_of_one_drive(options, &target);
+    uint64_t run = draw_number();
+    put_aside(options->state);
+    hold_signals();
+    open_drive(&drive, run, job, options->after);
+    executor = (struct executor){.target = &target, .region = region, .depth = job->depth, .flush = options->flush, .orders = drive.child.from, .whose = &drive,
+                                 .tell = tell_these, .tell_last = tell_last};
+    watch = (struct watch){&drive, job, options->trigger};
+    start_executor(&executor);
+    start_watch(&watch);
+    await_state(&drive); /* and not the writes that are still out: they are to be cut */
+    keep_state(options->state, drive.last, drive.last_length, &region);
+    let_signals_through();
+    printf("run %" PRIu64 ": %" PRIu64 " writes were done\n", run, drive.done);
+    fflush(stdout);
+    keep_and_cut(options, &drive);
+    if (drive.failed) say("a write failed, and the state was taken there: %s", options->state);
+    return drive.failed ? STATUS_FAILED : STATUS_SOUND;
+}

@@ -1,0 +1,197 @@
+"""A witness and its agent, over pipes: cuts at random moments, caches that lie, links that end anywhere, wrong pairs, and series of cycles."""
+import json
+import os
+import random
+import re
+import shlex
+import signal
+import struct
+import subprocess
+import time
+
+from trying import AGENT, BLOCK, HERE, LIAR, QUIET, WITNESS, await_file, job, read, report, run, run_of, stamp, tell, tell_has, write
+
+PASS_ON = f"python3 {shlex.quote(f'{HERE}/pass_on.py')}"
+
+
+def link(target, *options, before="", behind=""):
+    """The options that lead to an agent of a target; it writes its number to the file `agent`, so that it can be killed."""
+    words = " ".join(shlex.quote(it) for it in (AGENT, target, *options))
+    own = f"echo $$ >agent; exec {words}"
+    return "--link", own if not (before or behind) else f"{before} {words} {behind}"
+
+
+def witness(*words, **more):
+    return run(*words, program=WITNESS, **more)
+
+
+def kill_agent():
+    os.kill(int(read("agent")), signal.SIGKILL)
+
+
+def counted(state):
+    """The writes that a state counts, by the manual's layout."""
+    issued = struct.unpack(">Q", state[56:64])[0]
+    floor, *words = struct.unpack(">5Q", state[96:136])
+    return issued, set(range(floor)) | {floor + at for at in range(256) if words[at // 64] >> at % 64 & 1}
+
+
+def faults_by(log, state, data, blocks):
+    """The blocks that have to be faults: what they hold is neither their last write that was told, nor one in flight."""
+    issued, done = counted(state)
+    run_number = struct.unpack(">Q", state[4:12])[0]
+    of_block = {}
+    for _, block, number in (line.split() for line in log.decode().splitlines()):
+        of_block.setdefault(int(block), []).append(int(number))
+    faults = []
+    for block in range(blocks):
+        told = [it for it in of_block.get(block, []) if it in done]
+        flying = [it for it in of_block.get(block, []) if it not in done and it < issued]
+        sound = told and any(data[block * BLOCK : (block + 1) * BLOCK] == stamp(run_number, 0, it, block) for it in [max(told), *flying])
+        if told and not sound:
+            faults.append(block)
+    return faults
+
+
+def witness_runs():
+    """Whole runs over a link, and takes without a cut."""
+    status, printed, _ = witness("write", "two.fio", "ws", *link("wt"))
+    tell("a whole run by a witness", (status, printed), (0, f"run {run_of('ws')}: 128 ordered, 128 told, 0 in flight\n"))
+    tell("its check", witness("check", "two.fio", "ws", *link("wt"))[:2], (0, report([])))
+    tell("its check by drive-target", run("check", "two.fio", "wt", "ws")[:2], (0, report([])))
+    data = bytearray(read("wt"))
+    data[7 * BLOCK + 9] ^= 1
+    write("wh", bytes(data))
+    tell("one bit", witness("check", "two.fio", "ws", *link("wh"))[:2], (1, report([7])))
+    write("wh", bytes(data[: 40 * BLOCK + 5]))
+    status, printed, said = witness("check", "two.fio", "ws", *link("wh", "--cached"))
+    tell("a target that ends early", (status, printed), (2, report([7], 40, "read 40")))
+    tell_has("what is said of it", said, "block 40 can't be read: the target ends there")
+    status, printed, _ = witness("write", "two.fio", "ws", "--after", "50", *link("wt"))
+    tell("taken after 50", (status, " 50 told" in printed), (0, True))
+    tell("no fault", witness("check", "two.fio", "ws", *link("wt"))[0], 0)
+    ran = subprocess.Popen([WITNESS, "write", "long.fio", "wi", *link("wl")], stdout=subprocess.PIPE, stderr=subprocess.DEVNULL, text=True)
+    await_file("wl")
+    time.sleep(0.2)
+    ran.send_signal(signal.SIGINT)
+    printed, _ = ran.communicate(timeout=30)
+    tell("SIGINT", (ran.returncode, "at the cut" in printed), (0, False))
+    tell_has("its check", witness("check", "long.fio", "wi", *link("wl"))[1], "faults 0 end whole first -")
+
+
+def random_kills():
+    """The agent is killed at a hundred random moments, by io_uring and by threads, and no fault is told."""
+    chance, flying = random.Random(2), 0
+    for turn in range(100):
+        env = {**os.environ, **({"LD_PRELOAD": LIAR} if turn % 4 == 3 else {})}
+        for file in ("agent", "ks", "ks.old"):
+            if os.path.exists(file):
+                os.remove(file)
+        options = ("--flush", "4") if turn % 4 == 1 else ()
+        ran = subprocess.Popen([WITNESS, "write", "long.fio", "ks", *link("wk", *options)], stdout=subprocess.PIPE, stderr=subprocess.DEVNULL, text=True, env=env)
+        await_file("agent")
+        time.sleep(chance.uniform(0.01, 0.15))
+        kill_agent()
+        printed, _ = ran.communicate(timeout=30)
+        told = re.search(r"(\d+) told, (\d+) in flight at the cut", printed)
+        flying += int(told[2]) if told else 0
+        _, printed, said = witness("check", "long.fio", "ks", *link("wk"))
+        tell(f"killed, turn {turn}", (bool(told), "faults 0 end whole first -" in printed), (True, True))
+    tell("writes were in flight", flying > 100, True)
+
+
+def lying_caches():
+    """A cache that tells writes as done which it hasn't written: just the blocks that it lost are faults. One that obeys a flush loses none."""
+    job("cache.fio", blocks=512, writes=65536, depth=8)
+    for turn in range(6):
+        flushes = turn % 2 == 1
+        for file in ("agent", "log", "lc"):
+            if os.path.exists(file):
+                os.remove(file)
+        env = {**os.environ, "LD_PRELOAD": LIAR, "LIE": "cached:64", "LIE_LOG": os.path.abspath("log"), "LIE_TARGET": "/lc", **({"LIE_FLUSHES": "1"} if flushes else {})}
+        options = ("--flush", "8") if flushes else ()
+        ran = subprocess.Popen([WITNESS, "write", "cache.fio", "ls", *link("lc", *options)], env=env, **QUIET)
+        await_file("log")
+        time.sleep(0.4)
+        kill_agent()
+        tell(f"a lying cache, turn {turn}", ran.wait(30), 0)
+        due = faults_by(read("log"), read("ls"), read("lc"), 512)
+        status, printed, _ = witness("check", "cache.fio", "ls", *link("lc"))
+        checked = int(printed.split()[2])
+        tell(f"a lying cache, turn {turn}: {len(due)} faults", (status, printed), (1 if due else 0, report(due, checked)))
+        tell(f"a lying cache, turn {turn}: whether it lost any", bool(due), not flushes)
+
+
+def broken_links():
+    """The link ends within an order, a notice, a hello; says what no agent says; falls silent; or leads to a wrong one."""
+    ends = {"an order": {"before": f"{PASS_ON} 100003 |"}, "a notice": {"behind": f"| {PASS_ON} 5003"}, "noise": {"behind": f"| {PASS_ON} 4424 noise"}}
+    for what, way in ends.items():
+        status, printed, said = witness("write", "long.fio", "bs", "--quiet", "500", *link("bl", **way))
+        tell(f"a link that ends within {what}", (status, "at the cut" in printed), (0, True))
+        status, printed, _ = witness("check", "long.fio", "bs", *link("bl"))
+        tell(f"a link that ends within {what}: the check", (status in (0, 3), "faults 0 end whole" in printed), (True, True))
+    tell_has("noise is told", said, "what no agent says")
+    status, printed, said = witness("write", "long.fio", "bq", "--quiet", "300", *link("bl", behind=f"| {PASS_ON} 5000 silent"))
+    tell("a link that falls silent", (status, "at the cut" in printed, "nothing was heard" in said), (0, True, True))
+
+    def refused(what, words, part, command="write", state="br"):
+        status, printed, said = witness(command, "two.fio", state, *words, "--wait", "3")
+        tell(f"{what}: the status", (status, printed), (2, ""))
+        tell_has(f"{what}: what is said", said, part)
+
+    refused("a hello that is cut", link("bl", before=f"{PASS_ON} 20 |"), "no witness said hello")
+    refused("no agent", ("--link", "true"), "no agent answers")
+    refused("another version", ("--link", "head -c 56 | tr 1 2; sleep 2"), "no agent of this version")
+    refused("a shell that greets", ("--link", f"echo Welcome to this machine; exec {AGENT} bl"), "no agent of this version")
+    write("letter2", b"Dear all,\n" * 40000)
+    refused("other bytes on the target", link("letter2"), "it holds other bytes")
+    refused("a check of another region", (*link("wt"), "--offset", "4096"), "--offset 0 --stride 4096", "check", "ws")
+    refused("a check that ends early", link("wt", behind=f"| {PASS_ON} 100000; kill $$"), "nothing was checked", "check", "ws")
+    tell("no state was made", os.path.exists("br"), False)
+
+
+def regions():
+    """Blocks that lie apart, behind an offset."""
+    words = ("--offset", "8192", "--stride", "20480")
+    tell("apart: a write", witness("write", "two.fio", "rs", *words, *link("rt"))[0], 0)
+    tell("apart: as large as it has to be", os.path.getsize("rt"), 8192 + 63 * 20480 + BLOCK)
+    tell("apart: a check", witness("check", "two.fio", "rs", *link("rt"))[:2], (0, report([])))
+    tell("apart: a check by drive-target", run("check", "two.fio", "rt", "rs")[:2], (0, report([])))
+    data = bytearray(read("rt"))
+    tell("apart: nothing between", any(data[:8192]) or any(any(data[at : at + 16384]) for at in range(8192 + BLOCK, len(data) - 16384, 20480)), False)
+    data[8192 + 20480 * 5] ^= 1
+    write("rh", bytes(data))
+    tell("apart: a fault", witness("check", "two.fio", "rs", *link("rh"))[:2], (1, report([5])))
+    tell("apart: by drive-target", run("write", "two.fio", "rt", "rs2", *words)[0], 0)
+    tell("apart: its check", run("check", "two.fio", "rt", "rs2", *words)[:2], (0, report([])))
+    tell("apart: another stride", run("check", "two.fio", "rt", "rs2", "--stride", "4096")[0], 2)
+    tell("apart: not a multiple", run("write", "two.fio", "rt", "rs3", "--offset", "100")[0], 2)
+
+
+def cycles():
+    """A series of cycles, stopped and resumed."""
+    off = ("--off", "kill -KILL $(cat agent)", "--on", "true", "--every", "0.05..0.3", "--seed", "7")
+    status, printed, said = witness("cycle", "long.fio", "series", *link("ct"), *off, "--cycles", "5", "--json")
+    rows = [json.loads(line) for line in printed.splitlines()]
+    tell("five cycles", (status, [it["cycle"] for it in rows]), (0, [1, 2, 3, 4, 5]))
+    tell("each was cut, without a fault", all(it["cut"] and not it["faults"] and it["ordered"] == it["told"] + it["in_flight"] for it in rows), True)
+    tell("each has its moment", len({it["cut_after"] for it in rows}) > 3 and all(0.05 <= it["cut_after"] <= 0.3 for it in rows), True)
+    tell("their lines are kept", read("series/cycles.json").decode(), printed)
+    tell("a state of them", run("check", "long.fio", "ct", "series/cycle-000005.state")[0], 0)
+    refuse = witness("cycle", "long.fio", "series", *link("ct"), *off, "--cycles", "6")
+    tell("a series that is there", (refuse[0], "--resume" in refuse[2]), (2, True))
+    refuse = witness("cycle", "two.fio", "series", *link("ct"), *off, "--cycles", "6", "--resume")
+    tell("another job", (refuse[0], "another job" in refuse[2]), (2, True))
+    ran = subprocess.Popen([WITNESS, "cycle", "long.fio", "series", *link("ct"), *off, "--cycles", "9", "--resume"], **QUIET)
+    await_file("series/cycle-000006.state")
+    ran.kill()
+    ran.wait()
+    status, printed, _ = witness("cycle", "long.fio", "series", *link("ct"), *off, "--cycles", "8", "--resume")
+    tell("it goes on", (status, len(printed.splitlines()) >= 2, len(read("series/cycles.json").splitlines())), (0, True, 8))
+    env = {"LD_PRELOAD": LIAR, "LIE": "lost:3", "LIE_TARGET": "/cf"}
+    status, printed, _ = witness("cycle", "long.fio", "faulty", *link("cf"), *off, "--cycles", "4", env=env)
+    tell("a cycle with faults ends a series", (status, len(printed.splitlines())), (1, 1))
+    status, printed, _ = witness("cycle", "long.fio", "faulty2", *link("cf"), *off, "--cycles", "3", "--keep-going", env=env)
+    tell("but not with --keep-going", (status, len(printed.splitlines())), (1, 3))
+    status, _, said = witness("cycle", "long.fio", "failing2", *link("ct"), "--off", "false", "--on", "true", "--every", "0.1..0.1")
+    tell("a command that doesn't cut", (status, "it didn't cut the power" in said), (2, True))

@@ -1,0 +1,66 @@
+#include "link.h"
+
+#include "bytes.h"
+#include "clock.h"
+#include "say.h"
+
+#include <errno.h>
+#include <inttypes.h>
+#include <poll.h>
+#include <string.h>
+#include <unistd.h>
+
+/* Reads so many bytes, for so long at most. Returns how many came. */
+static size_t read_until(int fd, uint8_t *bytes, size_t length, uint64_t until) {
+    size_t have = 0;
+    while (have < length) {
+        uint64_t now = milliseconds();
+        struct pollfd polled = {fd, POLLIN, 0};
+        int ready = now < until ? poll(&polled, 1, (int)(until - now)) : 0;
+        if (ready < 0 && errno == EINTR) continue;
+        ssize_t count = ready > 0 ? read(fd, bytes + have, length - have) : 0;
+        if (count <= 0) break;
+        have += (size_t)count;
+    }
+    return have;
+}
+
+/* Whether this agent is the right one. One that refuses because its target is still in use may soon have it: its last run may be ending. */
+static bool is_welcome(const struct welcome *welcome, const struct hello *hello) {
+    if (welcome->is_refused) return false;
+    if (welcome->block_size != hello->region.block_size || welcome->blocks != hello->region.blocks) give_up("the link", "that agent speaks of another region");
+    return true;
+}
+
+struct link open_link(const char *command, const struct hello *hello, uint64_t seconds) {
+    uint8_t said[HELLO_BYTES], heard[WELCOME_BYTES];
+    uint64_t until = milliseconds() + seconds * 1000;
+    const char *why;
+    struct link link;
+    write_hello(said, hello);
+    do {
+        link.child = start_command(command, CHILD_READS | CHILD_WRITES | CHILD_APART);
+        write_all(link.child.to, said, sizeof said); /* (where nobody reads it, nobody answers) */
+        size_t have = read_until(link.child.from, heard, sizeof heard, until);
+        bool is_agent = have == sizeof heard && read_welcome(heard, &link.welcome);
+        if (is_agent && is_welcome(&link.welcome, hello)) return link;
+        if (have >= MAGIC && memcmp(heard, WELCOME_MAGIC, MAGIC)) give_up("the link", "what answers there is no agent of this version");
+        end_link(&link);
+        if (is_agent && !strstr(link.welcome.why, "in use") && !strstr(link.welcome.why, "at work")) give_up("the agent refuses", link.welcome.why);
+        why = is_agent ? "its target stays in use" : "no agent answers";
+        if (milliseconds() + 1000 < until) pause_for(1000);
+    } while (milliseconds() + 1000 < until);
+    give_up("the link", why);
+}
+
+void tell_welcome(const struct link *link) {
+    static const char *const caches[] = {"nobody tells of its cache", "without a volatile cache", "with a volatile cache"};
+    const struct welcome *welcome = &link->welcome;
+    say("the agent has %" PRIu64 " bytes, writes %" PRIu64 " whole, %s", welcome->size, welcome->whole, caches[welcome->cache]);
+    if (welcome->flush) say("it tells writes as done behind a flush of at most %" PRIu64, welcome->flush);
+    if (welcome->cached && !welcome->flush) say("it tells writes as done that may lie in its memory alone: a cut loses them");
+}
+
+void end_link(struct link *link) {
+    end_group(&link->child);
+}

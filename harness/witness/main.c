@@ -1,0 +1,46 @@
+/* Runs on a machine that keeps its power: has an agent write and read, and remembers what was told as done. docs/DRIVE.md is the manual. */
+#include "commands.h"
+
+#include "report.h"
+#include "run.h"
+#include "say.h"
+
+#include <inttypes.h>
+#include <signal.h>
+#include <stdio.h>
+
+int write_by_agent(const struct options *options, const struct job *job) {
+    const struct region region = region_of(job, options->offset, options->stride);
+    const struct hello hello = {true, job->depth, region};
+    struct link link = open_link(options->link, &hello, options->wait);
+    tell_welcome(&link);
+    put_aside(options->place);
+    struct tally tally = run_job(options, job, &region, &link, 0);
+    keep_state(options->place, tally.state, tally.state_length, &region);
+    printf("run %" PRIu64 ": %" PRIu64 " ordered, %" PRIu64 " told, %" PRIu64 " in flight%s\n", tally.run, tally.ordered, tally.told, in_flight(&tally), tally.is_cut ? " at the cut" : "");
+    if (tally.failed) say("a write failed, and the state was taken there: %s", options->place);
+    return tally.failed ? STATUS_FAILED : STATUS_SOUND;
+}
+
+int check_by_agent(const struct options *options, const struct job *job) {
+    static uint8_t state[MAX_STATE];
+    static struct report report;
+    size_t length = read_state(options->place, state);
+    const struct region region = region_of_state(options->place, job, options->offset, options->stride);
+    const struct hello hello = {false, job->depth, region};
+    struct link link = open_link(options->link, &hello, options->wait);
+    check_job(job, &link, state, length, &report);
+    return tell_report(&report);
+}
+
+int main(int count, char **words) {
+    speak_as("drive-witness");
+    const struct options options = read_options(count, words);
+    signal(SIGPIPE, SIG_IGN);
+    const struct job job = read_job(options.job_file, options.job);
+    switch (options.command) {
+    case WRITE: return write_by_agent(&options, &job);
+    case CHECK: return check_by_agent(&options, &job);
+    default: return cycle_by_agent(&options, &job);
+    }
+}

@@ -1,0 +1,95 @@
+#include "options.h"
+
+#include "say.h"
+#include "words.h"
+
+#include <stdio.h>
+#include <stdlib.h>
+#include <string.h>
+
+static const char USAGE[] =
+    "usage: drive-witness write JOBFILE STATE --link COMMAND [OPTIONS]    has an agent write, until the link ends, and keeps the state\n"
+    "       drive-witness check JOBFILE STATE --link COMMAND [OPTIONS]    checks what an agent reads by that state\n"
+    "       drive-witness cycle JOBFILE FOLDER --link COMMAND --off COMMAND --on COMMAND [OPTIONS]\n"
+    "                                                    writes, cuts, checks, again and again, and keeps all in FOLDER\n"
+    "  --link COMMAND    a shell runs it: the way to drive-agent, as 'ssh dut drive-agent /dev/disk/by-id/X'\n"
+    "  --job N           job N of the file, from 0\n"
+    "  --offset BYTES    where the first block begins, 0 else; --stride BYTES: from one block's front to the next\n"
+    "  --wait SECONDS    so long for the link to be there: 30, in a cycle 600\n"
+    "  --quiet MS        silence so long, while writes are out, is the cut; in a cycle 10000 where nothing else is said\n"
+    "write:\n"
+    "  --after N         takes the state once N writes are done\n"
+    "cycle:\n"
+    "  --off COMMAND     cuts the power; --on COMMAND: gives it back\n"
+    "  --cycles N        so many cycles; else until SIGINT\n"
+    "  --every A..B      the cut comes after A to B seconds, drawn each time: 1..10\n"
+    "  --seed S          draws them by this number\n"
+    "  --keep-going      goes on behind a cycle that had faults\n"
+    "  --resume          goes on with the cycles in FOLDER\n"
+    "  --json            a line of JSON for each cycle\n"
+    "FIOCUT and DRIVE name the two programs. SIGINT takes the state, without a cut.\n"
+    "status: 0; 1 faults were found; 2 something failed or was refused; 3 nothing could be checked\n";
+
+/* A number of seconds, as milliseconds; -1 where it is none. */
+static double milliseconds_of(const char *text, size_t length) {
+    char copy[32], *end;
+    if (length == 0 || length >= sizeof copy) return -1;
+    memcpy(copy, text, length);
+    copy[length] = 0;
+    double seconds = strtod(copy, &end);
+    return *end || !(seconds >= 0 && seconds < 1e9) ? -1 : seconds * 1000;
+}
+
+/* Reads the seconds A..B. */
+static void read_every(const char *text, struct options *read) {
+    const char *dots = strstr(text, "..");
+    double least = dots ? milliseconds_of(text, (size_t)(dots - text)) : -1, most = dots ? milliseconds_of(dots + 2, strlen(dots + 2)) : -1;
+    if (least < 0 || most < least) give_up("--every", "this wants seconds, as 1..10");
+    read->least = (uint64_t)least, read->most = (uint64_t)most;
+}
+
+static void refuse_missing(const struct options *read) {
+    if (!read->link) give_up("--link", "the command that leads to the agent has to be said");
+    if (read->command == CYCLE && (!read->off || !read->on)) give_up("--off, --on", "a cycle wants both");
+}
+
+/* The command that the first word names, with two words behind it. Else the program says how it goes, and ends. */
+static enum command read_command(int count, char **words) {
+    const char *const names[] = {"write", "check", "cycle"};
+    bool asks = asks_for_help(count, words);
+    for (int at = 0; at < 3; at++)
+        if (count > 3 && !strcmp(words[1], names[at])) return (enum command)(1 << at);
+    fputs(USAGE, asks ? stdout : stderr);
+    exit(asks ? STATUS_SOUND : STATUS_FAILED);
+}
+
+struct options read_options(int count, char **words) {
+    struct options read = {.command = read_command(count, words)};
+    const char *every = "1..10";
+    const int all_commands = WRITE | CHECK | CYCLE;
+    const struct option all[] = {
+        {"--link", &read.link, 0, 0, all_commands},
+        {"--job", 0, &read.job, 0, all_commands},
+        {"--offset", 0, &read.offset, 0, all_commands},
+        {"--stride", 0, &read.stride, 0, all_commands},
+        {"--wait", 0, &read.wait, 0, all_commands},
+        {"--quiet", 0, &read.quiet, 0, all_commands},
+        {"--after", 0, &read.after, 0, WRITE},
+        {"--off", &read.off, 0, 0, CYCLE},
+        {"--on", &read.on, 0, 0, CYCLE},
+        {"--cycles", 0, &read.cycles, 0, CYCLE},
+        {"--every", &every, 0, 0, CYCLE},
+        {"--seed", 0, &read.seed, 0, CYCLE},
+        {"--keep-going", 0, 0, &read.keep_going, CYCLE},
+        {"--resume", 0, 0, &read.resume, CYCLE},
+        {"--json", 0, 0, &read.json, CYCLE},
+        {0, 0, 0, 0, 0},
+    };
+    read.job_file = words[2], read.place = words[3];
+    read_words(all, read.command, count - 4, words + 4);
+    read_every(every, &read);
+    refuse_missing(&read);
+    if (!read.wait) read.wait = read.command == CYCLE ? 600 : 30;
+    if (!read.quiet && read.command == CYCLE) read.quiet = 10000;
+    return read;
+}

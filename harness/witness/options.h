@@ -1,0 +1,28 @@
+/* What the command line of drive-witness asks for. */
+#ifndef OPTIONS_H
+#define OPTIONS_H
+
+#include <stdbool.h>
+#include <stdint.h>
+
+enum command { WRITE = 1, CHECK = 2, CYCLE = 4 };
+
+struct options {
+    enum command command;
+    const char *job_file;
+    const char *place; /* the state's file, or the folder of a cycle */
+    const char *link, *off, *on;
+    uint64_t job, offset, stride;
+    uint64_t after;    /* 0: at no number of writes */
+    uint64_t quiet;    /* milliseconds; 0: silence is no cut */
+    uint64_t wait;     /* seconds for the link to be there */
+    uint64_t cycles;   /* 0: until it is stopped */
+    uint64_t least, most; /* milliseconds from the first order to the cut */
+    uint64_t seed;     /* 0: one is drawn */
+    bool keep_going, resume, json;
+};
+
+/* Reads the command line. Where it can't be read, the program says how it goes, or what is wrong, and ends. */
+struct options read_options(int count, char **words);
+
+#endif
