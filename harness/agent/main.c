@@ -70,7 +70,10 @@ static void welcome_witness(const struct settings *settings, const struct target
 static struct hello await_hello(void) {
     uint8_t bytes[HELLO_BYTES];
     struct hello hello;
-    if (read_all(STDIN_FILENO, bytes, sizeof bytes) != sizeof bytes) give_up("the link", "no witness said hello");
+    if (read_all(STDIN_FILENO, bytes, sizeof bytes) != sizeof bytes) {
+        also_tell_end(NULL); /* (a link that ended has nobody to tell, and the next one that uses the same line would hear it) */
+        give_up("the link", "no witness said hello");
+    }
     if (!read_hello(bytes, &hello)) give_up("the link", "what speaks there is no witness of this version");
     const struct region *region = &hello.region;
     bool is_possible = region->blocks && region->block_size && hello.depth && hello.depth <= 4096 && region->stride >= region->block_size;

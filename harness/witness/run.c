@@ -155,13 +155,25 @@ static void end_cut(struct course *course) {
     if (course->off.pid && wait_for(&course->off)) give_up(course->options->off, "it didn't cut the power");
 }
 
-static int open_signals(void) {
+static sigset_t stops(void) {
     sigset_t set;
     sigemptyset(&set), sigaddset(&set, SIGINT), sigaddset(&set, SIGTERM);
+    return set;
+}
+
+/* From now on SIGINT and SIGTERM are read here, and end nothing. */
+static int open_signals(void) {
+    const sigset_t set = stops();
     sigprocmask(SIG_BLOCK, &set, NULL);
     int fd = signalfd(-1, &set, SFD_CLOEXEC | SFD_NONBLOCK);
     if (fd < 0) give_up_by_errno("signals");
     return fd;
+}
+
+static void close_signals(int fd) {
+    const sigset_t set = stops();
+    close(fd);
+    sigprocmask(SIG_UNBLOCK, &set, NULL);
 }
 
 uint64_t in_flight(const struct tally *tally) {
@@ -185,7 +197,7 @@ struct tally run_job(const struct options *options, const struct job *job, const
     tally.milliseconds = milliseconds() - course.began;
     end_cut(&course);
     end_link(link);
-    close(signals);
+    close_signals(signals);
     tally.state_length = take_state(&course.outbox, status, tally.state);
     free_outbox(&course.outbox);
     return tally;
