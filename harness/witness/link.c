@@ -32,6 +32,14 @@ static bool is_welcome(const struct welcome *welcome, const struct hello *hello)
     return true;
 }
 
+/* So long one start of the command has: a line may lose what is said while nobody listens at its other end. */
+enum { ONE_START = 20000 };
+
+static uint64_t end_of_start(uint64_t until) {
+    uint64_t one = milliseconds() + ONE_START;
+    return one < until ? one : until;
+}
+
 struct link open_link(const char *command, const struct hello *hello, uint64_t seconds) {
     uint8_t said[HELLO_BYTES], heard[WELCOME_BYTES];
     uint64_t until = milliseconds() + seconds * 1000;
@@ -41,7 +49,7 @@ struct link open_link(const char *command, const struct hello *hello, uint64_t s
     do {
         link.child = start_command(command, CHILD_READS | CHILD_WRITES | CHILD_APART);
         write_all(link.child.to, said, sizeof said); /* (where nobody reads it, nobody answers) */
-        size_t have = read_until(link.child.from, heard, sizeof heard, until);
+        size_t have = read_until(link.child.from, heard, sizeof heard, end_of_start(until));
         bool is_agent = have == sizeof heard && read_welcome(heard, &link.welcome);
         if (is_agent && is_welcome(&link.welcome, hello)) return link;
         if (have >= MAGIC && memcmp(heard, WELCOME_MAGIC, MAGIC)) give_up("the link", "what answers there is no agent of this version");

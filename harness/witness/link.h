@@ -12,7 +12,7 @@ struct link {
     struct welcome welcome;
 };
 
-/* Starts the command, says hello, and waits for the welcome: a new start each second, until so many are over. Where an agent refuses, or what answers is none, or
+/* Starts the command, says hello, and waits for the welcome: a new start where none comes, until so many seconds are over. Where an agent refuses, or what answers is none, or
  * nothing answers, the witness gives up. */
 struct link open_link(const char *command, const struct hello *hello, uint64_t seconds);
 
