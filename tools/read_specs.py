@@ -1,4 +1,5 @@
-"""Reads crates/*/specs/*.antt: the comment above each definition, and which definitions each one names. tools/make-definitions uses it."""
+"""Reads crates/*/specs/*.antt: the comment above each definition, and which definitions each one
+names. tools/make-definitions uses it."""
 import re
 
 USE = re.compile(r"use Rattle\.(\w+)\.specs\.(\w+)(?:\.\{(.*)\}| as (\w+))?$")
@@ -8,15 +9,17 @@ VARIANT = re.compile(r"  (?:pub )?([^\s:(){}]+) : ")
 
 
 class Row:
-    """Definitions that share a comment: their names, what it says, and the variants and fields that have words of their own."""
+    """Definitions that share a comment: their names, what it says, and the variants and fields that
+    have words of their own."""
 
     def __init__(self, says):
         self.names, self.says, self.parts = [], says, []
 
 
 class File:
-    """A file of specs/: its sentence, and its rows under the words of each of its parts. By name also the text of each definition,
-    which definition a name or a variant is of, and what the file takes from others."""
+    """A file of specs/: its sentence, and its rows under the words of each of its parts. By name
+    also the text of each definition, which definition a name or a variant is of, and what the file
+    takes from others."""
 
     def __init__(self, path):
         self.sentence, self.parts = "", [("", [])]
