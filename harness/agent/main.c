@@ -1,8 +1,11 @@
-/* Runs on the machine under test: carries out the orders of a witness, or reads for it, and keeps nothing. docs/DRIVE.md is the manual. */
+/* Runs on the machine under test: carries out the orders of a witness, or reads for it, and keeps
+ * nothing. docs/DRIVE.md is the manual. */
+#include "answers.h"
 #include "bytes.h"
 #include "chunk.h"
 #include "executor.h"
 #include "hello.h"
+#include "local.h"
 #include "reading.h"
 #include "say.h"
 #include "words.h"
@@ -43,10 +46,6 @@ static struct settings read_settings(int count, char **words) {
     return read;
 }
 
-static void answer(const void *bytes, size_t length) {
-    if (write_all(STDOUT_FILENO, bytes, length)) give_up_by_errno("the link");
-}
-
 /* Until it has welcomed the witness, the agent gives up before the witness's eyes. */
 static void tell_refusal(const char *line) {
     uint8_t bytes[WELCOME_BYTES];
@@ -71,7 +70,8 @@ static struct hello await_hello(void) {
     uint8_t bytes[HELLO_BYTES];
     struct hello hello;
     if (read_all(STDIN_FILENO, bytes, sizeof bytes) != sizeof bytes) {
-        also_tell_end(NULL); /* (a link that ended has nobody to tell, and the next one that uses the same line would hear it) */
+        /* (a link that ended has nobody to tell; the next one on the same line would hear it) */
+        also_tell_end(NULL);
         give_up("the link", "no witness said hello");
     }
     if (!read_hello(bytes, &hello)) give_up("the link", "what speaks there is no witness of this version");
@@ -82,22 +82,10 @@ static struct hello await_hello(void) {
     return hello;
 }
 
-static void tell_witness(void *none, const struct ending *endings, size_t count) {
-    enum { AT_ONCE = 256 };
-    uint64_t words[2 * AT_ONCE];
-    (void)none;
-    for (size_t at = 0, here = 0; at < count; at++) {
-        words[2 * here] = htobe64(endings[at].is_done ? 1 : 2), words[2 * here + 1] = htobe64(endings[at].write);
-        here++;
-        if (here < AT_ONCE && at + 1 < count) continue;
-        answer(words, 2 * here * sizeof *words);
-        here = 0;
-    }
-}
-
-/* A part of an order may have come, where the link was cut within it: nothing is to be done of it. */
-static void forget_last(void *none, const void *bytes, size_t length) {
-    (void)none, (void)bytes, (void)length;
+/* A part of an order may have come, where the link was cut within it: nothing is to be done of it.
+ * The agent's own `drive` may say why it gives no more. */
+static void take_last(void *hello, const void *bytes, size_t length) {
+    if (((const struct hello *)hello)->is_local) tell_last_words(bytes, length);
 }
 
 static bool give_back_bytes(void *none, const void *bytes, size_t length) {
@@ -117,10 +105,17 @@ static void tell_missed(void *none, uint64_t block, const char *why) {
     answer(words, sizeof words);
 }
 
-static void write_for(const struct settings *settings, const struct hello *hello) {
+static void write_for(const struct settings *settings, struct hello *hello) {
+    static struct child drive;
+    int orders = STDIN_FILENO;
     struct target target = open_to_write(&settings->opening, &hello->region);
-    struct executor executor = {.target = &target, .region = hello->region, .depth = hello->depth, .flush = settings->flush, .orders = STDIN_FILENO,
-                                .tell = tell_witness, .tell_last = forget_last};
+    if (hello->is_local) {
+        drive = start_own_drive(hello);
+        orders = drive.from;
+        hand_back(&drive);
+    }
+    struct executor executor = {.target = &target, .region = hello->region, .depth = hello->depth, .flush = settings->flush, .orders = orders, .whose = hello,
+                                .tell = tell_witness, .tell_last = take_last};
     welcome_witness(settings, &target, hello);
     carry_out(&executor);
 }
@@ -138,7 +133,7 @@ int main(int count, char **words) {
     const struct settings settings = read_settings(count, words);
     signal(SIGPIPE, SIG_IGN);
     also_tell_end(tell_refusal);
-    const struct hello hello = await_hello();
+    struct hello hello = await_hello();
     if (hello.writes) write_for(&settings, &hello);
     else read_for(&settings, &hello);
     return STATUS_SOUND;

@@ -61,7 +61,8 @@ static void take_flush(struct run *run, int answer) {
     run->flushing_count = 0;
 }
 
-/* Begins a flush of what was written by now, where there is enough of it, or nothing else is out. */
+/* Begins a flush of what was written by now, where there is enough of it, or nothing else is
+ * out. */
 static void flush_if_due(struct run *run) {
     bool is_due = run->unflushed_count && (run->unflushed_count >= run->executor->flush || run->writing == 0);
     if (run->flushing_count || !is_due) return;

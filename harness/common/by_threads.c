@@ -8,7 +8,8 @@
 #include <string.h>
 #include <unistd.h>
 
-/* One thread reads the orders, and as many as the job's depth carry them out. All below is under `lock`. */
+/* One thread reads the orders, and as many as the job's depth carry them out. All below is under
+ * `lock`. */
 struct pool {
     struct executor *executor;
     pthread_mutex_t lock;
@@ -23,7 +24,8 @@ static void tell(struct pool *pool, const struct ending *endings, size_t count) 
     pool->executor->tell(pool->executor->whose, endings, count);
 }
 
-/* Flushes what was written, again while there is enough of it or nothing else is out, and tells it. The lock is let go for the flush and the telling. */
+/* Flushes what was written, again while there is enough of it or nothing else is out, and tells it.
+ * The lock is let go for the flush and the telling. */
 static void flush_while_due(struct pool *pool) {
     struct executor *executor = pool->executor;
     while (!pool->is_flushing && pool->unflushed_count && (pool->unflushed_count >= executor->flush || pool->writing == 0)) {
@@ -41,7 +43,8 @@ static void flush_while_due(struct pool *pool) {
     }
 }
 
-/* Carries out the order of a slot, without the lock, and tells what became of it, or has that wait for a flush. */
+/* Carries out the order of a slot, without the lock, and tells what became of it, or has that wait
+ * for a flush. */
 static void carry_out_one(struct pool *pool, size_t slot) {
     struct executor *executor = pool->executor;
     pool->writing++;
@@ -94,7 +97,8 @@ static bool read_more(struct pool *pool, struct iovec *pieces) {
 static void make_pool(struct pool *pool, struct executor *executor) {
     size_t count = executor->slots.count;
     *pool = (struct pool){.executor = executor, .lock = PTHREAD_MUTEX_INITIALIZER, .changed = PTHREAD_COND_INITIALIZER};
-    pool->waiting = calloc(2 * count, sizeof *pool->waiting); /* (its other half is what is flushed) */
+    /* (the other half of `waiting` is what is flushed) */
+    pool->waiting = calloc(2 * count, sizeof *pool->waiting);
     pool->unflushed = calloc(count, sizeof *pool->unflushed);
     pool->endings = calloc(count, sizeof *pool->endings);
     if (!pool->waiting || !pool->unflushed || !pool->endings) give_up("memory", strerror(ENOMEM));

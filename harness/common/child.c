@@ -11,7 +11,8 @@
 #include <time.h>
 #include <unistd.h>
 
-/* As many bytes as a pipe may hold: many blocks at once. Where the system allows less, it stays as it is. */
+/* As many bytes as a pipe may hold: many blocks at once. Where the system allows less, it stays as
+ * it is. */
 enum { PIPE_BYTES = 1 << 20 };
 
 static void make_pipe(int ends[2]) {
@@ -26,7 +27,8 @@ static int put_in_place(int end, int place) {
     return dup2(end, place) < 0 ? -1 : 0;
 }
 
-/* The rest of a process that was just made: it becomes the program, or says through `told` why it can't. */
+/* The rest of a process that was just made: it becomes the program, or says through `told` why it
+ * can't. */
 static _Noreturn void become(const char *program, char *const words[], int input, int output, int told, bool apart) {
     if (apart) setpgid(0, 0);
     sigset_t none;

@@ -11,10 +11,12 @@ struct child {
     int from; /* its standard output; -1 where it has ours, or this was closed */
 };
 
-/* Which of its ends are pipes; and whether it and what it starts are a group of processes of their own, to which a terminal's signals don't go. */
+/* Which of its ends are pipes; and whether it and what it starts are a group of processes of their
+ * own, to which a terminal's signals don't go. */
 enum { CHILD_READS = 1, CHILD_WRITES = 2, CHILD_APART = 4 };
 
-/* Starts a program by its name, which is looked up in PATH, or by its path. Where it can't be run, the harness gives up and says why. */
+/* Starts a program by its name, which is looked up in PATH, or by its path. Where it can't be run,
+ * the harness gives up and says why. */
 struct child start_child(const char *program, char *const words[], int pipes);
 
 /* Closes the pipe to a program: it finds the end of its input. */
@@ -23,7 +25,8 @@ void end_input(struct child *child);
 /* Starts a shell that runs a command. */
 struct child start_command(const char *command, int pipes);
 
-/* Ends a child that is apart, with all that it started: first its input, then by signals, where it doesn't end within two seconds of each. */
+/* Ends a child that is apart, with all that it started: first its input, then by signals, where it
+ * doesn't end within two seconds of each. */
 void end_group(struct child *child);
 
 /* Whether it has ended; then its exit status, or -1 where a signal ended it. */
@@ -32,7 +35,8 @@ bool has_ended(struct child *child, int *status);
 /* Waits for its end. Returns its exit status, or -1 where a signal ended it. */
 int wait_for(struct child *child);
 
-/* Has a shell run a command, with these bytes as its input where there are some. Returns 0 where it took them all and ended with 0. */
+/* Has a shell run a command, with these bytes as its input where there are some. Returns 0 where it
+ * took them all and ended with 0. */
 int run_command(const char *command, const void *bytes, size_t length);
 
 #endif

@@ -1,4 +1,5 @@
-/* The parts in which an agent gives back what the target holds: two numbers of 8 bytes, the high byte first, and what they announce. */
+/* The parts in which an agent gives back what the target holds: two numbers of 8 bytes, the high
+ * byte first, and what they announce. */
 #ifndef CHUNK_H
 #define CHUNK_H
 

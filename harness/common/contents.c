@@ -9,7 +9,8 @@
 #include <string.h>
 #include <unistd.h>
 
-/* A stamped sector: run 8, server 4, job 4, write 8, block 8, sector 4, and 476 bytes that count on from the write's number. */
+/* A stamped sector: run 8, server 4, job 4, write 8, block 8, sector 4, and 476 bytes that count on
+ * from the write's number. */
 enum { SECTOR = 512, WRITE_END = 24, TAIL = 36, PAGE = 4096, LOOKED = 1 << 20 };
 
 static bool is_zeros(const uint8_t *sector) {
@@ -24,7 +25,8 @@ static bool is_stamp(const uint8_t *sector) {
     return true;
 }
 
-/* Looks at the sectors from here on; a part of a sector at a file's end counts as other bytes, unless it is zeros. */
+/* Looks at the sectors from here on; a part of a sector at a file's end counts as other bytes,
+ * unless it is zeros. */
 static void look(const struct target *target, uint8_t *bytes, uint64_t from) {
     ssize_t count = pread(target->fd, bytes, LOOKED + PAGE, (off_t)from);
     if (count < 0) give_up_by_errno(target->name);

@@ -4,8 +4,8 @@
 
 #include "target.h"
 
-/* Gives up where its first mebibyte or its last, where file systems, volumes and partition tables say what they are, hold anything but zeros and stamps of an
- * earlier run. */
+/* Gives up where its first mebibyte or its last, where file systems, volumes and partition tables
+ * say what they are, hold anything but zeros and stamps of an earlier run. */
 void refuse_other_bytes(const struct target *target);
 
 #endif

@@ -35,34 +35,29 @@ void open_drive(struct drive *drive, uint64_t run, const struct job *job, uint64
     drive->child = start_drive("write", run, job, CHILD_READS | CHILD_WRITES);
 }
 
-/* Puts a notice there. Returns how many words of it there are. */
-static size_t put_notice(uint64_t *words, enum notice notice, uint64_t write) {
-    words[0] = htobe64((uint64_t)notice), words[1] = htobe64(write);
-    return 2;
-}
-
 /* Once `drive` has ended a notice reaches nobody, and what it said last says why. */
 void tell_endings(struct drive *drive, const struct ending *endings, size_t count) {
-    uint64_t words[2 * AT_ONCE];
+    uint8_t notices[AT_ONCE][NOTICE_BYTES];
     size_t length = 0;
     pthread_mutex_lock(&drive->lock);
     for (size_t at = 0; at < count && !drive->is_taken; at++) {
         drive->done += endings[at].is_done;
         drive->failed += !endings[at].is_done;
-        length += put_notice(words + length, endings[at].is_done ? DONE : FAILED, endings[at].write);
+        put_notice(notices[length++], endings[at].is_done ? DONE : FAILED, endings[at].write);
         drive->is_taken = drive->failed || drive->done >= drive->after;
-        if (drive->is_taken) length += put_notice(words + length, TAKE, 0);
-        if (length + 4 <= 2 * AT_ONCE && at + 1 < count && !drive->is_taken) continue;
-        write_all(drive->child.to, words, length * sizeof *words);
+        if (drive->is_taken) put_notice(notices[length++], TAKE, 0);
+        if (length + 2 <= AT_ONCE && at + 1 < count && !drive->is_taken) continue;
+        write_all(drive->child.to, notices, length * sizeof *notices);
         length = 0;
     }
     pthread_mutex_unlock(&drive->lock);
 }
 
 void tell_take(struct drive *drive) {
-    uint64_t words[2];
+    uint8_t notice[NOTICE_BYTES];
+    put_notice(notice, TAKE, 0);
     pthread_mutex_lock(&drive->lock);
-    if (!drive->is_taken) write_all(drive->child.to, words, put_notice(words, TAKE, 0) * sizeof *words);
+    if (!drive->is_taken) write_all(drive->child.to, notice, sizeof notice);
     drive->is_taken = true;
     pthread_mutex_unlock(&drive->lock);
 }
@@ -84,7 +79,8 @@ uint64_t done_by_now(struct drive *drive, bool *is_taken) {
     return done;
 }
 
-/* Waits until it gives no more orders, and has ended; from then on nothing is told. Returns its exit status, or -1 where a signal ended it. */
+/* Waits until it gives no more orders, and has ended; from then on nothing is told. Returns its
+ * exit status, or -1 where a signal ended it. */
 static int await_end(struct drive *drive) {
     pthread_mutex_lock(&drive->lock);
     while (!drive->is_ended) pthread_cond_wait(&drive->changed, &drive->lock);

@@ -1,10 +1,12 @@
-/* The program `drive`: it is started, given its input, and told what became of its orders. Its calls may come from many threads. */
+/* The program `drive`: it is started, given its input, and told what became of its orders. Its
+ * calls may come from many threads. */
 #ifndef DRIVE_H
 #define DRIVE_H
 
 #include "child.h"
 #include "executor.h"
 #include "job.h"
+#include "notice.h"
 
 #include <pthread.h>
 #include <stdbool.h>
@@ -12,9 +14,6 @@
 
 /* What `drive` says last: a state, or a line that says why there is none. */
 enum { MAX_LAST = 8192 };
-
-/* What a notice is of; the manual is docs/DRIVE.md. */
-enum notice { DONE = 1, FAILED = 2, TAKE = 3 };
 
 struct drive {
     struct child child;
@@ -31,13 +30,16 @@ struct drive {
 /* Starts `drive COMMAND RUN JOB`, and gives it the job file. */
 struct child start_drive(const char *command, uint64_t run, const struct job *job, int pipes);
 
-/* Gives `drive` a text or a state, behind its length. Where it reads no more, that is for its answer to say. */
+/* Gives `drive` a text or a state, behind its length. Where it reads no more, that is for its
+ * answer to say. */
 void feed(const struct child *child, const void *bytes, size_t length);
 
-/* Starts `drive write`, which is to take the state once so many writes are done, or all of them where that is 0. */
+/* Starts `drive write`, which is to take the state once so many writes are done, or all of them
+ * where that is 0. */
 void open_drive(struct drive *drive, uint64_t run, const struct job *job, uint64_t after);
 
-/* Tells it what became of writes, and that it is to take the state where enough are done or one has failed. Behind that it is told nothing. */
+/* Tells it what became of writes, and that it is to take the state where enough are done or one has
+ * failed. Behind that it is told nothing. */
 void tell_endings(struct drive *drive, const struct ending *endings, size_t count);
 
 /* Tells it to take the state, once. */

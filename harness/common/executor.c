@@ -17,7 +17,7 @@ struct ending ending_of(const struct executor *executor, size_t slot, long answe
     if (!is_done)
         say("%s: write %" PRIu64 " to block %" PRIu64 " failed: %s", executor->target->name, order.write, order.block,
             answer < 0 ? strerror((int)-answer) : "not all of its bytes were written");
-    return (struct ending){order.write, is_done};
+    return (struct ending){order.write, order.block, is_done};
 }
 
 void end_stream(const struct executor *executor) {
@@ -30,7 +30,9 @@ void carry_out(struct executor *executor) {
     /* (one more than are out at once: what stands behind the last order needs a place, too) */
     make_slots(&executor->slots, executor->region.block_size, executor->depth + 1);
     unsigned calls = (unsigned)executor->depth + 2; /* a read and a flush */
-    if (open_ring(&ring, calls, executor->slots.blocks, executor->slots.count * executor->region.block_size))
+    if (!executor->target->is_direct)
+        carry_out_by_turns(executor);
+    else if (open_ring(&ring, calls, executor->slots.blocks, executor->slots.count * executor->region.block_size))
         carry_out_by_ring(executor, &ring);
     else
         carry_out_by_threads(executor);

@@ -1,5 +1,7 @@
-/* Carries out the orders that come on a stream, and tells what became of each: as many at once as the job's depth, with one thread and the kernel's io_uring where
- * it has that, and else with threads. */
+/* Carries out the orders that come on a stream, and tells what became of each: as many at once as
+ * the job's depth, with one thread and the kernel's io_uring where it has that, and else with
+ * threads. What only goes to memory (without O_DIRECT) is written in turn, by one thread: no write
+ * waits for a device there, and a pool, the kernel's too, is slower by far. */
 #ifndef EXECUTOR_H
 #define EXECUTOR_H
 
@@ -10,7 +12,7 @@
 
 /* What became of a write: it is there, whole, or it failed. What is in doubt has failed. */
 struct ending {
-    uint64_t write;
+    uint64_t write, block;
     bool is_done;
 };
 
@@ -18,26 +20,32 @@ struct executor {
     const struct target *target;
     struct region region;
     uint64_t depth;
-    uint64_t flush; /* so many writes are told as done behind one flush, or fewer where no other is out; 0: each as soon as the target says so */
+    /* So many writes are told as done behind one flush, or fewer where no other is out; 0: each as
+     * soon as the target says so. */
+    uint64_t flush;
     int orders;     /* the stream that they come on */
     void *whose;    /* is given to these two */
     void (*tell)(void *whose, const struct ending *endings, size_t count);
-    void (*tell_last)(void *whose, const void *bytes, size_t length); /* the stream has ended, and this stood behind its last order */
+    /* The stream has ended, and this stood behind its last order. */
+    void (*tell_last)(void *whose, const void *bytes, size_t length);
     struct slots slots;
 };
 
-/* Carries out all orders, and returns once the stream and the last write have ended. A write that never comes back is waited for; the ends of the others and
- * of the stream are told all the same. */
+/* Carries out all orders, and returns once the stream and the last write have ended. A write that
+ * never comes back is waited for; the ends of the others and of the stream are told all the
+ * same. */
 void carry_out(struct executor *executor);
 
-/* The parts of that which both ways have. */
+/* The ways, which share the calls below. */
+void carry_out_by_turns(struct executor *executor);
 void carry_out_by_ring(struct executor *executor, struct ring *ring);
 void carry_out_by_threads(struct executor *executor);
 
 /* Where the order of a slot goes. A block that the job hasn't is given up on. */
 uint64_t place_of_slot(const struct executor *executor, size_t slot);
 
-/* What became of the order of a slot, by what its call answered: a number of bytes, or an error as a negative number. Where it failed, that is said. */
+/* What became of the order of a slot, by what its call answered: a number of bytes, or an error as
+ * a negative number. Where it failed, that is said. */
 struct ending ending_of(const struct executor *executor, size_t slot, long answer);
 
 /* Tells what stood behind the last order. */

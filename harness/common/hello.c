@@ -20,15 +20,17 @@ static void take_numbers(const uint8_t *bytes, uint64_t *numbers, size_t count) 
 void write_hello(uint8_t bytes[HELLO_BYTES], const struct hello *hello) {
     const struct region *region = &hello->region;
     memcpy(bytes, HELLO_MAGIC, MAGIC);
-    put_numbers(bytes + MAGIC, (uint64_t[]){hello->writes, hello->depth, region->block_size, region->blocks, region->offset, region->stride}, HELLO_NUMBERS);
+    const uint64_t numbers[HELLO_NUMBERS] = {hello->writes,  hello->depth,    region->block_size, region->blocks, region->offset,
+                                             region->stride, hello->is_local, hello->run,         hello->job,     hello->text_length};
+    put_numbers(bytes + MAGIC, numbers, HELLO_NUMBERS);
 }
 
 bool read_hello(const uint8_t bytes[HELLO_BYTES], struct hello *hello) {
     uint64_t numbers[HELLO_NUMBERS];
     if (memcmp(bytes, HELLO_MAGIC, MAGIC)) return false;
     take_numbers(bytes + MAGIC, numbers, HELLO_NUMBERS);
-    *hello = (struct hello){numbers[0] == 1, numbers[1], {numbers[2], numbers[3], numbers[4], numbers[5]}};
-    return numbers[0] <= 1;
+    *hello = (struct hello){numbers[0] == 1, numbers[1], {numbers[2], numbers[3], numbers[4], numbers[5]}, numbers[6] == 1, numbers[7], numbers[8], numbers[9]};
+    return numbers[0] <= 1 && numbers[6] <= 1;
 }
 
 void write_welcome(uint8_t bytes[WELCOME_BYTES], const struct welcome *welcome) {

@@ -1,4 +1,5 @@
-/* What a witness and an agent say to each other first, so that a wrong pair refuses at once. Behind the magic all are numbers of 8 bytes, the high byte first. */
+/* What a witness and an agent say to each other first, so that a wrong pair refuses at once. Behind
+ * the magic all are numbers of 8 bytes, the high byte first. */
 #ifndef HELLO_H
 #define HELLO_H
 
@@ -9,10 +10,10 @@
 #include <stdint.h>
 
 /* The last byte of each magic is the version of all that goes over the link. */
-#define HELLO_MAGIC "FCHELLO1"
-#define WELCOME_MAGIC "FCAGENT1"
+#define HELLO_MAGIC "FCHELLO2"
+#define WELCOME_MAGIC "FCAGENT2"
 
-enum { MAGIC = 8, HELLO_NUMBERS = 6, WELCOME_NUMBERS = 8, MAX_WHY = 256 };
+enum { MAGIC = 8, HELLO_NUMBERS = 10, WELCOME_NUMBERS = 8, MAX_WHY = 256 };
 enum { HELLO_BYTES = MAGIC + 8 * HELLO_NUMBERS, WELCOME_BYTES = MAGIC + 8 * WELCOME_NUMBERS + MAX_WHY };
 
 /* The witness's: what it wants. */
@@ -20,6 +21,10 @@ struct hello {
     bool writes; /* and else it reads */
     uint64_t depth;
     struct region region;
+    /* The agent's own `drive` gives the orders: of this run, and of the job of this number in a
+     * text of so many bytes, which follows. */
+    bool is_local;
+    uint64_t run, job, text_length;
 };
 
 /* What a device says of its cache. */
@@ -28,7 +33,8 @@ enum cache { CACHE_UNTOLD, CACHE_WRITE_THROUGH, CACHE_WRITE_BACK };
 /* The agent's: what it has opened, or why it hasn't. */
 struct welcome {
     bool is_refused;
-    uint64_t size, whole; /* of the target, and of what its device writes whole, 0 where nobody tells */
+    /* Of the target, and of what its device writes whole, 0 where nobody tells. */
+    uint64_t size, whole;
     enum cache cache;
     uint64_t flush;
     bool cached;

@@ -11,7 +11,8 @@
 #include <stdlib.h>
 #include <string.h>
 
-/* A job file has at most 16,384 bytes; a larger one is for fiocut to refuse. What fiocut says of one is shorter than the other bound. */
+/* A job file has at most 16,384 bytes; a larger one is for fiocut to refuse. What fiocut says of
+ * one is shorter than the other bound. */
 enum { MAX_TEXT = 65536, MAX_SAID = 1 << 20 };
 
 static const char FIELDS[] = " (sequential|random|norandommap) blocks=([0-9]+) total=([0-9]+) bs=([0-9]+) seed=[0-9]+ depth=([0-9]+)"
@@ -48,7 +49,8 @@ static uint64_t field(const char *row, const regmatch_t *at) {
     return strtoull(row + at->rm_so, NULL, 10);
 }
 
-/* Reads the fields of a row: the first that are all there. The section's name stands before them, and has 64 characters at most: too few for such fields. */
+/* Reads the fields of a row: the first that are all there. The section's name stands before them,
+ * and has 64 characters at most: too few for such fields. */
 static void read_fields(const char *row, struct job *job) {
     regex_t fields;
     regmatch_t at[6];

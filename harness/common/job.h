@@ -11,7 +11,8 @@ struct job {
     size_t text_length;
 };
 
-/* Reads the job file, once, and asks fiocut what this job of it is. Where it is refused or hasn't the job, the harness gives up. */
+/* Reads the job file, once, and asks fiocut what this job of it is. Where it is refused or hasn't
+ * the job, the harness gives up. */
 struct job read_job(const char *file, uint64_t number);
 
 #endif

@@ -12,8 +12,9 @@ struct region {
     uint64_t stride; /* from the front of a block to that of the next */
 };
 
-/* The region of a job, with this offset and stride, or with a stride of one block where it is 0. Where blocks would not lie at multiples of their size, one
- * behind the other, or beyond what a target can have, the harness gives up. */
+/* The region of a job, with this offset and stride, or with a stride of one block where it is 0.
+ * Where blocks would not lie at multiples of their size, one behind the other, or beyond what a
+ * target can have, the harness gives up. */
 struct region region_of(const struct job *job, uint64_t offset, uint64_t stride);
 
 /* The byte that a block begins at. */

@@ -14,10 +14,12 @@ struct report {
     int status;
 };
 
-/* Ends the input of `drive`, and waits for its report. Where a signal ended it, the harness gives up. */
+/* Ends the input of `drive`, and waits for its report. Where a signal ended it, the harness gives
+ * up. */
 void await_report(struct child *drive, struct report *report);
 
-/* Prints a report. Returns the status that it comes to: STATUS_NO_VERDICT where it finds no fault and had nothing to check, which is said. */
+/* Prints a report. Returns the status that it comes to: STATUS_NO_VERDICT where it finds no fault
+ * and had nothing to check, which is said. */
 int tell_report(const struct report *report);
 
 #endif

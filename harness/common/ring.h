@@ -1,4 +1,5 @@
-/* The kernel's io_uring, as far as an executor wants it: reads, writes and flushes that are given to it together and end in any order. */
+/* The kernel's io_uring, as far as an executor wants it: reads, writes and flushes that are given
+ * to it together and end in any order. */
 #ifndef RING_H
 #define RING_H
 
@@ -20,8 +21,8 @@ struct ring {
     bool has_memory;            /* the kernel knows the memory of the blocks */
 };
 
-/* Opens a ring for at most so many calls at once, which write from this memory. False where the kernel has none, or gives none. What uses it has to be the thread
- * that opened it. */
+/* Opens a ring for at most so many calls at once, which write from this memory. False where the
+ * kernel has none, or gives none. What uses it has to be the thread that opened it. */
 bool open_ring(struct ring *ring, unsigned entries, void *memory, size_t length);
 
 /* Puts a call there; `what` is told again once it has ended. */
@@ -32,7 +33,8 @@ void put_flush(struct ring *ring, uint64_t what, int fd);
 /* Gives the kernel what was put there, and waits until a call has ended. */
 void await_ends(struct ring *ring);
 
-/* The next call that has ended, and what it answered: a number of bytes, or an error as a negative number. */
+/* The next call that has ended, and what it answered: a number of bytes, or an error as a negative
+ * number. */
 bool next_end(struct ring *ring, uint64_t *what, int *answer);
 
 #endif

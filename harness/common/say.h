@@ -14,7 +14,8 @@ void also_tell_end(void (*hear)(const char *line));
 /* Says one line: the program's name, and these words. */
 void say(const char *form, ...) __attribute__((format(printf, 1, 2)));
 
-/* Says what can't be done and why, and ends the program with STATUS_FAILED. The other threads end with it, whatever they wait for. */
+/* Says what can't be done and why, and ends the program with STATUS_FAILED. The other threads end
+ * with it, whatever they wait for. */
 _Noreturn void give_up(const char *what, const char *why);
 
 /* The same, where the system says why. */

@@ -1,4 +1,5 @@
-/* The places that orders are read into: many at once, and each block where a device can take it from. */
+/* The places that orders are read into: many at once, and each block where a device can take it
+ * from. */
 #ifndef SLOTS_H
 #define SLOTS_H
 
@@ -7,7 +8,8 @@
 #include <stdint.h>
 #include <sys/uio.h>
 
-/* An order: a write, and the block that it goes to. As it comes its numbers have their high byte first. */
+/* An order: a write, and the block that it goes to. As it comes its numbers have their high byte
+ * first. */
 struct order {
     uint64_t write, block;
 };
@@ -38,7 +40,8 @@ uint8_t *block_of(const struct slots *slots, size_t slot);
 /* Makes a slot free again. */
 void give_back(struct slots *slots, size_t slot);
 
-/* Copies what has come behind the last order, at most so many bytes of it, and returns how many there are of it. More than an order has aren't kept. */
+/* Copies what has come behind the last order, at most so many bytes of it, and returns how many
+ * there are of it. More than an order has aren't kept. */
 size_t what_is_left(const struct slots *slots, void *bytes, size_t most);
 
 #endif

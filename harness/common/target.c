@@ -29,7 +29,8 @@ static void read_queue(dev_t device, const char *field, char *text, size_t size)
     text[strcspn(text, "\n")] = 0;
 }
 
-/* A file that isn't there may be made. Below /dev a name that is gone is a drive's: what is made there lies in memory. */
+/* A file that isn't there may be made. Below /dev a name that is gone is a drive's: what is made
+ * there lies in memory. */
 static void refuse_below_dev(const char *name) {
     char copy[PATH_MAX], folder[PATH_MAX];
     if ((size_t)snprintf(copy, sizeof copy, "%s", name) >= sizeof copy) give_up(name, strerror(ENAMETOOLONG));
@@ -64,7 +65,8 @@ static void look_at(struct target *target, const struct stat *is) {
     read_queue(target->device, "write_cache", target->cache, sizeof target->cache);
 }
 
-/* Has the target for itself, or with others that read it. A harness that was just killed may still be ending: it is waited for, two seconds at most. */
+/* Has the target for itself, or with others that read it. A harness that was just killed may still
+ * be ending: it is waited for, two seconds at most. */
 static void lock_target(const struct target *target, bool writes) {
     for (int look = 0; flock(target->fd, (writes ? LOCK_EX : LOCK_SH) | LOCK_NB); look++) {
         if (errno != EWOULDBLOCK) give_up_by_errno(target->name);

@@ -23,12 +23,15 @@ struct target {
     bool is_direct;
     dev_t device;       /* a device itself, or that of the file system where a file lies */
     uint64_t whole;     /* how many bytes its device writes whole, or 0 where nobody tells */
-    char cache[32];     /* what its device says of its cache: "write back" or "write through", or nothing */
+    /* What its device says of its cache: "write back" or "write through", or nothing. */
+    char cache[32];
 };
 
-/* Opens a target for writes to a region. A file that isn't there is made, as large as the region wants, but never below /dev. Refused are what is mounted, in
- * use, or tested by another harness; a device that is too short; what holds other bytes than zeros and stamps, unless `yes` is set; blocks that are larger
- * than what the device writes whole, unless `torn` is. Before this has returned, no byte of what was there has changed. */
+/* Opens a target for writes to a region. A file that isn't there is made, as large as the region
+ * wants, but never below /dev. Refused are what is mounted, in use, or tested by another harness; a
+ * device that is too short; what holds other bytes than zeros and stamps, unless `yes` is set;
+ * blocks that are larger than what the device writes whole, unless `torn` is. Before this has
+ * returned, no byte of what was there has changed. */
 struct target open_to_write(const struct opening *opening, const struct region *region);
 
 /* Opens a target for a check. */

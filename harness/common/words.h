@@ -17,7 +17,8 @@ struct option {
 /* A number of decimal digits alone. Else the harness gives up, and says of what. */
 uint64_t number_of(const char *name, const char *word);
 
-/* Reads these words by the options, of which the last has no name, for a command, a bit. Where they can't be read so, the harness gives up. */
+/* Reads these words by the options, of which the last has no name, for a command, a bit. Where they
+ * can't be read so, the harness gives up. */
 void read_words(const struct option *options, int command, int count, char **words);
 
 /* Whether the first word asks how the program is called. */

@@ -1,4 +1,5 @@
-/* Does for `drive` what it can't do: opens a target, writes and reads it, keeps the state, has the power cut. docs/DRIVE.md is the manual. */
+/* Does for `drive` what it can't do: opens a target, writes and reads it, keeps the state, has the
+ * power cut. docs/DRIVE.md is the manual. */
 #include "commands.h"
 
 #include "say.h"

@@ -18,7 +18,8 @@ struct options {
     uint64_t flush; /* 0: no write waits for a flush */
 };
 
-/* Reads the command line. Where it can't be read, the harness says how it goes, or what is wrong, and ends. */
+/* Reads the command line. Where it can't be read, the harness says how it goes, or what is wrong,
+ * and ends. */
 struct options read_options(int count, char **words);
 
 /* Whether the state's place is `-`, which stands for none: a full pass. */

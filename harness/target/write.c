@@ -13,7 +13,8 @@
 #include <sys/stat.h>
 #include <unistd.h>
 
-/* Says so where keeping the state makes the tested drive keep what lies in its cache: then a cut finds less to lose. */
+/* Says so where keeping the state makes the tested drive keep what lies in its cache: then a cut
+ * finds less to lose. */
 static void warn_of_one_drive(const struct options *options, const struct target *target) {
     char folder[PATH_MAX];
     struct stat is;
@@ -46,7 +47,8 @@ static void *carry_all_out(void *executor) {
     return NULL;
 }
 
-/* Starts the thread that carries out the orders; its writes may be out for longer than anyone waits. */
+/* Starts the thread that carries out the orders; its writes may be out for longer than anyone
+ * waits. */
 static void start_executor(struct executor *executor) {
     pthread_t thread;
     int error = pthread_create(&thread, NULL, carry_all_out, executor);

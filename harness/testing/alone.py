@@ -1,4 +1,5 @@
-"""`drive` without a harness: what it writes for one recorded input, to the byte, by the manual's layouts."""
+"""`drive` without a harness: what it writes for one recorded input, to the byte, by the manual's
+layouts."""
 import os
 import struct
 import subprocess
@@ -6,7 +7,8 @@ import subprocess
 from trying import stamp, tell
 
 RUN, JOB = 258, 2
-# Of its three jobs the third has seed 1, since the job's number is added to randseed, and 64 bits are kept of the sum.
+# Of its three jobs the third has seed 1, since the job's number is added to randseed, and 64 bits
+# are kept of the sum.
 JOB_FILE = b"""[global]
 rw=write
 bs=512
@@ -20,7 +22,8 @@ iodepth=2
 randseed=18446744073709551615
 """
 DONE, FAILED, TAKE = 1, 2, 3
-# The first four words of xoshiro256++ by seed 1, as rand_xoshiro gives them: the place of each state of sequential writes.
+# The first four words of xoshiro256++ by seed 1, as rand_xoshiro gives them: the place of each
+# state of sequential writes.
 PLACE = (0xCFC5D07F6F03C29B, 0xBF424132963FE08D, 0x19A37D5757AAF520, 0xBF08119F05CD56D6)
 
 
@@ -33,7 +36,10 @@ def order(number, block):
 
 
 def state(issued, floor, word):
-    """The state of that job: kind 0 is sequential, and the window of two writes from `floor` on has its bits in the first word."""
+    """The state of that job, whose kind 0 is sequential.
+
+    The window of two writes from `floor` on has its bits in the first word.
+    """
     front = struct.pack(">4sQIIBBBB", b"FCV2", RUN, 0, JOB, 0, 0, 0, 0)
     fields = struct.pack(">IIQQIIQ", 512, 2, 3, 1, 2, 2, issued)
     return front + fields + struct.pack(">4Q", *PLACE) + struct.pack(">Q4Q", floor, word, 0, 0, 0)

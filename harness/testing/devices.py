@@ -1,4 +1,5 @@
-"""A root without /dev/fd, file systems that are full, and devices, where this machine lets that be tried."""
+"""A root without /dev/fd, file systems that are full, and devices, where this machine lets that be
+tried."""
 import os
 import shutil
 import subprocess
@@ -18,7 +19,8 @@ def no_dev_fd():
 
 
 def mounts():
-    """A device that is mounted or too short, and a file system that is full, where this machine lets that be tried."""
+    """A device that is mounted or too short, and a file system that is full, where this machine
+    lets that be tried."""
     if os.geteuid() != 0:
         print("not tried, for want of root: devices")
         return

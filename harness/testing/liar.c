@@ -1,11 +1,15 @@
 /* A target that lies, in front of a harness that is tested: a library for LD_PRELOAD.
  *
- * LIE=KIND:EVERY[:FROM] harms each EVERYth write of a block, from the FROMth on. Kinds: lost; torn, its first half alone; misdirected, to the block behind it;
- * flipped, its last bit; late, behind LIE_HELD further writes; failed, and not made; doubtful, failed but made; short, half of it written and told; stalled, it
- * never comes back. LIE=cached:N is a drive with a volatile cache of N blocks: each write is told at once, whatever O_DSYNC says, and another one, by chance, makes
- * room for it; LIE_FLUSHES has fdatasync empty it. Killed, it loses the rest. LIE_LOG=FILE has a line for each: `KIND BLOCK WRITE`, in the order in which they were
- * told. LIE_UNREADABLE=BYTE fails each read of the target that has this byte. LIE_TARGET=NAME is the end of the target's path. The kernel's io_uring passes a
- * library by, so there is none here: the harness writes by threads. */
+ * LIE=KIND:EVERY[:FROM] harms each EVERYth write of a block, from the FROMth on. Kinds: lost;
+ * torn, its first half alone; misdirected, to the block behind it; flipped, its last bit; late,
+ * behind LIE_HELD further writes; failed, and not made; doubtful, failed but made; short, half of
+ * it written and told; stalled, it never comes back. LIE=cached:N is a drive with a volatile cache
+ * of N blocks: each write is told at once, whatever O_DSYNC says, and another one, by chance, makes
+ * room for it; LIE_FLUSHES has fdatasync empty it. Killed, it loses the rest. LIE_LOG=FILE has a
+ * line for each: `KIND BLOCK WRITE`, in the order in which they were told; LIE_SYNCS has it tell each
+ * fsync, too: `synced PATH`. LIE_UNREADABLE=BYTE fails each read of the target that has this byte.
+ * LIE_TARGET=NAME is the end of the target's path. The kernel's io_uring passes a library by, so
+ * there is none here: the harness writes by threads. */
 #include <dlfcn.h>
 #include <endian.h>
 #include <errno.h>
@@ -41,14 +45,19 @@ __attribute__((constructor)) static void begin(void) {
     if (file && (noted = fopen(file, "ae"))) setvbuf(noted, NULL, _IOLBF, 4096);
 }
 
-static int is_target(int fd) {
-    char link[64], path[4096];
-    const char *name = getenv("LIE_TARGET");
+/* The path of an open file, or nothing. */
+static void path_of(int fd, char path[4096]) {
+    char link[64];
     snprintf(link, sizeof link, "/proc/self/fd/%d", fd);
-    ssize_t length = readlink(link, path, sizeof path - 1);
-    if (!name || length < 0) return 0;
-    path[length] = 0;
-    return (size_t)length >= strlen(name) && strcmp(path + length - strlen(name), name) == 0;
+    ssize_t length = readlink(link, path, 4095);
+    path[length < 0 ? 0 : length] = 0;
+}
+
+static int is_target(int fd) {
+    char path[4096];
+    const char *name = getenv("LIE_TARGET");
+    path_of(fd, path);
+    return name && strlen(path) >= strlen(name) && strcmp(path + strlen(path) - strlen(name), name) == 0;
 }
 
 static void note(const char *what, const void *bytes, size_t length, off_t at) {
@@ -94,7 +103,8 @@ static ssize_t lie(int fd, const void *bytes, size_t length, off_t at) {
     return told;
 }
 
-/* Keeps a write in the cache, in the place of an earlier one to its block, or of one that then lands. */
+/* Keeps a write in the cache, in the place of an earlier one to its block, or of one that then
+ * lands. */
 static void keep_cached(int fd, const void *bytes, size_t length, off_t at) {
     for (int place = 0; place < held_count; place++) {
         if (held[place].at != at) continue;
@@ -119,6 +129,15 @@ int fdatasync(int fd) {
         for (int place = 0; place < held_count; place++) held[place].due = 0;
     let_go();
     pthread_mutex_unlock(&lock);
+    return real(fd);
+}
+
+int fsync(int fd) {
+    static int (*real)(int);
+    char path[4096];
+    if (!real) *(void **)&real = dlsym(RTLD_NEXT, "fsync");
+    path_of(fd, path);
+    if (noted && getenv("LIE_SYNCS")) fprintf(noted, "synced %s\n", path);
     return real(fd);
 }
 

@@ -61,6 +61,21 @@ def refusals():
     check("names that read like fields: the check", "name.fio", "named3", "ns", [])
 
 
+def folders():
+    """A new target's name is kept before anything is written to it, and the state's before it is
+    said to be there."""
+    os.mkdir("targets")
+    os.mkdir("states")
+    env = {"LD_PRELOAD": LIAR, "LIE_LOG": "synced", "LIE_SYNCS": "1", "LIE_TARGET": "/new"}
+    tell("a new target", run("write", "two.fio", "targets/new", "states/ns", env=env)[0], 0)
+    lines = read("synced").decode().splitlines()
+    first = next(at for at, line in enumerate(lines) if line.startswith("made "))
+    tell("the folder of a new target is synced before its first write", f"synced {os.path.realpath('targets')}" in lines[:first], True)
+    tell("the target is synced before that", f"synced {os.path.realpath('targets/new')}" in lines[: lines.index(f"synced {os.path.realpath('targets')}")], True)
+    tell("the folder of the state is synced behind the last write", lines[-1], f"synced {os.path.realpath('states')}")
+    tell("and the state before that", lines[-2], f"synced {os.path.realpath('states')}/ns.new")
+
+
 def states():
     """States that can't be kept or read."""
     write("long state", bytes(5000))

@@ -1,4 +1,5 @@
-"""What the tests of the harness share: runs of drive-target, the bytes that are due, and the counts."""
+"""What the tests of the harness share: runs of drive-target, the bytes that are due, and the
+counts."""
 import os
 import struct
 import subprocess
@@ -25,7 +26,7 @@ def tell_has(what, text, part):
 
 
 def run(*words, program=TARGET, **more):
-    """Runs drive-target, or another program, and returns its status, what it printed, and what it said."""
+    """Runs drive-target, or another program: its status, what it printed, and what it said."""
     env = {**os.environ, **more.pop("env", {})}
     ran = subprocess.run([program, *words], capture_output=True, text=True, errors="replace", env=env, stdin=subprocess.DEVNULL, timeout=100, **more)
     return ran.returncode, ran.stdout, ran.stderr

@@ -1,4 +1,5 @@
-"""A witness and its agent, over pipes: cuts at random moments, caches that lie, links that end anywhere, wrong pairs, and series of cycles."""
+"""A witness and its agent, over pipes: cuts at random moments, caches that lie, links that end
+anywhere, wrong pairs, and series of cycles."""
 import json
 import os
 import random
@@ -15,7 +16,8 @@ PASS_ON = f"python3 {shlex.quote(f'{HERE}/pass_on.py')}"
 
 
 def link(target, *options, before="", behind=""):
-    """The options that lead to an agent of a target; it writes its number to the file `agent`, so that it can be killed."""
+    """The options that lead to an agent of a target; it writes its number to the file `agent`, so
+    that it can be killed."""
     words = " ".join(shlex.quote(it) for it in (AGENT, target, *options))
     own = f"echo $$ >agent; exec {words}"
     return "--link", own if not (before or behind) else f"{before} {words} {behind}"
@@ -37,7 +39,8 @@ def counted(state):
 
 
 def faults_by(log, state, data, blocks):
-    """The blocks that have to be faults: what they hold is neither their last write that was told, nor one in flight."""
+    """The blocks that have to be faults: what they hold is neither their last write that was told,
+    nor one in flight."""
     issued, done = counted(state)
     run_number = struct.unpack(">Q", state[4:12])[0]
     of_block = {}
@@ -86,7 +89,8 @@ def witness_runs():
 
 
 def random_kills():
-    """The agent is killed at a hundred random moments, by io_uring and by threads, and no fault is told."""
+    """The agent is killed at a hundred random moments, by io_uring and by threads, and no fault is
+    told."""
     chance, flying = random.Random(2), 0
     for turn in range(100):
         env = {**os.environ, **({"LD_PRELOAD": LIAR} if turn % 4 == 3 else {})}
@@ -107,15 +111,16 @@ def random_kills():
 
 
 def lying_caches():
-    """A cache that tells writes as done which it hasn't written: just the blocks that it lost are faults. One that obeys a flush loses none."""
+    """A cache that tells writes as done which it hasn't written: just the blocks that it lost are
+    faults. One that obeys a flush loses none."""
     job("cache.fio", blocks=512, writes=65536, depth=8)
-    for turn in range(6):
-        flushes = turn % 2 == 1
+    for turn in range(8):
+        flushes, cached = turn % 2 == 1, turn > 5
         for file in ("agent", "log", "lc"):
             if os.path.exists(file):
                 os.remove(file)
         env = {**os.environ, "LD_PRELOAD": LIAR, "LIE": "cached:64", "LIE_LOG": os.path.abspath("log"), "LIE_TARGET": "/lc", **({"LIE_FLUSHES": "1"} if flushes else {})}
-        options = ("--flush", "8") if flushes else ()
+        options = (*(("--flush", "8") if flushes else ()), *(("--cached",) if cached else ()))
         ran = subprocess.Popen([WITNESS, "write", "cache.fio", "ls", *link("lc", *options)], env=env, **QUIET)
         await_file("log")
         time.sleep(0.4)
@@ -129,14 +134,21 @@ def lying_caches():
 
 
 def broken_links():
-    """The link ends within an order, a notice, a hello; says what no agent says; falls silent; or leads to a wrong one."""
-    ends = {"an order": {"before": f"{PASS_ON} 100003 |"}, "a notice": {"behind": f"| {PASS_ON} 5003"}, "noise": {"behind": f"| {PASS_ON} 4424 noise"}}
+    """The link ends within an order, a notice, a hello; says what no agent says; falls silent; or
+    leads to a wrong one."""
+    ends = {
+        "an order": {"before": f"{PASS_ON} 100003 |"},
+        "a notice": {"behind": f"| {PASS_ON} 5003"},
+        "noise": {"behind": f"| {PASS_ON} 4424 noise"},
+        "a notice that nobody gave": {"behind": f"| {PASS_ON} 4424 lie"},
+    }
     for what, way in ends.items():
-        status, printed, said = witness("write", "long.fio", "bs", "--quiet", "500", *link("bl", **way))
+        status, printed, told = witness("write", "long.fio", "bs", "--quiet", "500", *link("bl", **way))
         tell(f"a link that ends within {what}", (status, "at the cut" in printed), (0, True))
         status, printed, _ = witness("check", "long.fio", "bs", *link("bl"))
         tell(f"a link that ends within {what}: the check", (status in (0, 3), "faults 0 end whole" in printed), (True, True))
-    tell_has("noise is told", said, "what no agent says")
+        if "4424" in way.get("behind", ""):
+            tell_has(f"{what} is told", told, "what no agent says")
     status, printed, said = witness("write", "long.fio", "bq", "--quiet", "300", *link("bl", behind=f"| {PASS_ON} 5000 silent"))
     tell("a link that falls silent", (status, "at the cut" in printed, "nothing was heard" in said), (0, True, True))
 
@@ -147,7 +159,7 @@ def broken_links():
 
     refused("a hello that is cut", link("bl", before=f"{PASS_ON} 20 |"), "no witness said hello")
     refused("no agent", ("--link", "true"), "no agent answers")
-    refused("another version", ("--link", "head -c 56 | tr 1 2; sleep 2"), "no agent of this version")
+    refused("another version", ("--link", "printf FCAGENT1; sleep 2"), "no agent of this version")
     refused("a shell that greets", ("--link", f"echo Welcome to this machine; exec {AGENT} bl"), "no agent of this version")
     write("letter2", b"Dear all,\n" * 40000)
     refused("other bytes on the target", link("letter2"), "the agent refuses: letter2: it holds other bytes")

@@ -19,13 +19,15 @@ static bool pass_bytes_on(struct link *link, const struct child *drive, uint64_t
     while (length > 0) {
         size_t part = length < sizeof bytes ? (size_t)length : sizeof bytes;
         if (read_all(link->child.from, bytes, part) != (ssize_t)part) return false;
-        write_all(drive->to, bytes, part); /* (`drive` may have found its fatal fault, and read no more) */
+        /* (`drive` may have found its fatal fault, and read no more) */
+        write_all(drive->to, bytes, part);
         length -= part;
     }
     return true;
 }
 
-/* Hands all that the agent reads on to `drive`. False where the link ends before the region does. */
+/* Hands all that the agent reads on to `drive`. False where the link ends before the region
+ * does. */
 static bool pass_region_on(struct link *link, const struct child *drive) {
     struct chunk chunk;
     while (read_all(link->child.from, &chunk, sizeof chunk) == sizeof chunk) {

@@ -9,7 +9,8 @@
 #include <string.h>
 #include <unistd.h>
 
-/* splitmix64: a number that depends on the seed and the cycle alone, so that a series which is resumed draws the same. */
+/* splitmix64: a number that depends on the seed and the cycle alone, so that a series which is
+ * resumed draws the same. */
 static uint64_t drawn(uint64_t seed, uint64_t cycle) {
     uint64_t x = seed + cycle * 0x9E3779B97F4A7C15u;
     x = (x ^ (x >> 30)) * 0xBF58476D1CE4E5B9u;
@@ -31,9 +32,9 @@ static void keep_report(const struct folder *folder, const struct cycle *cycle) 
 
 /* Gives the power back, and checks. Returns whether there was a report of the whole region. */
 static bool check_cycle(const struct options *options, const struct job *job, const struct region *region, const struct folder *folder, struct cycle *cycle) {
-    const struct hello hello = {false, job->depth, *region};
+    const struct hello hello = {.depth = job->depth, .region = *region};
     if (run_command(options->on, NULL, 0)) give_up(options->on, "it didn't give the power back");
-    struct link link = open_link(options->link, &hello, options->wait);
+    struct link link = open_link(options->link, &hello, job, options->wait);
     check_job(job, &link, cycle->tally.state, cycle->tally.state_length, &cycle->report);
     keep_report(folder, cycle);
     return read_report(cycle) && !strstr(cycle->report.text, " end read ");
@@ -41,12 +42,12 @@ static bool check_cycle(const struct options *options, const struct job *job, co
 
 /* Writes, and has the power cut. */
 static void write_cycle(const struct options *options, const struct job *job, const struct region *region, const struct folder *folder, struct cycle *cycle) {
-    const struct hello hello = {true, job->depth, *region};
+    const struct hello hello = hello_to_write(options, job, region);
     char name[PATH_MAX];
-    struct link link = open_link(options->link, &hello, options->wait);
+    struct link link = open_link(options->link, &hello, job, options->wait);
     if (cycle->number == 1) tell_welcome(&link);
     cycle->cut_after = options->least + drawn(folder->seed, cycle->number) % (options->most - options->least + 1);
-    cycle->tally = run_job(options, job, region, &link, cycle->cut_after ? cycle->cut_after : 1);
+    cycle->tally = run_job(options, job, &link, cycle->cut_after ? cycle->cut_after : 1);
     name_of(folder, cycle->number, "state", name);
     keep_state(name, cycle->tally.state, cycle->tally.state_length, region);
 }

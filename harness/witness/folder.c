@@ -26,7 +26,8 @@ static void name_file(const struct folder *folder, const char *file, char name[P
     if (snprintf(name, PATH_MAX, "%s/%s", folder->path, file) >= PATH_MAX) give_up(folder->path, strerror(ENAMETOOLONG));
 }
 
-/* What has to be the same for all cycles of a series: its job file and its region. The seed stands before it. */
+/* What has to be the same for all cycles of a series: its job file and its region. The seed stands
+ * before it. */
 static size_t settings_of(const struct job *job, const struct region *region, uint64_t seed, char *text) {
     int front = snprintf(text, MAX_LINE, "seed %" PRIu64 "\njob %" PRIu64 " offset %" PRIu64 " stride %" PRIu64 "\n", seed, job->number, region->offset, region->stride);
     memcpy(text + front, job->text, job->text_length);
@@ -41,7 +42,8 @@ static void count_cycles(struct folder *folder) {
     if (!lines && errno != ENOENT) give_up_by_errno(name);
     while (lines && fgets(line, sizeof line, lines)) {
         const char *checked = strstr(line, "\"checked\": "), *faults = strstr(line, "\"faults\": ");
-        if (!strchr(line, '\n') || !checked || !faults) break; /* (cut short when it was written: that cycle isn't over) */
+        /* (cut short when it was written: that cycle isn't over) */
+        if (!strchr(line, '\n') || !checked || !faults) break;
         folder->cycles++;
         folder->faulty += strtoull(faults + 10, NULL, 10) > 0;
         folder->unchecked += strtoull(checked + 11, NULL, 10) == 0;

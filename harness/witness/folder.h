@@ -1,4 +1,5 @@
-/* The folder of a series of cycles: its settings, and of each cycle the state, the report and a line. */
+/* The folder of a series of cycles: its settings, and of each cycle the state, the report and a
+ * line. */
 #ifndef FOLDER_H
 #define FOLDER_H
 
@@ -21,10 +22,12 @@ struct folder {
     const char *path;
     uint64_t seed;  /* by which the moments of the cuts are drawn */
     uint64_t cycles; /* how many are over */
-    uint64_t faulty, unchecked; /* of these, how many had faults, and how many had nothing to check */
+    /* Of these, how many had faults, and how many had nothing to check. */
+    uint64_t faulty, unchecked;
 };
 
-/* Makes the folder, or opens it again with --resume, which wants the job file, the region and the seed of its beginning. */
+/* Makes the folder, or opens it again with --resume, which wants the job file, the region and the
+ * seed of its beginning. */
 struct folder open_folder(const struct options *options, const struct job *job, const struct region *region);
 
 /* The name of a file of a cycle. */

@@ -25,14 +25,16 @@ static size_t read_until(int fd, uint8_t *bytes, size_t length, uint64_t until) 
     return have;
 }
 
-/* Whether this agent is the right one. One that refuses because its target is still in use may soon have it: its last run may be ending. */
+/* Whether this agent is the right one. One that refuses because its target is still in use may soon
+ * have it: its last run may be ending. */
 static bool is_welcome(const struct welcome *welcome, const struct hello *hello) {
     if (welcome->is_refused) return false;
     if (welcome->block_size != hello->region.block_size || welcome->blocks != hello->region.blocks) give_up("the link", "that agent speaks of another region");
     return true;
 }
 
-/* So long one start of the command has: a line may lose what is said while nobody listens at its other end. */
+/* So long one start of the command has: a line may lose what is said while nobody listens at its
+ * other end. */
 enum { ONE_START = 20000 };
 
 static uint64_t end_of_start(uint64_t until) {
@@ -40,15 +42,16 @@ static uint64_t end_of_start(uint64_t until) {
     return one < until ? one : until;
 }
 
-struct link open_link(const char *command, const struct hello *hello, uint64_t seconds) {
+struct link open_link(const char *command, const struct hello *hello, const struct job *job, uint64_t seconds) {
     uint8_t said[HELLO_BYTES], heard[WELCOME_BYTES];
     uint64_t until = milliseconds() + seconds * 1000;
     const char *why;
-    struct link link;
+    struct link link = {.hello = *hello};
     write_hello(said, hello);
     do {
         link.child = start_command(command, CHILD_READS | CHILD_WRITES | CHILD_APART);
         write_all(link.child.to, said, sizeof said); /* (where nobody reads it, nobody answers) */
+        if (hello->is_local) write_all(link.child.to, job->text, job->text_length);
         size_t have = read_until(link.child.from, heard, sizeof heard, end_of_start(until));
         bool is_agent = have == sizeof heard && read_welcome(heard, &link.welcome);
         if (is_agent && is_welcome(&link.welcome, hello)) return link;

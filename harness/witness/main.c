@@ -1,4 +1,5 @@
-/* Runs on a machine that keeps its power: has an agent write and read, and remembers what was told as done. docs/DRIVE.md is the manual. */
+/* Runs on a machine that keeps its power: has an agent write and read, and remembers what was told
+ * as done. docs/DRIVE.md is the manual. */
 #include "commands.h"
 
 #include "report.h"
@@ -11,11 +12,11 @@
 
 int write_by_agent(const struct options *options, const struct job *job) {
     const struct region region = region_of(job, options->offset, options->stride);
-    const struct hello hello = {true, job->depth, region};
-    struct link link = open_link(options->link, &hello, options->wait);
+    const struct hello hello = hello_to_write(options, job, &region);
+    struct link link = open_link(options->link, &hello, job, options->wait);
     tell_welcome(&link);
     put_aside(options->place);
-    struct tally tally = run_job(options, job, &region, &link, 0);
+    struct tally tally = run_job(options, job, &link, 0);
     keep_state(options->place, tally.state, tally.state_length, &region);
     printf("run %" PRIu64 ": %" PRIu64 " ordered, %" PRIu64 " told, %" PRIu64 " in flight%s\n", tally.run, tally.ordered, tally.told, in_flight(&tally), tally.is_cut ? " at the cut" : "");
     if (tally.failed) say("a write failed, and the state was taken there: %s", options->place);
@@ -27,8 +28,8 @@ int check_by_agent(const struct options *options, const struct job *job) {
     static struct report report;
     size_t length = read_state(options->place, state);
     const struct region region = region_of_state(options->place, job, options->offset, options->stride);
-    const struct hello hello = {false, job->depth, region};
-    struct link link = open_link(options->link, &hello, options->wait);
+    const struct hello hello = {.depth = job->depth, .region = region};
+    struct link link = open_link(options->link, &hello, job, options->wait);
     check_job(job, &link, state, length, &report);
     return tell_report(&report);
 }

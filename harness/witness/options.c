@@ -17,6 +17,8 @@ static const char USAGE[] =
     "  --offset BYTES    where the first block begins, 0 else; --stride BYTES: from one block's front to the next\n"
     "  --wait SECONDS    so long for the link to be there: 30, in a cycle 600\n"
     "  --quiet MS        silence so long, while writes are out, is the cut; in a cycle 10000 where nothing else is said\n"
+    "write, cycle:\n"
+    "  --local           the agent has a drive of its own, DRIVE there: for a link too slow for the blocks\n"
     "write:\n"
     "  --after N         takes the state once N writes are done\n"
     "cycle:\n"
@@ -53,7 +55,8 @@ static void refuse_missing(const struct options *read) {
     if (read->command == CYCLE && (!read->off || !read->on)) give_up("--off, --on", "a cycle wants both");
 }
 
-/* The command that the first word names, with two words behind it. Else the program says how it goes, and ends. */
+/* The command that the first word names, with two words behind it. Else the program says how it
+ * goes, and ends. */
 static enum command read_command(int count, char **words) {
     const char *const names[] = {"write", "check", "cycle"};
     bool asks = asks_for_help(count, words);
@@ -74,6 +77,7 @@ struct options read_options(int count, char **words) {
         {"--stride", 0, &read.stride, 0, all_commands},
         {"--wait", 0, &read.wait, 0, all_commands},
         {"--quiet", 0, &read.quiet, 0, all_commands},
+        {"--local", 0, 0, &read.local, WRITE | CYCLE},
         {"--after", 0, &read.after, 0, WRITE},
         {"--off", &read.off, 0, 0, CYCLE},
         {"--on", &read.on, 0, 0, CYCLE},

@@ -19,10 +19,12 @@ struct options {
     uint64_t cycles;   /* 0: until it is stopped */
     uint64_t least, most; /* milliseconds from the first order to the cut */
     uint64_t seed;     /* 0: one is drawn */
+    bool local; /* the orders are given by the agent's own `drive`, too */
     bool keep_going, resume, json;
 };
 
-/* Reads the command line. Where it can't be read, the program says how it goes, or what is wrong, and ends. */
+/* Reads the command line. Where it can't be read, the program says how it goes, or what is wrong,
+ * and ends. */
 struct options read_options(int count, char **words);
 
 #endif

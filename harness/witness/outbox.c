@@ -16,7 +16,8 @@ static size_t frame_of(const struct outbox *outbox) {
 
 void make_outbox(struct outbox *outbox, uint64_t block_size, uint64_t depth) {
     *outbox = (struct outbox){.block_size = block_size, .depth = depth};
-    outbox->room = (depth + 1) * frame_of(outbox) + MAX_LAST; /* no more orders than `depth` are open */
+    /* (no more orders than `depth` are open) */
+    outbox->room = (depth + 1) * frame_of(outbox) + MAX_LAST;
     outbox->bytes = malloc(outbox->room);
     outbox->open = calloc(depth, sizeof *outbox->open);
     if (!outbox->bytes || !outbox->open) give_up("memory", strerror(ENOMEM));
@@ -56,12 +57,20 @@ bool has_orders(const struct outbox *outbox) {
     return outbox->sent < outbox->seen;
 }
 
+static void note_sent(struct outbox *outbox, size_t count) {
+    outbox->sent += count;
+    if (outbox->sent == outbox->end) outbox->sent = outbox->seen = outbox->end = 0;
+}
+
 bool send_orders(struct outbox *outbox, int to) {
     ssize_t count = write(to, outbox->bytes + outbox->sent, outbox->seen - outbox->sent);
     if (count < 0) return errno == EAGAIN || errno == EINTR;
-    outbox->sent += (size_t)count;
-    if (outbox->sent == outbox->end) outbox->sent = outbox->seen = outbox->end = 0;
+    note_sent(outbox, (size_t)count);
     return true;
+}
+
+void drop_orders(struct outbox *outbox) {
+    note_sent(outbox, outbox->seen - outbox->sent);
 }
 
 bool close_order(struct outbox *outbox, uint64_t write, uint64_t *block) {

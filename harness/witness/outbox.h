@@ -1,4 +1,5 @@
-/* The orders of `drive` on their way to an agent, and which of them are open: given, and their end not told. */
+/* The orders of `drive` on their way to an agent, and which of them are open: given, and their end
+ * not told. */
 #ifndef OUTBOX_H
 #define OUTBOX_H
 
@@ -11,7 +12,9 @@
 struct outbox {
     uint64_t block_size, depth, ordered;
     uint8_t *bytes;
-    size_t room, sent, seen, end; /* up to `sent` the link has it, up to `seen` there are whole orders, up to `end` there are bytes */
+    /* Up to `sent` the link has it, up to `seen` there are whole orders, up to `end` there are
+     * bytes. */
+    size_t room, sent, seen, end;
     struct open_order { uint64_t write, block; } *open;
     size_t open_count;
 };
@@ -28,10 +31,14 @@ bool has_orders(const struct outbox *outbox);
 /* Gives the link as many as it takes now. False where it takes no more at all. */
 bool send_orders(struct outbox *outbox, int to);
 
+/* Sends none of those that are whole by now: who carries them out has them already. */
+void drop_orders(struct outbox *outbox);
+
 /* Notes that an order's end was told. False where there is no such open order. */
 bool close_order(struct outbox *outbox, uint64_t write, uint64_t *block);
 
-/* Copies the state, which is what `drive` said last, and returns its length. Where there is none, the witness gives up and says why: `status` is how it ended. */
+/* Copies the state, which is what `drive` said last, and returns its length. Where there is none,
+ * the witness gives up and says why: `status` is how it ended. */
 size_t take_state(struct outbox *outbox, int status, uint8_t state[MAX_STATE]);
 
 #endif

@@ -1,0 +1,79 @@
+#include "course.h"
+
+#include "bytes.h"
+#include "clock.h"
+#include "say.h"
+
+#include <errno.h>
+#include <inttypes.h>
+#include <string.h>
+#include <unistd.h>
+
+/* So long a notice may be of a write that `drive` hasn't ordered yet: milliseconds. */
+enum { ORDER_COMES = 5000 };
+
+void take(struct course *course) {
+    uint8_t notice[NOTICE_BYTES];
+    put_notice(notice, TAKE, 0);
+    if (!course->is_taken) write_all(course->drive.to, notice, sizeof notice);
+    course->is_taken = true;
+}
+
+void note_cut(struct course *course, const char *why) {
+    if (course->is_taken) return;
+    if (why) say("%s", why);
+    course->tally->is_cut = true;
+    take(course);
+}
+
+/* Whether a notice is of an open write; then it is counted, and open no more. */
+static bool count_notice(struct course *course, struct told told) {
+    uint64_t block;
+    if ((told.kind != DONE && told.kind != FAILED) || !close_order(&course->outbox, told.write, &block)) return false;
+    if (block != told.block) give_up("the link", "what the agent writes isn't what is ordered here: is its `drive` another one?");
+    course->tally->told += told.kind == DONE;
+    course->tally->failed += told.kind == FAILED;
+    if (told.kind == FAILED) say("write %" PRIu64 " to block %" PRIu64 " failed at the agent", told.write, told.block);
+    return true;
+}
+
+/* A notice is of no open write. An agent's own `drive` may be ahead of the one here: then the order
+ * comes. Else no agent said this: it is what a line carries while its power goes. */
+static void note_unknown(struct course *course) {
+    if (!course->unknown_since) course->unknown_since = milliseconds();
+    if (!course->link->hello.is_local || milliseconds() - course->unknown_since >= ORDER_COMES) note_cut(course, "the link said what no agent says: taken as the cut");
+}
+
+void hand_on(struct course *course) {
+    uint8_t notices[NOTICES * NOTICE_BYTES];
+    size_t at = 0;
+    bool is_known = true, is_last = false;
+    while (is_known && !is_last && at + NOTICE_BYTES <= course->heard_length) {
+        const struct told told = read_told(course->heard + at);
+        is_known = count_notice(course, told);
+        if (!is_known) break;
+        put_notice(notices + at, told.kind, told.write);
+        at += NOTICE_BYTES;
+        is_last = course->tally->failed || course->tally->told == course->goal;
+    }
+    write_all(course->drive.to, notices, at);
+    /* (no more than the job's depth are on their way back, so the pipe has room for them) */
+    if (course->link->hello.is_local && at) write_all(course->link->child.to, course->heard, at);
+    memmove(course->heard, course->heard + at, course->heard_length - at);
+    course->heard_length -= at;
+    if (is_known) course->unknown_since = 0;
+    if (is_last) take(course);
+    else if (!is_known) note_unknown(course);
+}
+
+void take_notices(struct course *course) {
+    ssize_t count = read(course->link->child.from, course->heard + course->heard_length, sizeof course->heard - course->heard_length);
+    if (count < 0 && (errno == EAGAIN || errno == EINTR)) return;
+    if (count <= 0) {
+        note_cut(course, NULL);
+        return;
+    }
+    course->last_heard = milliseconds();
+    course->heard_length += (size_t)count;
+    hand_on(course);
+}
