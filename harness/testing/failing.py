@@ -23,12 +23,31 @@ def failures():
         _, printed, _ = run("check", "fail.fio", "failing", "fs")
         tell_has(f"{lie}: no other fault", printed, f"faults {len(torn)} end whole first {' '.join(torn) or '-'}")
         os.remove("failing")
-    ran = subprocess.Popen([TARGET, "write", "fail.fio", "failing", "fs"], env={**os.environ, **env, "LIE": "stalled:50"}, **QUIET)
-    time.sleep(1)
-    ran.terminate()
-    tell("a write that never comes back, and SIGTERM: the status", ran.wait(30), 0)
-    _, printed, _ = run("check", "fail.fio", "failing", "fs")
-    tell_has("a write that never comes back: the check", printed, "faults 0 end whole first -")
+    stalled()
+
+
+def stalled():
+    """A write that never comes back keeps neither the state nor the cut."""
+    env = {**os.environ, "LD_PRELOAD": LIAR, "LIE_TARGET": "/failing", "LIE": "stalled:50"}
+    for what, words in (("SIGTERM", []), ("a cut", ["--after", "45", "--cut", "touch was-cut"])):
+        ran = subprocess.Popen([TARGET, "write", "fail.fio", "failing", "fs", *words], env=env, **QUIET)
+        if not words:
+            time.sleep(1)
+            ran.terminate()
+        tell(f"a write that never comes back, and {what}: the status", ended(ran, 20), 0)
+        _, printed, _ = run("check", "fail.fio", "failing", "fs")
+        tell_has(f"a write that never comes back, and {what}: the check", printed, "faults 0 end whole first -")
+    tell("the power was cut while it was out", os.path.exists("was-cut"), True)
+
+
+def ended(ran, seconds):
+    """The status of a process that ends within so many seconds; else it is killed, and has none."""
+    try:
+        return ran.wait(seconds)
+    except subprocess.TimeoutExpired:
+        ran.kill()
+        ran.wait()
+        return None
 
 
 def kills():
