@@ -4,3 +4,6 @@ pub mod NoticeLemmas
 pub mod CheckLemmas
 pub mod TextLemmas
 pub mod JobLemmas
+pub mod FrontLemmas
+pub mod FrontBytes
+pub mod LossLemmas

@@ -36,13 +36,13 @@ two_numbers bytes rest x y h len rest_is f g =
     sym (ap (λ l. l ++ to_be_bytes w64 y) first ∙ ap (λ l. take 8 bytes ++ l) last ∙ take-append-drop 8 bytes)
 
 -- The first number of bytes that begin with one.
-first_number : (bytes rest : List ℕ) (n : ℕ) → n < 2 ^ 64 → bytes ≡ bytes_of w64 n ++ rest → number_in w64 bytes ≡ n
+pub first_number : (bytes rest : List ℕ) (n : ℕ) → n < 2 ^ 64 → bytes ≡ bytes_of w64 n ++ rest → number_in w64 bytes ≡ n
 unfolding number_in bytes_of
 first_number bytes rest n fits is =
     ap (λ l. from_be_bytes w64 (take 8 l)) is ∙ ap (from_be_bytes w64) (take_at (to_be_bytes w64 n) rest 8 refl) ∙ from_be_bytes-to_be_bytes_8 n fits
 
 -- What stands behind it.
-behind_it : (bytes rest : List ℕ) (n : ℕ) → bytes ≡ bytes_of w64 n ++ rest → drop 8 bytes ≡ rest
+pub behind_it : (bytes rest : List ℕ) (n : ℕ) → bytes ≡ bytes_of w64 n ++ rest → drop 8 bytes ≡ rest
 unfolding bytes_of
 behind_it bytes rest n is = ap (drop 8) is ∙ drop_at (to_be_bytes w64 n) rest 8 refl
 

@@ -2,6 +2,9 @@ pub mod Notices
 pub mod Orders
 pub mod Runs
 pub mod Writing
+pub mod Fronts
+pub mod Losses
+pub mod Examples
 pub mod Checks
 pub mod Texts
 pub mod Jobs

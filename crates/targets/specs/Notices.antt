@@ -12,10 +12,24 @@ notice_bytes (Done k) = bytes_of w64 1 ++ bytes_of w64 k
 notice_bytes (Failed k) = bytes_of w64 2 ++ bytes_of w64 k
 notice_bytes Take = bytes_of w64 3 ++ bytes_of w64 0
 
--- The bytes of notices, of which the last one stands first in the list.
+-- The bytes of notices. In a list of them the last one stands first.
 abbrev pub told_bytes : List Notice → List ℕ
 told_bytes [] = []
 told_bytes (n ∷ ns) = told_bytes ns ++ notice_bytes n
+
+-- The writes that notices tell as done, in the order in which they do.
+abbrev pub told_done : List Notice → List ℕ
+told_done [] = []
+told_done (Done k ∷ ns) = told_done ns ++ k ∷ []
+told_done (Failed k ∷ ns) = told_done ns
+told_done (Take ∷ ns) = told_done ns
+
+-- The writes that they tell as failed.
+abbrev pub told_failed : List Notice → List ℕ
+told_failed [] = []
+told_failed (Done k ∷ ns) = told_failed ns
+told_failed (Failed k ∷ ns) = told_failed ns ++ k ∷ []
+told_failed (Take ∷ ns) = told_failed ns
 
 -- The notice of these two numbers, if they are one's.
 abbrev pub notice_of : ℕ → ℕ → Option Notice

@@ -9,7 +9,8 @@
 //! let report = check_blocks(alloc, key, &rec, Some(&state), false, &mut reader)?;
 //! ```
 //!
-//! Begin with `writing` and `specs/Runs.antt`; `checking` and `specs/Checks.antt` have the check.
+//! Begin with `writing` and `specs/Runs.antt`; `checking` and `specs/Checks.antt` have the check, and `law` says what
+//! holds of two runs of a job.
 #![tactic(auto)]
 
 mod asked;
@@ -17,6 +18,7 @@ mod checking;
 mod command;
 mod drive_check;
 mod drive_write;
+mod law;
 mod notice;
 mod order;
 mod texts;
@@ -26,5 +28,6 @@ pub use checking::check_blocks;
 pub use command::{Request, read_words};
 pub use drive_check::{MAX_STATE, check_job};
 pub use drive_write::{refuse, write_job};
+pub use law::{examples, front_law, loss_law};
 pub use notice::Notice;
 pub use writing::{RunEnd, write_blocks};

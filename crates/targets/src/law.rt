@@ -1,0 +1,59 @@
+//! Laws of two runs of one job, of which one was told less, and of what a check by a run's state
+//! tells. The functions have nothing to run.
+
+ghost use Rattle.std.specs.Prelude.{◌≡◌, [], ◌∷◌, true, false};
+ghost use Rattle.targets.specs.Fronts.{HistoriesAreOne, FrontsAreBehind, HistoriesGoOn, IsBehind, OrdersGoOn, OrderedAreIssued, ToldAreCounted, OrderedAreOpen};
+ghost use Rattle.targets.specs.Losses.{is_fault_after, SurvivorsAreNoFaults, LossesAreFaults};
+ghost use Rattle.targets.specs.Examples.{three_writes, one_told, two_told, holds_write};
+
+use crate::notice::Notice;
+use engine::{overlap_law, taken_law};
+use recheck::faults_are_losses;
+use window::sets_law;
+use write_order::writes_stay_in_the_region;
+
+/// A run that is told of each write only once another run of its job was orders nothing that the
+/// other one's state doesn't know: each of its writes is counted there, or in flight. So the run
+/// of a witness takes the state for a target to which only the run behind it writes. It counts
+/// what the witness was told, and refuses no first notice of a write that was ordered.
+pub fn front_law()
+    ensures one { HistoriesAreOne }
+    ensures behind { FrontsAreBehind }
+    ensures history { HistoriesGoOn }
+    ensures orders { OrdersGoOn }
+    ensures issued { OrderedAreIssued }
+    ensures counted { ToldAreCounted }
+    ensures open_writes { OrderedAreOpen }
+{
+    sets_law();
+    taken_law();
+}
+
+/// Why a target that keeps what it reports as done has no fault, also by the state of a run ahead
+/// of the one that orders; and why one that has lost a write has a fault. By the state of a run
+/// *behind* the one that orders a good target may have faults: that state doesn't know the last
+/// writes, which may have gone over those that it counts.
+pub fn loss_law()
+    ensures survivors { SurvivorsAreNoFaults }
+    ensures losses { LossesAreFaults }
+{
+    sets_law();
+    taken_law();
+    overlap_law();
+    writes_stay_in_the_region();
+    faults_are_losses();
+}
+
+/// Three writes to one block, and two runs. By the state of the one that was told of writes 0 and
+/// 1 the block may hold write 1, as where the other has ordered no more, or write 2, and not write
+/// 0. By the state of the one that was told of write 0 alone, write 2 is a fault: where it may have
+/// been ordered, that is no state to check by.
+#[tactic(auto, unfolding(write_order::specs::Stamps::stamped_sector, write_order::specs::Stamps::counting_bytes))]
+pub fn examples()
+    ensures behind { IsBehind three_writes (Notice.Done 0 ∷ [])
+        (Notice.Done 1 ∷ Notice.Done 0 ∷ []) one_told two_told }
+    ensures survives { is_fault_after three_writes two_told (holds_write 1) 0 ≡ false }
+    ensures flies { is_fault_after three_writes two_told (holds_write 2) 0 ≡ false }
+    ensures lost { is_fault_after three_writes two_told (holds_write 0) 0 ≡ true }
+    ensures told_less { is_fault_after three_writes one_told (holds_write 2) 0 ≡ true }
+{}
