@@ -31,6 +31,14 @@ def kill_agent():
     os.kill(int(read("agent")), signal.SIGKILL)
 
 
+def put_earlier_state(state):
+    """Puts one there that the next run puts aside once its agent has answered: then STATE.old is
+    there."""
+    write(state, "of an earlier run")
+    if os.path.exists(f"{state}.old"):
+        os.remove(f"{state}.old")
+
+
 def counted(state):
     """The writes that a state counts, by the manual's layout."""
     issued = struct.unpack(">Q", state[56:64])[0]
@@ -94,13 +102,11 @@ def random_kills():
     chance, flying = random.Random(2), 0
     for turn in range(100):
         env = {**os.environ, **({"LD_PRELOAD": LIAR} if turn % 4 == 3 else {})}
-        for file in ("agent", "ks", "ks.old"):
-            if os.path.exists(file):
-                os.remove(file)
+        put_earlier_state("ks")
         options = ("--flush", "4") if turn % 4 == 1 else ()
         ran = subprocess.Popen([WITNESS, "write", "long.fio", "ks", *link("wk", *options)], stdout=subprocess.PIPE, stderr=subprocess.DEVNULL, text=True, env=env)
-        await_file("agent")
-        time.sleep(chance.uniform(0.01, 0.15))
+        await_file("ks.old")
+        time.sleep(chance.uniform(0, 0.15))
         kill_agent()
         printed, _ = ran.communicate(timeout=30)
         told = re.search(r"(\d+) told, (\d+) in flight at the cut", printed)
