@@ -1,6 +1,7 @@
-//! What no clause shows of `fc_base`, `job_file`, `window`, `write_order`, `verify_state`, `engine`, `disk_model`, `recheck`
-//! and `parallel_checks`.
+//! What no clause shows of `fc_base`, `job_file`, `window`, `write_order`, `verify_state`, `engine`, `disk_model`, `recheck`,
+//! `diagnosis` and `parallel_checks`.
 
+mod diagnoses;
 mod disks;
 mod engines;
 mod job_files;

@@ -1,10 +1,10 @@
 //! What the blocks of a job are checked against.
 
-ghost use Rattle.std.specs.Prelude.{◌≡◌, ◌≤◌, ◌<◌, ◌==◌, ◌&&◌, IfOk, length, None, slice_index_or, false};
+ghost use Rattle.std.specs.Prelude.{◌≡◌, ◌≤◌, ◌<◌, ◌==◌, ◌&&◌, IfOk, length, None, false};
 ghost use Rattle.std.specs.List.{list_any};
 ghost use Rattle.std.specs.Option.{option_copied};
 ghost use Rattle.recheck.specs.Expected.{counts, issued_in, expected_by};
-ghost use Rattle.recheck.specs.Faults.{is_checked, is_write, verdict, writes_to};
+ghost use Rattle.recheck.specs.Faults.{is_checked, is_write, last_write, verdict, writes_to};
 
 use crate::last_write::LastWrite;
 use crate::verdict::Verdict;
@@ -21,7 +21,8 @@ pub struct Placed {
     pub block: u32,
 }
 
-/// For each block of a job its last completed write, and beside that the writes in flight.
+/// What the blocks of a job are checked against: for each of them the last completed write to it,
+/// and beside that the writes in flight. A [`Recheck`](crate::Recheck) has one.
 #[derive(Drop)]
 pub struct Expected {
     key: Key,
@@ -97,6 +98,20 @@ impl Expected {
         self.last_write(block).is_some()
     }
 
+    /// Whose blocks they are.
+    pub fn key(&self) -> Key
+        ensures { result ≡ self.now.key }
+    {
+        self.key
+    }
+
+    /// The writes in flight when the state was taken, ascending, each with its block.
+    pub fn in_flight(&self) -> &[Placed]
+        ensures { result.now ≡ self.now.in_flight }
+    {
+        &self.in_flight
+    }
+
     /// What is found at a block that holds these bytes.
     pub fn verdict(&self, block: u32, bytes: &[u8]) -> Verdict
         requires block { block < self.now.job.blocks }
@@ -112,8 +127,9 @@ impl Expected {
         }
     }
 
-    fn last_write(&self, block: u32) -> Option<Seq>
-        ensures value { result ≡ slice_index_or self.now.last block None }
+    /// The last completed write to a block, if there is one.
+    pub fn last_write(&self, block: u32) -> Option<Seq>
+        ensures value { result ≡ last_write self.now block }
         ensures past { self.now.job.blocks ≤ block → result ≡ None }
         ensures blocks { self.now.job.blocks ≤ MAX_BLOCKS }
     {

@@ -82,6 +82,13 @@ impl Recheck {
         self.expected.is_checked(block)
     }
 
+    /// What the blocks are checked against: which writes each of them may hold.
+    pub fn expected(&self) -> &Expected
+        ensures { result.now ≡ self.now.expected }
+    {
+        &self.expected
+    }
+
     /// Checks a block, which has to come after those that came before, by its bytes.
     pub fn feed(&mut self, block: u32, bytes: &[u8]) -> Verdict
         requires block { block < self.old.expected.job.blocks }

@@ -4,13 +4,14 @@
 //!
 //! A job file is read (`jobs`), its writes go to a disk and its state is taken (`writes`), the state
 //! is kept as bytes (`states`), a disk is checked by it (`checks`), behind a cut of the power, too
-//! (`cuts`); packets go out in frames and come out of them (`packets`), a client begins a run
+//! (`cuts`), and a faulty block is diagnosed (`diagnoses`); packets go out in frames and come out of them (`packets`), a client begins a run
 //! (`clients`), a server takes a frame (`servers`), and events come to a world (`worlds`).
 #![tactic(auto)]
 
 mod checks;
 mod clients;
 mod cuts;
+mod diagnoses;
 mod jobs;
 mod packets;
 mod servers;
@@ -21,6 +22,7 @@ mod writes;
 pub use checks::count_losses;
 pub use clients::first_run;
 pub use cuts::write_cut_check;
+pub use diagnoses::older_write;
 pub use jobs::first_job;
 pub use packets::{cut_and_join, first_packet};
 pub use servers::first_answer;

@@ -1,0 +1,184 @@
+-- What whole blocks hold.
+use Rattle.std.proofs.Common.{◌*◌, ◌≡◌, ℕ, zero, suc, ◌+◌, ◌/◌, ◌%◌, ◌<◌, ◌≤◌, Bool, true, false, eqb, List, [], ◌∷◌, ◌++◌}
+use Rattle.std.proofs.Common.{length, drop, take, get_or, filter, replicate, cond, refl, sym, ap, subst, ◌∙◌, arith, length-append, add-zero}
+use Rattle.std.specs.List.{range_with_len, flat_map, list_all}
+use Rattle.std.specs.Prelude.{Option, Some, None, MatchOption, if◌then◌else◌}
+use Rattle.std.specs.Str.{bytes_eq}
+use Rattle.std.proofs.Math.Seq.{take-append_seam, drop-append-add}
+use Rattle.std.proofs.lemmas.Bool.{and_parts, eqb-true, eq-eqb}
+use Rattle.std.proofs.lemmas.List.{get_or-replicate, get_or-take, get_or-drop}
+use Rattle.std.proofs.lemmas.List.{map-id}
+use Rattle.std.proofs.lemmas.List.Elements.{filter-append}
+use Rattle.std.proofs.lemmas.Slice.Eq.{bytes_eq-Decides}
+use Rattle.std.proofs.lemmas.List.Concat.{flat_map-cons}
+use Rattle.std.proofs.lemmas.List.FromFn.{map-range_with_len_more}
+use Rattle.fc_base.specs.declared.record.JobParts.{JobParts}
+use Rattle.fc_base.specs.declared.record.Verify.TheVariants as verifies
+use Rattle.fc_base.specs.declared.numbers.Key.{Key}
+use Rattle.write_order.specs.Stamps.{stamped_sector, written_bytes}
+use Rattle.write_order.specs.Laws.{sector_with}
+use Rattle.diagnosis.specs.declared.stamp.Stamp.{Stamp}
+use Rattle.diagnosis.specs.declared.stamp.Write.{Write}
+use Rattle.recheck.specs.Expected.{Expected}
+use Rattle.diagnosis.specs.declared.holds.Holds.{Holds}
+use Rattle.diagnosis.specs.Sectors.{fields_of, stamp_in, is_stamped, HasRoom}
+use Rattle.diagnosis.specs.Pieces.{is_unknown, piece_at, unknown_below}
+use Rattle.diagnosis.specs.Steps.{HoldsNoWrite, held_write, filled_kind, mixed_kind}
+use Rattle.diagnosis.specs.Kinds.{HoldsWrite, IsMixed, FaultHolds, unknown_sectors}
+use Rattle.diagnosis.proofs.SectorLemmas.{stamp_with, read_back, is_stamped-stamp, length-counting_bytes, tail_of, count_at}
+
+-- ---- a byte over and over
+
+pub all_same : (x : ℕ) (bytes : List ℕ) → list_all (λ b. eqb b x) bytes ≡ true → bytes ≡ replicate (length bytes) x
+all_same x [] e = refl
+all_same x (b ∷ bytes) e =
+    let both = and_parts (eqb b x) (list_all (λ b. eqb b x) bytes) e in
+    let here : b ≡ x = eqb-true b x both.0 in
+    rw (here) (ap (λ l. x ∷ l) (all_same x bytes both.1))
+
+all_of_one : (x n : ℕ) → list_all (λ b. eqb b x) (replicate n x) ≡ true
+all_of_one x zero = refl
+all_of_one x (suc n) = rw (eq-eqb x x refl) (all_of_one x n)
+
+-- Bytes that aren't all like the first aren't any byte over and over.
+pub not_same : (bytes : List ℕ) (n byte : ℕ) → 0 < n → list_all (λ b. eqb b (get_or bytes 0 0)) bytes ≡ false → bytes ≡ replicate n byte → ⊥
+not_same bytes n byte some none e =
+    let first : get_or bytes 0 0 ≡ byte = ap (λ l. get_or l 0 0) e ∙ get_or-replicate n 0 byte 0 some in
+    let yes : list_all (λ b. eqb b (get_or bytes 0 0)) bytes ≡ true =
+    ap (λ x. list_all (λ b. eqb b x) bytes) first ∙ ap (list_all (λ b. eqb b byte)) e ∙ all_of_one byte n in
+    let both : true ≡ false = sym yes ∙ none in absurd cc
+
+-- ---- a whole write
+
+pub length-stamped_sector : (key : Key) (k block sector : ℕ) → length (stamped_sector key k block sector) ≡ 512
+unfolding stamped_sector
+length-stamped_sector key k block sector = omega (arith, length-counting_bytes k 476)
+
+-- A sector of bytes that are made sector by sector.
+pub sector_at : (f : ℕ → List ℕ) (n i a : ℕ) → ((k : ℕ) → length (f k) ≡ 512) → i < n → take 512 (drop (i * 512) (flat_map f (range_with_len a n))) ≡ f (a + i)
+sector_at f zero i a len lt = absurd (omega arith)
+sector_at f (suc n) zero a len lt =
+    let rest = flat_map f (range_with_len (a + 1) n) in
+    rw (flat_map-cons f a (range_with_len (a + 1) n))
+    (subst (λ m. take m (f a ++ rest) ≡ f (a + 0)) (len a) (take-append_seam (f a) rest ∙ ap f (sym (add-zero a))))
+sector_at f (suc n) (suc i) a len lt =
+    let rest = flat_map f (range_with_len (a + 1) n) in
+    let at : suc i * 512 ≡ length (f a) + i * 512 = omega (arith, len a) in
+    let next : (a + 1) + i ≡ a + suc i = omega arith in
+    rw (flat_map-cons f a (range_with_len (a + 1) n), at, drop-append-add (f a) rest (i * 512))
+    (sector_at f n i (a + 1) len (omega arith) ∙ ap f next)
+
+pub first_sector : (job : JobParts) (bytes : List ℕ) (w : Write) → 512 ≤ job.bs → HoldsWrite job bytes w → take 512 bytes ≡ sector_with (fields_of (stamp_with w 0))
+first_sector job bytes w some h =
+    ap (take 512) h.held
+    ∙ rw h.stamps (sector_at (stamped_sector w.key w.seq w.block) (job.bs / 512) 0 0 (length-stamped_sector w.key w.seq w.block) (omega arith))
+
+-- The first sector says the write.
+pub says_write : (job : JobParts) (bytes : List ℕ) (w : Write) → 512 ≤ job.bs → HoldsWrite job bytes w
+    → (is_stamped (take 512 bytes) ≡ true) × (stamp_in (take 512 bytes) ≡ stamp_with w 0)
+says_write job bytes w some h =
+    let first = first_sector job bytes w some h in
+    (ap is_stamped first ∙ is_stamped-stamp w 0 h.room (omega arith), ap stamp_in first ∙ read_back w 0 h.room (omega arith))
+
+pub one_write : (job : JobParts) (bytes : List ℕ) (v w : Write) → 512 ≤ job.bs → HoldsWrite job bytes v → HoldsWrite job bytes w → v ≡ w
+one_write job bytes v w some h g =
+    ap (λ (s : Stamp). s.write) (sym (says_write job bytes v some h).1 ∙ (says_write job bytes w some g).1)
+
+-- A write is no byte over and over: the bytes behind the numbers count up.
+pub not_filled : (job : JobParts) (bytes : List ℕ) (w : Write) (byte : ℕ) → 512 ≤ job.bs → HoldsWrite job bytes w → bytes ≡ replicate job.bs byte → ⊥
+not_filled job bytes w byte some h e =
+    let first = first_sector job bytes w some h in
+    let at = λ (i : ℕ) (lt : i < 476).
+    let inside : 36 + i < 512 = omega arith in
+    let within : 36 + i < job.bs = omega arith in
+    let front : get_or (take 512 bytes) (36 + i) 0 ≡ byte =
+    get_or-take 512 bytes (36 + i) 0 inside ∙ ap (λ l. get_or l (36 + i) 0) e ∙ get_or-replicate job.bs (36 + i) byte 0 within in
+    let here : (w.seq + i) % 256 ≡ byte =
+    sym (count_at w.seq 476 i lt) ∙ ap (λ l. get_or l i 0) (sym (tail_of w 0))
+    ∙ get_or-drop 36 (stamped_sector w.key w.seq w.block 0) i 0 ∙ ap (λ l. get_or l (36 + i) 0) (sym first) ∙ front in
+    here in
+    let zeroth = at 0 (omega arith) in
+    let next = at 1 (omega arith) in
+    absurd (omega arith)
+
+-- ---- how it is found
+
+abbrev no_stamp : Option Stamp
+no_stamp = None
+
+pub unsaid : (s : List ℕ) → no_stamp ≡ (if is_stamped s then Some (stamp_in s) else None) → is_stamped s ≡ true → ⊥
+unsaid s e is = let both : no_stamp ≡ Some (stamp_in s) = rw is at e in absurd cc
+
+said : (s : List ℕ) (stamp : Stamp) (b : Bool) → Some stamp ≡ (if b then Some (stamp_in s) else None) → stamp ≡ stamp_in s
+said s stamp true e = cc
+said s stamp false e = absurd cc
+
+abbrev nothing : Option Write
+nothing = None
+
+-- The write that the first sector says, where the block has its bytes.
+pub found : (job : JobParts) (bytes : List ℕ) (stamp : Stamp) (r : Option Write) → job.verify ≡ verifies.Stamp → 512 ≤ job.bs → HasRoom stamp.write
+    → Some stamp ≡ (if is_stamped (take 512 bytes) then Some (stamp_in (take 512 bytes)) else None) → r ≡ held_write job bytes stamp.write
+    → MatchOption r (HoldsNoWrite job bytes) (HoldsWrite job bytes)
+found job bytes stamp r stamps some room says told = by (bytes_eq bytes written) refl
+  where
+    w : Write
+    w = stamp.write
+
+    written : List ℕ
+    written = written_bytes w.key job w.seq w.block
+
+    same : (v : Write) → HoldsWrite job bytes v → w ≡ v
+    same v h =
+        let says_it = says_write job bytes v some h in
+        ap (λ (s : Stamp). s.write) (said (take 512 bytes) stamp (is_stamped (take 512 bytes)) says ∙ says_it.1)
+
+    other_write : (v : Write) → HoldsWrite job bytes v → bytes_eq bytes written ≡ false → ⊥
+    other_write v h differ =
+        let held : bytes ≡ written = h.held ∙ ap (λ (u : Write). written_bytes u.key job u.seq u.block) (sym (same v h)) in
+        let alike = (bytes_eq-Decides bytes written).1 held in
+        let both : true ≡ false = sym alike ∙ differ in absurd cc
+
+    by : (b : Bool) → bytes_eq bytes written ≡ b → MatchOption r (HoldsNoWrite job bytes) (HoldsWrite job bytes)
+    by true e =
+        let P : Option Write → Type 0 = λ o. MatchOption o (HoldsNoWrite job bytes) (HoldsWrite job bytes) in
+        let is : Some w ≡ r = sym (rw e at told) in
+        subst P is (record { stamps = stamps; room = room; held = (bytes_eq-Decides bytes written).0 e })
+    by false e =
+        let P : Option Write → Type 0 = λ o. MatchOption o (HoldsNoWrite job bytes) (HoldsWrite job bytes) in
+        let is : nothing ≡ r = sym (rw e at told) in
+        subst P is (λ v h. other_write v h e)
+
+pub range_with_len-more : (n : ℕ) → range_with_len 0 (n + 1) ≡ range_with_len 0 n ++ n ∷ []
+range_with_len-more n = simp map-id at (map-range_with_len_more (λ (x : ℕ). x) 0 n n (omega arith))
+
+one_more : (test : ℕ → Bool) (n : ℕ) → length (filter test (n ∷ [])) ≡ cond (test n) 1 0
+one_more test n = by (test n) refl
+  where
+    by : (b : Bool) → test n ≡ b → length (filter test (n ∷ [])) ≡ cond (test n) 1 0
+    by true e = rw e refl
+    by false e = rw e refl
+
+pub unknown_more : (job : JobParts) (bytes : List ℕ) (n : ℕ) → unknown_below job bytes (n + 1) ≡ unknown_below job bytes n + cond (is_unknown (piece_at job bytes n)) 1 0
+unknown_more job bytes n =
+    let test = λ (k : ℕ). is_unknown (piece_at job bytes k) in
+    ap (λ l. length (filter test l)) (range_with_len-more n) ∙ ap length (filter-append test (range_with_len 0 n) (n ∷ []))
+    ∙ length-append (filter test (range_with_len 0 n)) (filter test (n ∷ [])) ∙ ap (λ k. unknown_below job bytes n + k) (one_more test n)
+
+-- ---- what is told of it
+
+pub filled_holds : (e : Expected) (block : ℕ) (bytes : List ℕ) (x : ℕ) (r : Holds) → length bytes ≡ e.job.bs → bytes ≡ replicate (length bytes) x
+    → r ≡ filled_kind x → FaultHolds e block bytes r
+filled_holds e block bytes x r len all told = let P : Holds → Type 0 = FaultHolds e block bytes in subst P (sym told) (by x all)
+  where
+    by : (x : ℕ) → bytes ≡ replicate (length bytes) x → FaultHolds e block bytes (filled_kind x)
+    by zero all = all ∙ ap (λ n. replicate n 0) len
+    by (suc n) all = (all ∙ ap (λ m. replicate m (suc n)) len, λ e. omega arith)
+
+pub mixed_holds : (e : Expected) (block : ℕ) (bytes : List ℕ) (n : ℕ) (r : Holds) → IsMixed e.job bytes → n ≡ unknown_sectors e.job bytes
+    → r ≡ mixed_kind n → FaultHolds e block bytes r
+mixed_holds e block bytes n r is count told = let P : Holds → Type 0 = FaultHolds e block bytes in subst P (sym told) (by n count)
+  where
+    by : (n : ℕ) → n ≡ unknown_sectors e.job bytes → FaultHolds e block bytes (mixed_kind n)
+    by zero count = (is, sym count)
+    by (suc n) count = (is, sym count, omega arith)
