@@ -6,8 +6,8 @@ use Rattle.diagnosis.specs.declared.piece.Piece.{Piece}
 use Rattle.diagnosis.specs.declared.piece.Piece.TheVariants as pieces
 use Rattle.diagnosis.specs.Pieces.{piece_at}
 
--- What a sector holds goes together with what one so many sectors before it does: both are alike, or
--- of one write, and as far apart there.
+-- What a sector holds goes together with what one so many sectors before it does: both are alike,
+-- or of one write, and as far apart there.
 abbrev pub GoesOn : Piece → ℕ → Piece → Type 0
 GoesOn pieces.Zeros behind pieces.Zeros = Unit {0}
 GoesOn pieces.Pattern behind pieces.Pattern = Unit {0}
@@ -21,8 +21,8 @@ abbrev pub GoesWith : JobParts → List ℕ → ℕ → ℕ → Type 0
 GoesWith job bytes from number =
     GoesOn (piece_at job bytes from) (number - from) (piece_at job bytes number)
 
--- The sectors from one on that go together with it, of the first so many of a block: all up to one that
--- doesn't, or up to the last.
+-- The sectors from one on that go together with it, of the first so many of a block: all up to one
+-- that doesn't, or up to the last.
 pub record IsExtent (job : JobParts) (bytes : List ℕ) (from sectors : ℕ)
     (extent : Extent) : Type 0 where
   pub begins : extent.from ≡ from

@@ -38,8 +38,8 @@ named_write e block (kinds.OtherRun write) = Some write
 named_write e block (kinds.Misdirected write) = Some write
 named_write e block _ = None
 
--- Where a write is named, the block holds the bytes of that write: so it is told as misdirected from
--- another block only where it holds a write to that block.
+-- Where a write is named, the block holds the bytes of that write: so it is told as misdirected
+-- from another block only where it holds a write to that block.
 abbrev pub NamedWritesAreHeld : Type 0
 NamedWritesAreHeld =
     (e : Expected) (block : ℕ) (bytes : List ℕ) (kind : Holds) → BlockHolds e block bytes kind →

@@ -1,7 +1,7 @@
 //! A block is diagnosed.
 
-ghost use Rattle.std.specs.Prelude.{◌≡◌, ◌<◌, ◌≤◌, IsTrue, MatchOption, false, length, replicate};
-ghost use Rattle.recheck.specs.Faults.{is_checked, is_expected, last_write};
+ghost use Rattle.std.specs.Prelude.{◌≡◌, ◌≢◌, ◌↔◌, ◌<◌, ◌≤◌, IsTrue, MatchOption, false, length, replicate};
+ghost use Rattle.recheck.specs.Faults.{is_checked, is_expected, last_write, verdict};
 ghost use Rattle.diagnosis.specs.Kinds.{BlockHolds, FaultHolds, HoldsWrite};
 ghost use Rattle.diagnosis.specs.Steps.{HoldsNoWrite, RepeatsNoByte, held_write, filled_kind, mixed_kind, own_kind};
 
@@ -22,7 +22,9 @@ pub fn diagnose(expected: &Expected, block: u32, bytes: &[u8]) -> Holds
     requires block { block < expected.now.job.blocks }
     requires checked { IsTrue (is_checked expected.now block) }
     requires bytes { length bytes.now ≡ expected.now.job.bs }
-    ensures { BlockHolds expected.now block bytes.now result }
+    ensures holds { BlockHolds expected.now block bytes.now result }
+    ensures fault { (result ≢ Holds.Sound) ↔ (verdict expected.now block bytes.now
+        ≡ Verdict.Fault) }
 {
     if expected.verdict(block, bytes) == Verdict::Fault {
         fault(expected, block, bytes)

@@ -34,8 +34,8 @@ impl Difference {
     }
 }
 
-/// How the bytes of a block differ from what write `seq` puts into it. The wanted write of a corrupt
-/// block is its last completed one. `bytes` is the whole block, and no memory is taken.
+/// How the bytes of a block differ from what write `seq` puts into it. The wanted write of a
+/// corrupt block is its last completed one. `bytes` is the whole block, and no memory is taken.
 pub fn compare_write(key: &Key, rec: &JobRecord, seq: Seq, block: u32, bytes: &[u8]) -> Difference
     requires { length bytes.now ≡ rec.now.bs }
     ensures { result ≡ difference_of bytes.now (written_bytes key.now rec.now seq block) }
@@ -124,7 +124,8 @@ fn fill_sector(
     }
 }
 
-/// The job with blocks of one sector: the bytes of a write's first sector are those of its block there.
+/// The job with blocks of one sector: the bytes of a write's first sector are those of its block
+/// there.
 fn one_sector(rec: &JobRecord) -> JobRecord
     ensures { result ≡ one_sector rec.now }
 {

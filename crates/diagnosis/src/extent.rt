@@ -8,8 +8,8 @@ use crate::pieces::piece_at;
 use crate::stamp::SECTOR;
 use fc_base::JobRecord;
 
-/// Sectors one after another that go together: zeros, the pattern, sectors of one write in their order,
-/// or sectors of which nothing is known.
+/// Sectors one after another that go together: zeros, the pattern, sectors of one write in their
+/// order, or sectors of which nothing is known.
 #[derive(Clone, Copy, Debug, PartialEq, Eq)]
 pub struct Extent {
     /// What the first of them holds.
@@ -21,8 +21,8 @@ pub struct Extent {
 }
 
 /// The sectors from this one on that go together with it, of the first so many of a block: as many
-/// as there are. Beginning at 0, and each time at the end of the last, a block is told from its first
-/// sector to its last.
+/// as there are. Beginning at 0, and each time at the end of the last, a block is told from its
+/// first sector to its last.
 pub fn extent_at(rec: &JobRecord, bytes: &[u8], from: u32, sectors: u32) -> Extent
     requires there { from < sectors }
     requires bytes { sectors * SECTOR ≤ length bytes.now }

@@ -18,15 +18,15 @@ pub fn each_block_holds_one_kind()
     ensures { EachBlockHoldsOneKind }
 {}
 
-/// Where a kind names a write, the block holds the bytes of that write: so it is told as misdirected
-/// from another block only where it holds a write to that block.
+/// Where a kind names a write, the block holds the bytes of that write: so it is told as
+/// misdirected from another block only where it holds a write to that block.
 pub fn named_writes_are_held()
     ensures { NamedWritesAreHeld }
 {}
 
-/// What `Lost` and `Unissued` say in the words of the writes of a job and of its state: the write that
-/// stands in the block is older than the last one that has completed to it; or it was none of those
-/// that were issued to it.
+/// What `Lost` and `Unissued` say in the words of the writes of a job and of its state: the write
+/// that stands in the block is older than the last one that has completed to it; or it was none of
+/// those that were issued to it.
 pub fn own_writes_are_what_they_are_told()
     ensures lost { LostWritesAreOlder }
     ensures unissued { UnissuedWritesWereNotIssued }

@@ -12,8 +12,8 @@
 //! }
 //! ```
 //!
-//! Begin with `holds` and `specs/Kinds.antt`, which says what each kind is; `specs/Pieces.antt` says
-//! what a sector holds.
+//! Begin with `holds` and `specs/Kinds.antt`, which says what each kind is; `specs/Pieces.antt`
+//! says what a sector holds.
 #![tactic(auto)]
 
 mod diagnosing;

@@ -43,7 +43,8 @@ pub(crate) fn stamp_of(sector: &[u8]) -> Option<Stamp>
 }
 
 /// Whether a sector has the bytes of the stamp with the numbers that stand in it. These are what
-/// they are, so that the rest is looked at: the high half of the block, and the bytes that count up.
+/// they are, so that the rest is looked at: the high half of the block, and the bytes that count
+/// up.
 fn is_stamped(sector: &[u8]) -> bool
     requires { length sector.now ≡ SECTOR }
     ensures { result ≡ is_stamped sector.now }

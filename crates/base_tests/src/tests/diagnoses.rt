@@ -1,5 +1,5 @@
-//! What no clause shows: that each kind is told of bytes that are spelled from the manual's layout of a
-//! stamp, and not by the library that writes them.
+//! What no clause shows: that each kind is told of bytes that are spelled from the manual's layout
+//! of a stamp, and not by the library that writes them.
 
 mod differences;
 mod layout;
@@ -17,8 +17,8 @@ use std::test::Fail;
 use verify_state::VerifyState;
 use write_order::place_of;
 
-/// Four blocks of four sectors, written in turn. Of ten writes, 8 and 9 are in flight to the blocks 0
-/// and 1, and the last completed ones are 4 to 7.
+/// Four blocks of four sectors, written in turn. Of ten writes, 8 and 9 are in flight to the blocks
+/// 0 and 1, and the last completed ones are 4 to 7.
 const JOB: JobParts = JobParts {
     bs: 2048,
     blocks: 4,
@@ -140,8 +140,8 @@ fn patterns(rt: HostRuntime) -> Result<(), Fail> {
     Ok(())
 }
 
-/// Blocks with the ends of their extents: two sectors of an older write, zeros and a corrupt one; sectors
-/// that stand in each other's places; and two corrupt ones before a write's last two.
+/// Blocks with the ends of their extents: two sectors of an older write, zeros and a corrupt one;
+/// sectors that stand in each other's places; and two corrupt ones before a write's last two.
 static EXTENTS: [([Odd; SECTORS], &[u32]); 3] = [
     (
         [

@@ -57,7 +57,8 @@ fn one_byte(rt: HostRuntime) -> Result<(), Fail> {
     Ok(())
 }
 
-/// The second sector differs in four bits of each byte, the fourth in one; and a block that is the write's.
+/// The second sector differs in four bits of each byte, the fourth in one; and a block that is the
+/// write's.
 #[test]
 fn many_bytes_and_none(rt: HostRuntime) {
     let alloc = rt.alloc();

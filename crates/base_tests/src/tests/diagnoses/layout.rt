@@ -1,6 +1,6 @@
-//! A stamp by its layout in the manual: run (8 bytes), server (4), job (4), number of the write (8), block (8)
-//! and sector within the block (4), each high byte first, and then bytes that count up from the write's
-//! number, modulo 256.
+//! A stamp by its layout in the manual: run (8 bytes), server (4), job (4), number of the write
+//! (8), block (8) and sector within the block (4), each high byte first, and then bytes that count
+//! up from the write's number, modulo 256.
 
 use std::alloc::Global;
 

@@ -1,5 +1,7 @@
 //! Blocks made at random, told by how they were made; and each changed byte of a block.
 
+ghost use Rattle.std.specs.Prelude.{◌<◌};
+
 use super::layout::{Part, SECTORS, Stamped, spell};
 use super::rows::write_of;
 use super::{JOB, check_of, is_told, told};
@@ -15,12 +17,15 @@ struct Words(u64);
 
 impl Words {
     /// A number below this one.
-    fn below(&mut self, limit: u64) -> u64 {
+    fn below(&mut self, limit: u64) -> u64
+        requires { 0 < limit }
+        ensures { result < limit }
+    {
         self.0 = self
             .0
             .wrapping_mul(6_364_136_223_846_793_005)
             .wrapping_add(1);
-        (self.0 >> 33) % limit.max(1)
+        (self.0 >> 33) % limit
     }
 
     /// A stamp of few numbers, so that many are the wanted ones.
@@ -55,19 +60,49 @@ impl Words {
     }
 }
 
-/// What a block of these sectors holds, by how they were made.
-fn made(block: u32, parts: &[Part; SECTORS]) -> Holds {
-    let mut unknown = 0u32;
+/// How many of these sectors are changed stamps.
+fn changed_stamps(parts: &[Part; SECTORS]) -> u32 {
+    let mut count = 0u32;
     for part in parts {
         if let Part::Changed(_, _, _) = part {
-            unknown = unknown.wrapping_add(1);
+            count = count.wrapping_add(1);
         }
     }
-    match parts[0] {
-        _ if unknown > 0 => Holds::Corrupt(unknown),
-        _ if *parts == [Part::Byte(0); SECTORS] => Holds::Unwritten,
-        Part::Stamp(stamp) if *parts == super::whole(stamp) => of_write(block, stamp),
+    count
+}
+
+/// Whether both are made of the same sectors.
+fn are_same(parts: &[Part; SECTORS], others: &[Part; SECTORS]) -> bool {
+    for i in 0..SECTORS {
+        if parts[i] != others[i] {
+            return false;
+        }
+    }
+    true
+}
+
+/// What a block of these sectors holds, by how they were made.
+fn made(block: u32, parts: &[Part; SECTORS]) -> Holds {
+    let unknown = changed_stamps(parts);
+    if unknown > 0 {
+        return Holds::Corrupt(unknown);
+    }
+    if are_same(parts, &[Part::Byte(0); SECTORS]) {
+        return Holds::Unwritten;
+    }
+    let [first, _, _, _] = *parts;
+    match first {
+        Part::Stamp(stamp) => of_first(block, parts, stamp),
         _ => Holds::Torn,
+    }
+}
+
+/// What a block of these sectors holds, of which the first is this stamp.
+fn of_first(block: u32, parts: &[Part; SECTORS], stamp: Stamped) -> Holds {
+    if are_same(parts, &super::whole(stamp)) {
+        of_write(block, stamp)
+    } else {
+        Holds::Torn
     }
 }
 
@@ -83,8 +118,8 @@ fn of_write(block: u32, stamp: Stamped) -> Holds {
     }
 }
 
-/// What a block holds that has this write of its job to it, where this one is the last that completed,
-/// and the one after the next four is in flight or not.
+/// What a block holds that has this write of its job to it, where this one is the last that
+/// completed, and the one after the next four is in flight or not.
 fn own(write: u64, last: u64, in_flight: bool) -> Holds {
     if write == last || (in_flight && write == last.wrapping_add(4)) {
         Holds::Sound
@@ -112,9 +147,9 @@ fn a_thousand_blocks(rt: HostRuntime) -> Result<(), Fail> {
     Ok(())
 }
 
-/// What is told of a block where one byte of a stamp is another, by its place in the sector: the numbers
-/// are another stamp's then, but for the last byte of the write's, from which the rest counts up, and
-/// the high half of the block's; and what counts up is no stamp's.
+/// What is told of a block where one byte of a stamp is another, by its place in the sector: the
+/// numbers are another stamp's then, but for the last byte of the write's, from which the rest
+/// counts up, and the high half of the block's; and what counts up is no stamp's.
 fn changed(place: usize) -> Holds {
     match place {
         23..=27 | 36..=511 => Holds::Corrupt(1),

@@ -48,9 +48,9 @@ pub fn write_of(stamp: Stamped) -> Write {
     }
 }
 
-/// A block, the write that it holds the whole of, by its run, server, job, number and block, and what is
-/// told: the wanted write, both that may stand in block 0, older ones, one that was never issued, those
-/// whose number is that of a write to another block, and writes of others.
+/// A block, the write that it holds the whole of, by its run, server, job, number and block, and
+/// what is told: the wanted write, both that may stand in block 0, older ones, one that was never
+/// issued, those whose number is that of a write to another block, and writes of others.
 pub static WHOLE: [(u32, (u64, u32, u32, u64, u64), Told); 16] = [
     (2, (1, 0, 0, 6, 2), Told::Sound),
     (0, (1, 0, 0, 4, 0), Told::Sound),
@@ -71,9 +71,9 @@ pub static WHOLE: [(u32, (u64, u32, u32, u64, u64), Told); 16] = [
     (2, (1, 0, 0, 6, 0x1_0000_0002), Told::Corrupt(4)),
 ];
 
-/// One odd sector in block 2. By the layout, a changed number is another stamp, unless the bytes behind
-/// it count up from that number; and where it counts up, or in the high half of the block, a changed
-/// byte is no stamp.
+/// One odd sector in block 2. By the layout, a changed number is another stamp, unless the bytes
+/// behind it count up from that number; and where it counts up, or in the high half of the block, a
+/// changed byte is no stamp.
 pub static ODD: [(Odd, Told); 18] = [
     (Odd::Byte(0), Told::Torn),
     (Odd::Byte(0x5a), Told::Corrupt(1)),
