@@ -14,7 +14,7 @@ use Rattle.client_core.specs.declared.input.Input.{Input}
 use Rattle.client_core.specs.declared.input.Input.TheVariants.{Tick}
 use Rattle.client_core.specs.declared.noted.Noted.{Noted}
 use Rattle.client_core.specs.History.{Opening}
-use Rattle.client_core.specs.Note.{Says, spelling}
+use Rattle.client_core.specs.Note.{Says, new_note, spelling}
 use Rattle.client_core.specs.Words as words
 use Rattle.client_core.specs.Saves.{Addition}
 use Rattle.client_core.specs.Bounds.{AreShort, requests, most_copies}
@@ -80,12 +80,14 @@ abbrev pub Restarts : {T : Type 0} → (T → Note) → ℕ → Bool → Note �
 Restarts note servers mirror old (Ok client) = Opens note servers mirror old client
 Restarts note servers mirror old (Err back) = whole.NotOpened mirror old (note back.0) back.1
 
--- The note was empty, and says the generation. For each list of which the old bytes say what it
--- says, the client stands for that list with the renewal.
+-- The note was empty. One save leaves it the spelling of what begins anew, and nothing failed. For
+-- each list of which the old bytes say what it says, the client stands for that list with the
+-- renewal.
 pub record BeginsAnew {T : Type 0} (note : T → Note) (servers g : ℕ) (old : Note)
     (client : Client T) : Type 0 where
   pub free : IsTrue (is_generation g)
   pub empty : old.bytes ≡ []
+  pub leaves : note client.core.notes ≡ record old { bytes = spelling (new_note g) }
   pub stands :
       (o : Opening) (past : List FrameEntry) → o.servers ≡ servers →
       Says old.bytes (words.words_noted o (packets_heard o past)) →

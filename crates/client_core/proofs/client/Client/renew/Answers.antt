@@ -7,6 +7,7 @@ returns g c =
     record {
       free = opened.free;
       empty = opened.empty;
+      leaves = opened.leaves;
       stands = λ o past servers said. record {
         core = opened.stands o (packets_heard o past) servers said;
         pieces = λ on. c.new-pieces.ensures;

@@ -14,11 +14,15 @@ returns-in-Ok-save g c =
     let none : old.bytes ≡ [] = sym loaded.1 ∙ no_bytes c.in-Ok.bytes.items
     (sym c.if-not-lost.false ∙ c.is_lost-lost.ensures ∙ ap (λ (l : List ℕ). length l == 0) c.deref.ensures.value) in
     let is = c.renewed-noted.ensures ∙ ap new_note with.1 in
-    let bytes : new.bytes ≡ spelling (new_note c.args.generation) =
-    ap (λ (n : Note). n.bytes) c.in-Ok-save.ensures ∙ c.deref-2.ensures.value ∙ c.in-Ok-encode.ensures ∙ ap spelling is in
+    let said : c.deref-2.result.now ≡ spelling (new_note c.args.generation) =
+    c.deref-2.ensures.value ∙ c.in-Ok-encode.ensures ∙ ap spelling is in
+    let leaves : new ≡ record old { bytes = spelling (new_note c.args.generation) } =
+    c.in-Ok-save.ensures ∙ (λ i. record { bytes = said i; failures = (loaded.0 i).failures }) in
+    let bytes : new.bytes ≡ spelling (new_note c.args.generation) = ap (λ (n : Note). n.bytes) leaves in
     record {
       free = with.0;
       empty = none;
+      leaves = leaves;
       stands = λ o past servers said.
           let after = renewed_noted o past old.bytes c.args.generation none with.0 said in
           record {
