@@ -59,7 +59,8 @@ impl<N: Notes> Mirror<N> {
 
     /// The notes of a mirror that is taken off.
     pub fn off(self) -> N
-        ensures { (o : Opening) (past : List Entry) → StandsFor N.note self o past →
+        ensures note { N.note result ≡ N.note self.notes }
+        ensures says { (o : Opening) (past : List Entry) → StandsFor N.note self o past →
             Says (N.note result).bytes (words_noted o past) }
     {
         let Mirror {
