@@ -18,7 +18,7 @@ use Rattle.verify_state.specs.Reading.{field}
 use Rattle.verify_state.proofs.FieldLemmas.{IsBytes, bytes_drop, piece64}
 use Rattle.client_core.specs.declared.noted.Noted.{Noted}
 use Rattle.client_core.specs.Note.{blank, numbers_of, note_of, old_note_of, spelling, IsNoted, IsNote, Numbers, Spells}
-use Rattle.client_core.specs.Note.{Says, ReadsNumbers, Reads, TellsStates, BeginsStates, SaysOneThing, SaysWhatIsWritten}
+use Rattle.client_core.specs.Note.{Says, ReadsNumbers, Reads, TellsStates, HasStates, SaysOneThing, SaysWhatIsWritten}
 use Rattle.std.proofs.lemmas.Bool.Decides.{nat_tests}
 use Rattle.fc_base.specs.declared.limits.TheConstants.{MAX_GENERATION}
 use Rattle.state_table.specs.declared.kept.TheConstants.{KEPT_LIMIT}
@@ -249,7 +249,7 @@ if_ok (Ok x) P Q f h = f x h
 if_ok (Err e) P Q f h = tt
 
 pub begins_states : {A E : Type 0} (r : Result A E) (bytes rest : List ℕ) → take 4 bytes ≡ codes "FCC2" → rest ≡ drop 8 (drop 4 bytes)
-    → OnErr r (TellsStates rest) → OnErr r (BeginsStates bytes)
+    → OnErr r (TellsStates rest) → OnErr r (HasStates bytes)
 begins_states (Ok x) bytes rest mark is h = tt
 begins_states (Err e) bytes rest mark is h = inl (mark, subst TellsStates (is ∙ drop-drop 8 4 bytes) h)
 

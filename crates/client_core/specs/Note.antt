@@ -9,7 +9,7 @@ use Rattle.verify_state.specs.State.{IsState}
 use Rattle.verify_state.specs.Spelling.{spelling as state_bytes}
 use Rattle.state_table.specs.Counted.{counted_states, SayStates}
 use Rattle.state_table.specs.Kept.{has_distinct_keys}
-use Rattle.state_table.specs.Reading.{HasFirst}
+use Rattle.state_table.specs.Reading.{HoldStates}
 use Rattle.client_core.specs.declared.noted.Noted.{Noted}
 
 -- What a blank note says.
@@ -88,15 +88,14 @@ abbrev pub Reads : List ℕ → Option Noted → Type 0
 Reads bytes (Some n) = Says bytes n
 Reads bytes None = (n : Noted) → Says bytes n → ⊥
 
--- What stands behind a note's generation tells of 1 to 1,024 states, and the first of them is
--- sound.
+-- What stands behind a note's generation tells of 1 to 1,024 states, and holds so many sound ones.
 pub record TellsStates (bytes : List ℕ) : Type 0 where
   pub few : number_in w32 (drop 16 bytes) ≤ KEPT_LIMIT
-  pub first : HasFirst (number_in w32 (drop 16 bytes)) (drop 20 bytes)
+  pub all : HoldStates (number_in w32 (drop 16 bytes)) (drop 20 bytes)
 
--- The bytes begin as a note does that has states, the first of which is sound.
-abbrev pub BeginsStates : List ℕ → Type 0
-BeginsStates bytes =
+-- The bytes begin as a note does that has states, and hold as many sound ones as they tell of.
+abbrev pub HasStates : List ℕ → Type 0
+HasStates bytes =
     ((take 4 bytes ≡ codes "FCC2") × TellsStates (drop 12 bytes))
     ⊎ ((take 4 bytes ≡ codes "FCC1") × TellsStates (drop 4 bytes))
 

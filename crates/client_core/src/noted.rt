@@ -1,7 +1,7 @@
 //! What outlasts a cut: the bytes of a client's note.
 
 ghost use Rattle.std.specs.Prelude.{◌≡◌, ◌≤◌, IfOk, OnErr};
-ghost use Rattle.client_core.specs.Note.{spelling, blank, new_note, is_blank, BeginsStates, Reads, ReadsNumbers, TellsStates, SaysOneThing, SaysWhatIsWritten};
+ghost use Rattle.client_core.specs.Note.{spelling, blank, new_note, is_blank, HasStates, Reads, ReadsNumbers, TellsStates, SaysOneThing, SaysWhatIsWritten};
 
 use crate::generation::NotedGeneration;
 use fc_base::{put_u32, put_u64, split_u32, split_u64};
@@ -100,11 +100,11 @@ impl Noted {
     }
 
     /// What these bytes say, `None` where they are no note. No bytes at all are a blank one. States may
-    /// stand in it in either layout. Memory is asked for only behind a first sound state, whatever number
-    /// of states the note tells.
+    /// stand in it in either layout. Memory is asked for only once as many sound states are seen to be
+    /// there as the note tells of.
     pub fn decode(alloc: Global, bytes: &[u8]) -> Result<Option<Noted>, AllocError>
         ensures said { IfOk result (Reads bytes.now) }
-        ensures memory { OnErr result (BeginsStates bytes.now) }
+        ensures memory { OnErr result (HasStates bytes.now) }
     {
         if bytes.is_empty() {
             return Ok(Some(Noted::blank(alloc)));

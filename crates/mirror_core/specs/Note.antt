@@ -1,14 +1,15 @@
 -- The durable note of a mirror: what it says, and its bytes.
-use Rattle.std.specs.Prelude.{◌≡◌, ◌⊎◌, ℕ, ◌≤◌, List, [], ◌++◌, length, map, codes, Option, Some, None, IsTrue}
+use Rattle.std.specs.Prelude.{◌≡◌, ◌⊎◌, ℕ, ◌≤◌, List, [], ◌++◌, length, take, drop, map, codes, Option, Some, None, IsTrue}
 use Rattle.std.specs.List.{AllByRecursion}
-use Rattle.std.specs.Int.{w64}
-use Rattle.fc_base.specs.Layouts.{bytes_of}
+use Rattle.std.specs.Int.{w32, w64}
+use Rattle.fc_base.specs.Layouts.{bytes_of, number_in}
 use Rattle.fc_base.specs.declared.limits.TheConstants.{MAX_GENERATION}
 use Rattle.state_table.specs.declared.kept.TheConstants.{KEPT_LIMIT}
 use Rattle.verify_state.specs.State.{IsState}
 use Rattle.verify_state.specs.Spelling.{spelling as state_bytes}
 use Rattle.state_table.specs.Counted.{counted_states, SayStates}
 use Rattle.state_table.specs.Kept.{has_distinct_keys}
+use Rattle.state_table.specs.Reading.{HoldStates}
 use Rattle.mirror_core.specs.declared.noted.Noted.{Noted}
 
 -- What a blank note says.
@@ -48,6 +49,13 @@ pub record Says (bytes : List ℕ) (n : Noted) : Type 0 where
 abbrev pub Reads : List ℕ → Option Noted → Type 0
 Reads bytes (Some n) = Says bytes n
 Reads bytes None = (n : Noted) → Says bytes n → ⊥
+
+-- The bytes begin as a note does that has 1 to 1,024 states, and hold as many sound ones as they
+-- tell of.
+pub record HasStates (bytes : List ℕ) : Type 0 where
+  pub magic : take 4 bytes ≡ codes "FCM1"
+  pub few : number_in w32 (drop 12 bytes) ≤ KEPT_LIMIT
+  pub all : HoldStates (number_in w32 (drop 12 bytes)) (drop 16 bytes)
 
 -- Bytes say one thing at most.
 abbrev pub SaysOneThing : Type 0

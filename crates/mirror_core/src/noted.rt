@@ -1,7 +1,7 @@
 //! What outlasts a cut: the bytes of a mirror's note.
 
-ghost use Rattle.std.specs.Prelude.{◌≡◌, IfOk};
-ghost use Rattle.mirror_core.specs.Note.{spelling, blank, Reads, SaysOneThing, SaysWhatIsWritten};
+ghost use Rattle.std.specs.Prelude.{◌≡◌, IfOk, OnErr};
+ghost use Rattle.mirror_core.specs.Note.{spelling, blank, HasStates, Reads, SaysOneThing, SaysWhatIsWritten};
 
 use fc_base::{MAX_GENERATION, put_u32, put_u64, split_u32, split_u64};
 use state_table::{KEPT_LIMIT, Kept, put_states, read_were_spelled, spelled_are_read, states_in};
@@ -48,9 +48,11 @@ impl Noted {
     }
 
     /// What these bytes say, `None` where they are no note. No bytes at all are a blank one. States may
-    /// stand in it in either layout.
+    /// stand in it in either layout. Memory is asked for only once as many sound states are seen to be
+    /// there as the note tells of.
     pub fn decode(alloc: Global, bytes: &[u8]) -> Result<Option<Noted>, AllocError>
-        ensures { IfOk result (Reads bytes.now) }
+        ensures said { IfOk result (Reads bytes.now) }
+        ensures memory { OnErr result (HasStates bytes.now) }
     {
         spelled_are_read();
         read_were_spelled();

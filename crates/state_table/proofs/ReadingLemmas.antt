@@ -269,3 +269,16 @@ pub onward : (x : Option (List State)) (kept new : List State) (count counter : 
     → new ≡ kept ++ s ∷ [] → x ≡ option_map (λ ss. new ++ ss) (states_at (count - (counter + 1)) after)
 onward x kept new count counter rest after s l h e pushed =
     subst (λ k. x ≡ option_map (λ ss. k ++ ss) (states_at (count - (counter + 1)) after)) (sym pushed) (one_read x kept count counter rest after s l h e)
+
+-- ---- whether there are so many
+
+still_some : (s : State) (x : Option (List State)) → is_some (option_map (λ ss. s ∷ ss) x) ≡ is_some x
+still_some s None = refl
+still_some s (Some ss) = refl
+
+pub one_seen : (b : Bool) (count counter : ℕ) (rest after : List ℕ) (s : State) → counter < count → b ≡ is_some (states_at (count - counter) rest)
+    → first_state rest ≡ Some (s, after) → b ≡ is_some (states_at (count - (counter + 1)) after)
+one_seen b count counter rest after s l h e =
+    let n : count - counter ≡ suc (count - (counter + 1)) = omega arith in
+    h ∙ (ap (λ k. is_some (states_at k rest)) n ∙ (ap (λ (y : Option (List State)). is_some y) (step_read (count - (counter + 1)) rest after s e)
+    ∙ still_some s (states_at (count - (counter + 1)) after)))

@@ -33,9 +33,9 @@ states_at (suc n) bytes =
     option_and_then (λ first. option_map (λ states. first.0 ∷ states) (states_at n first.1))
     (first_state bytes)
 
--- There is to be a state, and the first one is sound.
-abbrev pub HasFirst : ℕ → List ℕ → Type 0
-HasFirst n bytes = (0 < n) × IsTrue (is_some (first_state bytes))
+-- There are to be states, and the bytes of so many are there, each sound, with nothing behind them.
+abbrev pub HoldStates : ℕ → List ℕ → Type 0
+HoldStates n bytes = (0 < n) × IsTrue (is_some (states_at n bytes))
 
 -- A reader gives so many states, of different keys, and nothing where the bytes aren't that.
 abbrev pub ReadsStates : ℕ → List ℕ → Option (List State) → Type 0

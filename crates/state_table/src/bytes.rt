@@ -1,12 +1,12 @@
 //! The bytes of kept states: each stands behind the number of its bytes.
 
-ghost use Rattle.std.specs.Prelude.{◌≡◌, ◌≤◌, ◌++◌, OnErr, OnOk, IfOk};
+ghost use Rattle.std.specs.Prelude.{◌≡◌, ◌≤◌, ◌++◌, OnErr, OnOk, IfOk, is_some};
 ghost use Rattle.std.specs.List.{flat_map};
 ghost use Rattle.std.specs.Option.{option_map};
 ghost use Rattle.state_table.specs.declared.kept.TheConstants.{KEPT_LIMIT};
 ghost use Rattle.verify_state.specs.Spelling.{spelling as state_bytes};
 ghost use Rattle.state_table.specs.Counted.{counted_bytes};
-ghost use Rattle.state_table.specs.Reading.{first_state, HasFirst, ReadsStates};
+ghost use Rattle.state_table.specs.Reading.{first_state, states_at, HoldStates, ReadsStates};
 
 use crate::kept::Kept;
 use fc_base::{put_u32, split_u32};
@@ -39,12 +39,15 @@ fn put_state(out: &mut Vec<u8>, state: &VerifyState) -> Result<(), AllocError>
 }
 
 /// So many states and nothing behind them, `None` where the bytes aren't that, or two states are of one
-/// key. Memory is asked for behind a first sound state alone, and not by their number.
+/// key. Memory is asked for once all of them are seen to be there, and not by a number that is told.
 pub fn states_in(alloc: Global, count: u32, bytes: &[u8]) -> Result<Option<Kept>, AllocError>
     requires { count ≤ KEPT_LIMIT }
     ensures states { IfOk result (ReadsStates count bytes.now) }
-    ensures memory { OnErr result (HasFirst count bytes.now) }
+    ensures memory { OnErr result (HoldStates count bytes.now) }
 {
+    if !hold_states(count, bytes) {
+        return Ok(None);
+    }
     let mut kept = Kept::new(alloc);
     let mut rest = bytes;
     for _ in 0..count {
@@ -63,6 +66,20 @@ pub fn states_in(alloc: Global, count: u32, bytes: &[u8]) -> Result<Option<Kept>
     } else {
         Ok(None)
     }
+}
+
+/// Whether the bytes are so many states, and nothing behind them. It takes no memory.
+fn hold_states(count: u32, bytes: &[u8]) -> bool
+    ensures { result ≡ is_some (states_at count bytes.now) }
+{
+    let mut rest = bytes;
+    for _ in 0..count {
+        let Some(first) = first_state(rest) else {
+            return false;
+        };
+        rest = first.rest;
+    }
+    rest.is_empty()
 }
 
 /// The first state of bytes, and what stands behind it.

@@ -18,5 +18,4 @@ loop-preserved c =
       grown c.push.new.self c.loop.kept _ c.loop.counter pushed c.loop.invariant.0,
       onward (states_at c.args.count c.args.bytes.now) c.loop.kept c.push.new.self c.args.count c.loop.counter c.loop.rest.now _ _
           (omega arith) c.loop.invariant.1 (sym c.in-Some.ensures) pushed,
-      λ later. c.loop.invariant.2 (ap is_some (sym c.in-Some.ensures)),
     )

@@ -9,7 +9,7 @@ returns-in-Ok-Some g c =
     let loaded = c.in-Ok.ensures in
     let old = g.N.Notes.note c.args.notes in
     let says = subst (λ (l : List ℕ). Says l c.in-Ok-Some.noted) (c.deref.ensures.value ∙ loaded.1)
-    (subst (Reads c.deref.result.now) c.in-Ok-Some.field-0-is c.in-Ok-Some.ensures) in
+    (subst (Reads c.deref.result.now) c.in-Ok-Some.field-0-is c.in-Ok-Some.ensures.said) in
     record {
       same = loaded.0;
       said = c.in-Ok-Some.noted;

@@ -7,31 +7,31 @@ use Rattle.state_table.specs.Reading.{ReadsStates}
 use Rattle.mirror_core.proofs.NoteLemmas.{some_bytes, no_magic, too_short, too_great, too_many, no_states, read_says}
 use Rattle.mirror_core.proofs.noted.Noted.decode.Goals as goal
 
-pub returns-in_default : goal.returns-in_default
-returns-in_default c =
+pub returns-in_default-clause-said : goal.returns-in_default-clause-said
+returns-in_default-clause-said c =
     λ n s. no_magic c.spelled_are_read.ensures c.args.bytes.now n (some_bytes c.args.bytes.now c.if-is_empty.ensures) c.in_default.ensures.cases s
 
-pub returns-then-rest-lt-NUMBERS : goal.returns-then-rest-lt-NUMBERS
-returns-then-rest-lt-NUMBERS c =
+pub returns-then-rest-lt-NUMBERS-clause-said : goal.returns-then-rest-lt-NUMBERS-clause-said
+returns-then-rest-lt-NUMBERS-clause-said c =
     let len = c.in-Some.ensures.cases.2 in
     λ n s. too_short c.spelled_are_read.ensures c.args.bytes.now n (some_bytes c.args.bytes.now c.if-is_empty.ensures)
     (omega (arith, len, c.if-rest-lt-NUMBERS.true)) s
 
-pub returns-then-generation-gt-MAX_GENERATION : goal.returns-then-generation-gt-MAX_GENERATION
-returns-then-generation-gt-MAX_GENERATION c =
+pub returns-then-generation-gt-MAX_GENERATION-clause-said : goal.returns-then-generation-gt-MAX_GENERATION-clause-said
+returns-then-generation-gt-MAX_GENERATION-clause-said c =
     let generation = c.split_u64-generation.ensures.number ∙ ap (λ l. number_in w64 l) c.in-Some.ensures.cases.1 in
     λ n s. too_great c.spelled_are_read.ensures c.args.bytes.now n c.split_u64-generation.result.0
     (some_bytes c.args.bytes.now c.if-is_empty.ensures) generation c.if-generation-gt-MAX_GENERATION.true s
 
-pub returns-then-count-gt-KEPT_LIMIT : goal.returns-then-count-gt-KEPT_LIMIT
-returns-then-count-gt-KEPT_LIMIT c =
+pub returns-then-count-gt-KEPT_LIMIT-clause-said : goal.returns-then-count-gt-KEPT_LIMIT-clause-said
+returns-then-count-gt-KEPT_LIMIT-clause-said c =
     let generation = c.split_u64-generation.ensures.rest ∙ ap (drop 8) c.in-Some.ensures.cases.1 in
     let count = c.split_u32-count.ensures.number ∙ ap (λ l. number_in w32 l) generation in
     λ n s. too_many c.spelled_are_read.ensures c.args.bytes.now n c.split_u32-count.result.0 (some_bytes c.args.bytes.now c.if-is_empty.ensures) count
     (omega (arith, c.if-count-gt-KEPT_LIMIT.true)) s
 
-pub returns-in-Some-2 : goal.returns-in-Some-2
-returns-in-Some-2 c =
+pub returns-in-Some-2-clause-said : goal.returns-in-Some-2-clause-said
+returns-in-Some-2-clause-said c =
     let mark = (bytes_eq-Decides (take 4 c.args.bytes.now) (codes "FCM1")).0 c.in-Some.ensures.cases.0 in
     let after = c.in-Some.ensures.cases.1 in
     let generation = c.split_u64-generation.ensures.rest ∙ ap (drop 8) after in
@@ -45,8 +45,8 @@ returns-in-Some-2 c =
     (c.split_u32-count.ensures.number ∙ ap (λ l. number_in w32 l) generation)
     (omega (arith, c.if-generation-gt-MAX_GENERATION.false)) (omega (arith, c.if-count-gt-KEPT_LIMIT.false)) read.0 read.1
 
-pub returns-in-None : goal.returns-in-None
-returns-in-None c =
+pub returns-in-None-clause-said : goal.returns-in-None-clause-said
+returns-in-None-clause-said c =
     let generation = c.split_u64-generation.ensures.rest ∙ ap (drop 8) c.in-Some.ensures.cases.1 in
     let count = c.split_u32-count.ensures.number ∙ ap (λ l. number_in w32 l) generation in
     let states = c.split_u32-count.ensures.rest ∙ ap (drop 4) generation in
