@@ -1,7 +1,14 @@
 -- Words of a line, and what is written.
 use Rattle.std.specs.Prelude.{◌≡◌, ℕ, List, ◌++◌, Option, codes}
 use Rattle.std.specs.List.{join_with_byte}
+use Rattle.std.specs.Str.Parse.{IsNumeral, digits_value, without_leading_plus}
 use Rattle.std.specs.Io.KnownBytes.{Appends}
+
+-- The word is this number: decimal digits, with a plus before them or none.
+abbrev pub IsNumber : List ℕ → ℕ → Type 0
+IsNumber word number =
+    IsNumeral 10 (without_leading_plus word)
+    × (digits_value 10 (without_leading_plus word) ≡ number)
 
 -- Words separated by blanks.
 abbrev pub with_blanks_between : List (List ℕ) → List ℕ

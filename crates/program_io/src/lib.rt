@@ -13,12 +13,14 @@
 
 mod input;
 mod law;
+mod number;
 mod refusal;
 mod report;
 mod words;
 
 pub use input::{InputFault, fill, read_input};
 pub use law::read_law;
+pub use number::is_number;
 pub use refusal::{PrintedRefusal, write_refusal};
 pub use report::write_report_words;
 pub use words::{REFUSED, refuse_words};

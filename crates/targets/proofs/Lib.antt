@@ -2,6 +2,7 @@ pub mod RunLemmas
 pub mod OrderLemmas
 pub mod NoticeLemmas
 pub mod CheckLemmas
+mod CommandLemmas
 pub mod TextLemmas
 pub mod JobLemmas
 pub mod FrontLemmas

@@ -1,10 +1,11 @@
 //! The command line of `drive`.
 
-ghost use Rattle.std.specs.Prelude.{◌≤◌, ◌<◌, IfSome};
-ghost use Rattle.targets.specs.Command.{IsRequest};
+ghost use Rattle.std.specs.Prelude.{◌≤◌, ◌<◌, IfSome, IsTrue, map};
+ghost use Rattle.targets.specs.Command.{IsRequest, Asks, AreWords};
 
 use clap::{Arg, ArgMatches, Command, Error};
 use fc_base::{JobNo, MAX_JOBS, RunNo};
+use program_io::is_number;
 use std::alloc::{AllocError, Global};
 use std::convert::AsStr;
 
@@ -21,23 +22,34 @@ pub enum Request {
 /// command or an unknown one, a word too few or too many, a run that isn't 1 to 18,446,744,073,709,551,615, a job that
 /// isn't 0 to 15, or no memory to read the words with. There are no options.
 pub fn read_words<S: AsStr>(alloc: Global, words: &[S]) -> Option<Request>
-    ensures { IfSome result IsRequest }
+    ensures allowed { IfSome result IsRequest }
+    ensures asked { IfSome result (Asks (map S.text words.now)) }
 {
     if words.iter().any(|word| word.as_str() == "--") {
         return None;
     }
     let matches = matches_of(alloc, words).ok()?;
     match matches.subcommand()? {
-        ("write", words) => {
-            let (run, job) = numbers_of(words)?;
-            Some(Request::Write { run, job })
+        ("write", values) => {
+            let (run, job) = numbers_of(values)?;
+            are_words(words, "write", run, job).then_some(Request::Write { run, job })
         }
-        ("check", words) => {
-            let (run, job) = numbers_of(words)?;
-            Some(Request::Check { run, job })
+        ("check", values) => {
+            let (run, job) = numbers_of(values)?;
+            are_words(words, "check", run, job).then_some(Request::Check { run, job })
         }
         _ => None,
     }
+}
+
+/// Whether these are the words of a command with its run and its job.
+fn are_words<S: AsStr>(words: &[S], command: &str, run: RunNo, job: JobNo) -> bool
+    ensures { IsTrue result → AreWords (map S.text words.now) command.now run job }
+{
+    words.len() == 4
+        && (words[1].as_str() == command
+            && (is_number(words[2].as_str(), run.0)
+                && is_number(words[3].as_str(), u64::from(job.0))))
 }
 
 fn matches_of<'a, S: AsStr>(alloc: Global, words: &'a [S]) -> Result<ArgMatches<'a>, Error> {

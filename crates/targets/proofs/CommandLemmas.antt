@@ -1,0 +1,22 @@
+-- The words of a command line, one by one.
+use Rattle.std.proofs.Common.{◌≡◌, ◌∙◌, ap, subst, ℕ, arith, List, [], ◌∷◌, length, get_or, map}
+use Rattle.program_io.specs.Words.{IsNumber}
+use Rattle.targets.specs.Command.{AreWords}
+
+-- a word that is known by its text
+at_place : {S : Type 0} (text : S → List ℕ) (P : List ℕ → Type 0) (x a : S) (word : List ℕ) → a ≡ x → word ≡ text a → P word → P (text x)
+at_place text P x a word is said h = subst P (said ∙ ap text is) h
+
+pub four_words : {S : Type 0} (text : S → List ℕ) (ws : List S) (a b d : S) (word first second command : List ℕ) (n m run job : ℕ) → length ws ≡ 4
+    → a ≡ get_or ws 1 a → b ≡ get_or ws 2 b → d ≡ get_or ws 3 d → word ≡ text a → first ≡ text b → second ≡ text d
+    → word ≡ command → IsNumber first n → n ≡ run → IsNumber second m → m ≡ job → AreWords (map text ws) command run job
+four_words text [] a b d word first second command n m run job l p q r s t u e f g h i = absurd (omega arith)
+four_words text (w ∷ []) a b d word first second command n m run job l p q r s t u e f g h i = absurd (omega arith)
+four_words text (w ∷ x ∷ []) a b d word first second command n m run job l p q r s t u e f g h i = absurd (omega arith)
+four_words text (w ∷ x ∷ y ∷ []) a b d word first second command n m run job l p q r s t u e f g h i = absurd (omega arith)
+four_words text (w ∷ x ∷ y ∷ z ∷ []) a b d word first second command n m run job l p q r s t u e f g h i = (
+  at_place text (λ said. said ≡ command) x a word p s e,
+  at_place text (λ said. IsNumber said run) y b first q t (f.0, f.1 ∙ g),
+  at_place text (λ said. IsNumber said job) z d second r u (h.0, h.1 ∙ i),
+)
+four_words text (w ∷ x ∷ y ∷ z ∷ v ∷ vs) a b d word first second command n m run job l p q r s t u e f g h i = absurd (omega arith)
