@@ -1,0 +1,37 @@
+//! The limits, as numbers: what the pages tell is what the code has.
+
+ghost use Rattle.std.specs.Prelude.{◌≡◌};
+ghost use Rattle.fc_base.specs.declared.limits.TheConstants.{MAX_TEXT, MAX_JOBS, MAX_SERVERS, MAX_WORKERS, MAX_SEATS, MAX_BLOCK_SIZE};
+ghost use Rattle.fc_base.specs.declared.limits.TheConstants.{MAX_BLOCKS, MAX_WRITES, MAX_DEPTH, MAX_WINDOW, MAX_LISTED, MAX_GENERATION};
+ghost use Rattle.messages.specs.declared.limits.TheConstants.{CLIENT_NUMBER, MIRROR_NUMBER, MAX_NODES, MAX_BODY};
+ghost use Rattle.messages.specs.declared.limits.TheConstants.{CHUNK_LIMIT, MAX_FRAME, MAX_FRAMES, MAX_FRAMED, MAX_TAGS};
+ghost use Rattle.state_table.specs.declared.kept.TheConstants.{KEPT_LIMIT};
+ghost use Rattle.net_script.specs.declared.running.TheConstants.{MAX_SCRIPT};
+
+/// Each limit of the libraries is the number that the pages have for it: other contracts name it, and
+/// would move with it. Nothing runs.
+pub fn limits_are_as_documented()
+    ensures text { MAX_TEXT ≡ 16384 }
+    ensures jobs { MAX_JOBS ≡ 16 }
+    ensures block_size { MAX_BLOCK_SIZE ≡ 65536 }
+    ensures blocks { MAX_BLOCKS ≡ 65536 }
+    ensures writes { MAX_WRITES ≡ 1000000 }
+    ensures depth { MAX_DEPTH ≡ 64 }
+    ensures window { MAX_WINDOW ≡ 256 }
+    ensures listed { MAX_LISTED ≡ 32 }
+    ensures servers { MAX_SERVERS ≡ 8 }
+    ensures workers { MAX_WORKERS ≡ 16 }
+    ensures seats { MAX_SEATS ≡ 17 }
+    ensures client { CLIENT_NUMBER ≡ 8 }
+    ensures mirror { MIRROR_NUMBER ≡ 9 }
+    ensures nodes { MAX_NODES ≡ 10 }
+    ensures generation { MAX_GENERATION ≡ 4294967295 }
+    ensures kept { KEPT_LIMIT ≡ 1024 }
+    ensures body { MAX_BODY ≡ 16400 }
+    ensures chunk { CHUNK_LIMIT ≡ 1024 }
+    ensures frame { MAX_FRAME ≡ 1073 }
+    ensures frames { MAX_FRAMES ≡ 17 }
+    ensures framed { MAX_FRAMED ≡ 17233 }
+    ensures tags { MAX_TAGS ≡ 128 }
+    ensures script { MAX_SCRIPT ≡ 1048576 }
+{}
