@@ -1,2 +1,3 @@
+mod CommandLemmas
 pub mod Numbered
 pub mod Whole

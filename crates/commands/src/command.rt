@@ -1,10 +1,11 @@
 //! The command line.
 
-ghost use Rattle.std.specs.Prelude.{◌≤◌, IfSome};
-ghost use Rattle.commands.specs.Command.{IsRequest, IsLive};
+ghost use Rattle.std.specs.Prelude.{◌≤◌, IfSome, IsTrue, map};
+ghost use Rattle.commands.specs.Command.{IsRequest, IsFleetSize, Asks, IsCommand, AsksLive};
 
 use clap::{Arg, ArgMatches, Command, Error};
 use fc_base::{MAX_SERVERS, MAX_WORKERS};
+use program_io::is_number;
 use std::alloc::{AllocError, Global};
 use std::convert::AsStr;
 
@@ -32,18 +33,41 @@ pub enum Request<'a> {
 /// 8 servers, 1 to 16 workers), or no memory to read the words with. There are no options, so a request
 /// for help or for a version is a bad command, too, and so is the word `--`, which would end them.
 pub fn read_words<'a, S: AsStr>(alloc: Global, words: &'a [S]) -> Option<Request<'a>>
-    ensures { IfSome result IsRequest }
+    ensures allowed { IfSome result IsRequest }
+    ensures asked { IfSome result (Asks (map S.text words.entry.now)) }
 {
     if has_end_of_options(words) {
         return None;
     }
     let matches = matches_of(alloc, words).ok()?;
     match matches.subcommand()? {
-        ("jobs", _) => Some(Request::Jobs),
-        ("world", _) => Some(Request::World),
-        ("live", words) => live_request(words),
+        ("jobs", _) => is_command(words, "jobs").then_some(Request::Jobs),
+        ("world", _) => is_command(words, "world").then_some(Request::World),
+        ("live", values) => {
+            let size = size_of(values)?;
+            let path = values.get_str("path")?;
+            asks_live(words, size, path).then_some(Request::Live { size, path })
+        }
         _ => None,
     }
+}
+
+/// Whether these are the words of this command, which has none behind it.
+fn is_command<S: AsStr>(words: &[S], command: &str) -> bool
+    ensures { IsTrue result → IsCommand (map S.text words.now) command.now }
+{
+    words.len() == 2 && words[1].as_str() == command
+}
+
+/// Whether these are the words of a live run of this size, with this path.
+fn asks_live<S: AsStr>(words: &[S], size: FleetSize, path: &str) -> bool
+    ensures { IsTrue result → AsksLive (map S.text words.now) size path.now }
+{
+    words.len() == 5
+        && (words[1].as_str() == "live"
+            && (is_number(words[2].as_str(), u64::from(size.servers))
+                && (is_number(words[3].as_str(), u64::from(size.workers))
+                    && words[4].as_str() == path)))
 }
 
 fn has_end_of_options<S: AsStr>(words: &[S]) -> bool {
@@ -85,16 +109,14 @@ fn subcommand<'a>(alloc: Global, name: &'a str) -> Command<'a> {
     Command::new(alloc, name).disable_help_flag(true)
 }
 
-/// What the words behind `live` ask for.
-fn live_request<'a>(words: &ArgMatches<'a>) -> Option<Request<'a>>
-    ensures { IfSome result IsLive }
+/// The size that the words behind `live` ask for.
+fn size_of(words: &ArgMatches<'_>) -> Option<FleetSize>
+    ensures { IfSome result IsFleetSize }
 {
-    let size = FleetSize {
+    Some(FleetSize {
         servers: number_among(words, "servers", MAX_SERVERS)?,
         workers: number_among(words, "workers", MAX_WORKERS)?,
-    };
-    let path = words.get_str("path")?;
-    Some(Request::Live { size, path })
+    })
 }
 
 /// The word of this name, where it is a number from 1 to the most.
