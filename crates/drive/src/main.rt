@@ -10,7 +10,7 @@ use std::io;
 use std::io::{BufReader, BufWriter, Write};
 use std::process::ExitCode;
 use std::rt::Env;
-use targets::{Request, check_job, read_words, refuse, write_job};
+use targets::{Request, check_job, map_job, read_words, refuse, write_job};
 
 /// How many bytes of input are read, and of output written, at once.
 const CAPACITY: usize = 262_144;
@@ -54,6 +54,7 @@ fn answer_by<R: AllocGlobal + Input, W: Write>(
     match request {
         Request::Write { run, job } => write_job(alloc, run, job, &mut reader, writer),
         Request::Check { run, job } => check_job(alloc, run, job, &mut reader, writer),
+        Request::Map { run, job } => map_job(alloc, run, job, &mut reader, writer),
     }
 }
 

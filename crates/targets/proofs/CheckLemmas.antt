@@ -22,7 +22,7 @@ pub record HasRead (e : Expected) (check : Check) (count : ℕ) (first now : Opt
   pub seen : (whole : List ℕ) → first ≡ Some whole → HasSeen check (block_in whole e.job.bs) (range_with_len 0 count)
 
 -- What is left of known bytes.
-known_rest : (whole : List ℕ) (first now : Option (List ℕ)) (bytes : List ℕ) → first ≡ Some whole → Consumes first now bytes
+pub known_rest : (whole : List ℕ) (first now : Option (List ℕ)) (bytes : List ℕ) → first ≡ Some whole → Consumes first now bytes
     → (rest : List ℕ) × (now ≡ Some rest) × (whole ≡ bytes ++ rest)
 known_rest whole None now bytes is read = absurd cc
 known_rest whole (Some all) None bytes is read = absurd read

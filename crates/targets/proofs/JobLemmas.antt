@@ -35,16 +35,16 @@ finished origin (Err e) (Some rest) old mid new end runs ends = tt
 finished origin (Ok status) (Some rest) old mid new end runs ends = inl (end, mid, runs, ends)
 
 -- The job that is asked for stands in front of known bytes.
-record Begins (number : ℕ) (input : List ℕ) (rest : Option (List ℕ)) (asked : Asked) : Type 0 where
-  job : Job
-  behind : List ℕ
-  leaves : rest ≡ Some behind
-  begins : BeginsWithJob number input behind job
-  rec : asked.rec ≡ job.rec
-  fatal : asked.fatal ≡ job.fatal
-  phase : asked.phase ≡ phase_in begins.text
+pub record Begins (number : ℕ) (input : List ℕ) (rest : Option (List ℕ)) (asked : Asked) : Type 0 where
+  pub job : Job
+  pub behind : List ℕ
+  pub leaves : rest ≡ Some behind
+  pub begins : BeginsWithJob number input behind job
+  pub rec : asked.rec ≡ job.rec
+  pub fatal : asked.fatal ≡ job.fatal
+  pub phase : asked.phase ≡ phase_in begins.text
 
-begins_with : (number : ℕ) (input : List ℕ) (rest : Option (List ℕ)) (asked : Asked) → ReadsJob number (Some input) rest asked → Begins number input rest asked
+pub begins_with : (number : ℕ) (input : List ℕ) (rest : Option (List ℕ)) (asked : Asked) → ReadsJob number (Some input) rest asked → Begins number input rest asked
 begins_with number input rest asked reads =
     let left = text_leaves MAX_TEXT input rest reads.text reads.is_text in
     record {
@@ -105,7 +105,7 @@ no_job run number (Some input) refusal (Ok status) old new none refuses = inr (r
 -- ---- checks
 
 -- A state, or none, that was read of known bytes leaves known ones.
-state_leaves : (input : List ℕ) (new : Option (List ℕ)) (state : Option State) → IsStateIn (Some input) new state → (rest : List ℕ) × (new ≡ Some rest)
+pub state_leaves : (input : List ℕ) (new : Option (List ℕ)) (state : Option State) → IsStateIn (Some input) new state → (rest : List ℕ) × (new ≡ Some rest)
 state_leaves input new None is = text_leaves MAX_STATE input new [] is
 state_leaves input new (Some state) (bytes, is, few, answers) = text_leaves MAX_STATE input new bytes is
 

@@ -8,3 +8,6 @@ pub mod JobLemmas
 pub mod FrontLemmas
 pub mod FrontBytes
 pub mod LossLemmas
+pub mod MapLemmas
+pub mod MapJobLemmas
+pub mod MapLineLemmas

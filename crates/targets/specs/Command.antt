@@ -2,7 +2,7 @@
 use Rattle.std.specs.Prelude.{◌≡◌, ℕ, IsTrue, List, [], ◌∷◌, codes}
 use Rattle.fc_base.specs.Keys.{is_key}
 use Rattle.targets.specs.declared.command.Request.{Request}
-use Rattle.targets.specs.declared.command.Request.TheVariants.{Write, Check}
+use Rattle.targets.specs.declared.command.Request.TheVariants.{Write, Check, Map}
 use Rattle.program_io.specs.Words.{IsNumber}
 use Rattle.targets.specs.Jobs.{key_of}
 
@@ -10,6 +10,7 @@ use Rattle.targets.specs.Jobs.{key_of}
 abbrev pub IsRequest : Request → Type 0
 IsRequest (Write run job) = IsTrue (is_key (key_of run job))
 IsRequest (Check run job) = IsTrue (is_key (key_of run job))
+IsRequest (Map run job) = IsTrue (is_key (key_of run job))
 
 -- Four words: the program's own, the command, the run and the job.
 abbrev pub AreWords : List (List ℕ) → List ℕ → ℕ → ℕ → Type 0
@@ -21,3 +22,4 @@ AreWords _ command run job = ⊥
 abbrev pub Asks : List (List ℕ) → Request → Type 0
 Asks words (Write run job) = AreWords words (codes "write") run job
 Asks words (Check run job) = AreWords words (codes "check") run job
+Asks words (Map run job) = AreWords words (codes "map") run job

@@ -10,3 +10,8 @@ pub mod Texts
 pub mod Jobs
 pub mod Reports
 pub mod Command
+pub mod MapInput
+pub mod MapLines
+pub mod Maps
+pub mod Mapping
+pub mod MapJobs

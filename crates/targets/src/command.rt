@@ -16,6 +16,8 @@ pub enum Request {
     Write { run: RunNo, job: JobNo },
     /// `drive check RUN JOB`: check its target.
     Check { run: RunNo, job: JobNo },
+    /// `drive map RUN JOB`: tell what each faulty block of its target holds.
+    Map { run: RunNo, job: JobNo },
 }
 
 /// Reads the words of a command line, of which the first is the program's own name. `None` is a bad command: no
@@ -38,6 +40,10 @@ pub fn read_words<S: AsStr>(alloc: Global, words: &[S]) -> Option<Request>
             let (run, job) = numbers_of(values)?;
             are_words(words, "check", run, job).then_some(Request::Check { run, job })
         }
+        ("map", values) => {
+            let (run, job) = numbers_of(values)?;
+            are_words(words, "map", run, job).then_some(Request::Map { run, job })
+        }
         _ => None,
     }
 }
@@ -57,13 +63,13 @@ fn matches_of<'a, S: AsStr>(alloc: Global, words: &'a [S]) -> Result<ArgMatches<
     command.try_get_matches_from(words)
 }
 
-/// What a command line may have: one of two subcommands, and no options.
+/// What a command line may have: one of three subcommands, and no options.
 fn command_of<'a>(alloc: Global) -> Result<Command<'a>, AllocError> {
     let mut command = Command::new(alloc, "drive")
         .disable_help_flag(true)
         .disable_help_subcommand(true)
         .subcommand_required(true);
-    for name in ["write", "check"] {
+    for name in ["write", "check", "map"] {
         let words = subcommand(alloc, name)?;
         command = command.subcommand(words)?;
     }

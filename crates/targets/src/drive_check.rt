@@ -73,7 +73,10 @@ fn report_of<R: Read>(
 }
 
 /// Reads a state behind its length, or none.
-fn read_state<R: Read>(alloc: Global, reader: &mut R) -> Result<Option<VerifyState>, Fault>
+pub(crate) fn read_state<R: Read>(
+    alloc: Global,
+    reader: &mut R,
+) -> Result<Option<VerifyState>, Fault>
     ensures state { IfOk result (IsStateIn (R.remaining reader.old) (R.remaining reader.new)) }
     ensures none { IfErr result (HasNoState (R.remaining reader.old)) }
 {
@@ -103,7 +106,7 @@ fn write_report<W: Write>(writer: &mut W, report: &CheckReport) -> io::Result<u8
 }
 
 /// The exit status of a report.
-fn status_of(report: &CheckReport) -> u8
+pub(crate) fn status_of(report: &CheckReport) -> u8
     ensures { result ≡ report_status report.now }
 {
     match report.end() {

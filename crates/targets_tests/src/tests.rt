@@ -4,6 +4,8 @@ mod checks;
 mod fakes;
 mod flushes;
 mod inputs;
+mod map_inputs;
+mod maps;
 mod reads;
 mod runs;
 mod stamps;

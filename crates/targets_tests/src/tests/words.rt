@@ -6,7 +6,8 @@ use std::test::Fail;
 use targets::{Request, read_words};
 
 /// The words of a command line, and the run and the job that they ask for.
-static GOOD: [(&[&str], u64, u32); 4] = [
+static GOOD: [(&[&str], u64, u32); 5] = [
+    (&["drive", "map", "1", "15"], 1, 15),
     (&["drive", "write", "1", "0"], 1, 0),
     (
         &["drive", "write", "18446744073709551615", "15"],
@@ -38,6 +39,7 @@ fn asked(words: &[&str], run: u64, job: u32) -> Option<Request> {
     match *words.get(1)? {
         "write" => Some(Request::Write { run, job }),
         "check" => Some(Request::Check { run, job }),
+        "map" => Some(Request::Map { run, job }),
         _ => None,
     }
 }

@@ -1,0 +1,10 @@
+use Rattle.targets.specs.Mapping.{GoesOn}
+use Rattle.targets.proofs.MapLemmas.{HasMapped}
+use Rattle.targets.proofs.map.go_over.Given as goal
+
+abbrev pub invariant-loop-block : goal.invariant-loop-block
+invariant-loop-block g l = record {
+  goes_on : GoesOn l.fn.map.check.expected l.map l.block;
+  mapped : HasMapped l.fn.map.check.expected l.map.check l.map.unread l.block (g.R.Read.remaining l.fn.reader) (g.R.Read.remaining l.reader)
+      (g.W.Write.contents l.fn.writer) (g.W.Write.contents l.writer);
+}

@@ -1,0 +1,21 @@
+use Rattle.std.proofs.Common.{◌≡◌, ◌∙◌, arith, subst, sym, Some, Ok}
+use Rattle.std.proofs.lemmas.List.{take_at}
+use Rattle.targets.specs.MapInput.{Comes}
+use Rattle.targets.specs.Maps.{Tells}
+use Rattle.targets.proofs.MapLemmas.{unread_kept}
+use Rattle.targets.proofs.map.take_block.Goals as goal
+
+pub returns-in-Bytes-clause-takes : goal.returns-in-Bytes-clause-takes
+returns-in-Bytes-clause-takes g c =
+    let bytes = c.next_block.new.bytes in
+    let same : c.deref.result.now ≡ bytes =
+    c.deref.ensures.value ∙ take_at bytes _ c.args.map.now.bytes.len (omega (arith, c.next_block.auto.bytes, c.deref_mut.ensures.len)) in
+    record {
+      bytes = Some bytes;
+      came = subst (λ k. Comes (g.R.Read.remaining c.args.reader.now) (g.R.Read.remaining c.next_block.new.reader) bytes (Ok k)) c.in-Bytes.is
+          c.in_ok-next_block.ensures;
+      whole = omega (arith, c.next_block.auto.bytes, c.deref_mut.ensures.len, c.requires.goes_on.room);
+      tells = subst (λ l. Tells c.args.map.now.check.expected c.args.block (Some l) c.tell_bytes.result) same c.tell_bytes.ensures.tells;
+      taken = λ held blocks holds seen. c.tell_bytes.ensures.taken held blocks (holds ∙ sym same) seen;
+      unread = unread_kept c.args.map.now.unread _;
+    }

@@ -1,0 +1,99 @@
+-- The lines of a map.
+use Rattle.std.specs.Prelude.{ℕ, ◌==◌, ◌+◌, ◌-◌, Bool, not, ◌&&◌, ◌||◌, List, [], ◌++◌, Option, Some, None, codes, decimal, if◌then◌else◌}
+use Rattle.std.specs.List.{flat_map, range_with_len}
+use Rattle.diagnosis.specs.declared.holds.Holds.TheVariants as kinds
+use Rattle.diagnosis.specs.declared.stamp.Write.{Write}
+use Rattle.recheck.specs.declared.expected.Placed.{Placed}
+use Rattle.recheck.specs.Expected.{Expected}
+use Rattle.recheck.specs.Faults.{is_checked, last_write}
+use Rattle.targets.specs.declared.told.Told.{Told}
+use Rattle.targets.specs.declared.told.Told.TheVariants as tolds
+
+-- The word of what is told.
+abbrev pub kind_word : Told → List ℕ
+kind_word tolds.Unchecked = codes "unchecked"
+kind_word tolds.Unread = codes "unread"
+kind_word tolds.Sound = codes "sound"
+kind_word (tolds.Fault kinds.Sound) = codes "sound"
+kind_word (tolds.Fault kinds.Unwritten) = codes "unwritten"
+kind_word (tolds.Fault (kinds.Filled byte)) = codes "filled"
+kind_word (tolds.Fault (kinds.Lost k)) = codes "lost"
+kind_word (tolds.Fault (kinds.Unissued k)) = codes "unissued"
+kind_word (tolds.Fault (kinds.OtherRun write)) = codes "other-run"
+kind_word (tolds.Fault (kinds.Misdirected write)) = codes "misdirected"
+kind_word (tolds.Fault kinds.Torn) = codes "torn"
+kind_word (tolds.Fault (kinds.Corrupt sectors)) = codes "corrupt"
+
+-- The last completed write, if there is one.
+abbrev pub last_words : Option ℕ → List ℕ
+last_words None = []
+last_words (Some k) = decimal k
+
+-- A write in flight, if it goes to the block.
+abbrev pub or_words : ℕ → Placed → List ℕ
+or_words block write = if write.block == block then codes " or " ++ decimal write.seq else []
+
+-- The writes that a block may hold: the last completed one, and those in flight to it.
+abbrev pub wanted_words : Expected → ℕ → List ℕ
+wanted_words e block = last_words (last_write e block) ++ flat_map (or_words block) e.in_flight
+
+-- Which write a block holds, and whose.
+abbrev pub write_words : Write → List ℕ
+write_words write =
+    codes ", holds write " ++ (decimal write.seq ++ (codes " of block " ++ (decimal write.block
+    ++ (codes " of job " ++ (decimal write.key.job ++ (codes " of server "
+    ++ (decimal write.key.server ++ (codes " of run " ++ decimal write.key.run))))))))
+
+-- What a block holds, where that is more than its kind.
+abbrev pub held_words : Told → List ℕ
+held_words tolds.Unchecked = []
+held_words tolds.Unread = []
+held_words tolds.Sound = []
+held_words (tolds.Fault kinds.Sound) = []
+held_words (tolds.Fault kinds.Unwritten) = []
+held_words (tolds.Fault (kinds.Filled byte)) = codes ", holds byte " ++ decimal byte
+held_words (tolds.Fault (kinds.Lost k)) = codes ", holds write " ++ decimal k
+held_words (tolds.Fault (kinds.Unissued k)) = codes ", holds write " ++ decimal k
+held_words (tolds.Fault (kinds.OtherRun write)) = write_words write
+held_words (tolds.Fault (kinds.Misdirected write)) = write_words write
+held_words (tolds.Fault kinds.Torn) = []
+held_words (tolds.Fault (kinds.Corrupt sectors)) = codes ", unknown sectors " ++ decimal sectors
+
+-- The line of a block: its number, what is told of it, the writes that it may hold, and what it
+-- holds.
+abbrev pub line_words : Expected → ℕ → Told → List ℕ
+line_words e block told =
+    codes "block " ++ (decimal block ++ (codes " " ++ (kind_word told ++ (codes ": wants write "
+    ++ (wanted_words e block ++ (held_words told ++ codes "\n"))))))
+
+-- It has none where it isn't checked or is sound.
+abbrev pub line_if_any : Expected → ℕ → Told → List ℕ
+line_if_any e block tolds.Unchecked = []
+line_if_any e block tolds.Sound = []
+line_if_any e block tolds.Unread = line_words e block tolds.Unread
+line_if_any e block (tolds.Fault kind) = line_words e block (tolds.Fault kind)
+
+-- Unchecked blocks begin at this one: it isn't checked, and the one before it is, or isn't there.
+abbrev pub begins_unchecked : Expected → ℕ → Bool
+begins_unchecked e block =
+    not (is_checked e block) && (block == 0 || is_checked e (block - 1))
+
+-- They end at this one: it isn't checked, and the one behind it is, or isn't there.
+abbrev pub ends_unchecked : Expected → ℕ → Bool
+ends_unchecked e block =
+    not (is_checked e block) && (block + 1 == e.job.blocks || is_checked e (block + 1))
+
+-- The first and the last block of unchecked ones, as ` 5-9`.
+abbrev pub first_words : Expected → ℕ → List ℕ
+first_words e block = if begins_unchecked e block then codes " " ++ decimal block else []
+
+abbrev pub last_of_words : Expected → ℕ → List ℕ
+last_of_words e block = if ends_unchecked e block then codes "-" ++ decimal block else []
+
+abbrev pub edge_words : Expected → ℕ → List ℕ
+edge_words e block = first_words e block ++ last_of_words e block
+
+-- The line of the blocks of the region that aren't checked, as `unchecked 5-9 12-12`.
+abbrev pub unchecked_line : Expected → List ℕ
+unchecked_line e =
+    codes "unchecked" ++ (flat_map (edge_words e) (range_with_len 0 e.job.blocks) ++ codes "\n")

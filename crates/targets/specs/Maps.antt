@@ -1,0 +1,139 @@
+-- A map of a target: what is told of each of its blocks.
+use Rattle.std.specs.Prelude.{◌≡◌, ◌⊎◌, ◌<◌, ℕ, Bool, false, not, ◌&&◌, List, [], ◌∷◌, ◌++◌, filter, map, length, Option, Some, None, is_some, IsTrue, IfSome, if◌then◌else◌}
+use Rattle.std.specs.List.{flat_map, list_any, range_with_len}
+use Rattle.fc_base.specs.declared.fault.Fault.{Fault}
+use Rattle.fc_base.specs.declared.report.ReportParts.{ReportParts}
+use Rattle.fc_base.specs.declared.report.ReportEnd.TheVariants.{ReadFault}
+use Rattle.diagnosis.specs.Kinds.{BlockHolds}
+use Rattle.program_io.specs.Words.{with_line_feed, Finishes}
+use Rattle.program_io.specs.Refusals.{plain, refusal_line}
+use Rattle.recheck.specs.Expected.{Expected}
+use Rattle.recheck.specs.Faults.{is_checked, is_expected}
+use Rattle.recheck.specs.Report.{report}
+use Rattle.targets.specs.declared.told.Told.{Told}
+use Rattle.targets.specs.declared.told.Told.TheVariants as tolds
+use Rattle.targets.specs.Reports.{report_line, report_status}
+use Rattle.targets.specs.MapInput.{block_code, IsPart, NoBlock}
+use Rattle.targets.specs.MapLines.{line_words, unchecked_line}
+
+-- A block of a target: its bytes, or none where it could not be read, and what is told of it.
+pub record Cell : Type 0 where
+  pub block : ℕ
+  pub bytes : Option (List ℕ)
+  pub told : Told
+
+-- What is told of a block is so. One that isn't checked may hold anything; of a checked one it is
+-- told that it could not be read, or that it holds an expected write, or else what it holds.
+abbrev pub Tells : Expected → ℕ → Option (List ℕ) → Told → Type 0
+Tells e block bytes tolds.Unchecked = is_checked e block ≡ false
+Tells e block bytes tolds.Unread = IsTrue (is_checked e block) × (bytes ≡ None)
+Tells e block bytes tolds.Sound =
+    IsTrue (is_checked e block)
+    × ((held : List ℕ) × (bytes ≡ Some held) × IsTrue (is_expected e block held))
+Tells e block bytes (tolds.Fault kind) =
+    IsTrue (is_checked e block)
+    × ((held : List ℕ) × (bytes ≡ Some held) × (is_expected e block held ≡ false)
+    × BlockHolds e block held kind)
+
+-- So it is of each of these blocks, and those that were read are whole.
+abbrev pub AreTold : Expected → List Cell → Type 0
+AreTold e [] = Unit {0}
+AreTold e (cell ∷ cells) =
+    (Tells e cell.block cell.bytes cell.told × IfSome cell.bytes (λ bytes. length bytes ≡ e.job.bs))
+    × AreTold e cells
+
+-- These blocks hold what the content does, where they were read.
+abbrev pub AreOf : (ℕ → List ℕ) → List Cell → Type 0
+AreOf held [] = Unit {0}
+AreOf held (cell ∷ cells) = IfSome cell.bytes (λ bytes. held cell.block ≡ bytes) × AreOf held cells
+
+-- The numbers of the blocks that were read.
+abbrev pub read_blocks : List Cell → List ℕ
+read_blocks cells = map (λ c. c.block) (filter (λ c. is_some c.bytes) cells)
+
+-- A block was read, and holds an expected write.
+abbrev pub is_sound : Expected → Cell → Bool
+is_sound e cell = by cell.bytes
+  where
+    by : Option (List ℕ) → Bool
+    by None = false
+    by (Some bytes) = is_expected e cell.block bytes
+
+-- A block has a line where it is checked and isn't sound: it is a fault, or could not be read.
+abbrev pub has_line : Expected → Cell → Bool
+has_line e cell = is_checked e cell.block && not (is_sound e cell)
+
+-- The lines of these blocks.
+abbrev pub lines_of : Expected → List Cell → List ℕ
+lines_of e cells = flat_map (λ c. line_words e c.block c.told) (filter (has_line e) cells)
+
+-- A checked block could not be read.
+abbrev pub is_unread : Expected → Cell → Bool
+is_unread e cell = is_checked e cell.block && not (is_some cell.bytes)
+
+-- The first n blocks have come, and each is told.
+pub record HasCome (e : Expected) (n : ℕ) (cells : List Cell) : Type 0 where
+  pub blocks : map (λ c. c.block) cells ≡ range_with_len 0 n
+  pub told : AreTold e cells
+
+-- The report of the blocks that were read, whatever content they are of.
+abbrev pub Reports : Expected → List Cell → ReportParts → Type 0
+Reports e cells r =
+    (held : ℕ → List ℕ) → AreOf held cells → r ≡ report false e held (read_blocks cells)
+
+-- What is written of these blocks: their lines, the line that tells which blocks of the region
+-- aren't checked, and the report's.
+abbrev pub map_text : Expected → List Cell → ReportParts → List ℕ
+map_text e cells r = lines_of e cells ++ (unchecked_line e ++ with_line_feed (report_line r))
+
+-- The status is 2 where a checked block could not be read, and else that of the report.
+abbrev pub map_status : Expected → List Cell → ReportParts → ℕ
+map_status e cells r = if list_any (is_unread e) cells then 2 else report_status r
+
+-- The whole region has come: its lines and its report are written.
+pub record MapsWhole (e : Expected) (target : List ℕ) (old new : Option (List ℕ))
+    (status : ℕ) : Type 0 where
+  pub cells : List Cell
+  pub come : HasCome e e.job.blocks cells
+  pub rest : List ℕ
+  pub input : target ≡ flat_map (λ c. block_code c.bytes) cells ++ rest
+  pub report : ReportParts
+  pub reports : Reports e cells report
+  pub finishes : Finishes (map_text e cells report) (map_status e cells report) old new status
+
+-- The input ends in block n: the lines and the report are those of the blocks before it, and the
+-- report says which it is.
+pub record MapsCut (e : Expected) (target : List ℕ) (old new : Option (List ℕ))
+    (status : ℕ) : Type 0 where
+  pub cells : List Cell
+  pub block : ℕ
+  pub before : block < e.job.blocks
+  pub come : HasCome e block cells
+  pub rest : List ℕ
+  pub input : target ≡ flat_map (λ c. block_code c.bytes) cells ++ rest
+  pub ends : IsPart e.job.bs rest
+  pub report : ReportParts
+  pub reports : Reports e cells report
+  pub finishes : Finishes (map_text e cells (record report { end = ReadFault block })) 2 old new
+      status
+
+-- No block comes behind these: their lines are written, and then why.
+pub record MapsRefused (e : Expected) (target : List ℕ) (old new : Option (List ℕ))
+    (status : ℕ) : Type 0 where
+  pub cells : List Cell
+  pub block : ℕ
+  pub before : block < e.job.blocks
+  pub come : HasCome e block cells
+  pub rest : List ℕ
+  pub input : target ≡ flat_map (λ c. block_code c.bytes) cells ++ rest
+  pub fault : Fault
+  pub left : Option (List ℕ)
+  pub none : NoBlock fault (Some rest) left
+  pub finishes : Finishes (lines_of e cells ++ with_line_feed (refusal_line (plain fault))) 2 old
+      new status
+
+-- What is answered of a target.
+abbrev pub MapsTarget : Expected → List ℕ → Option (List ℕ) → Option (List ℕ) → ℕ → Type 0
+MapsTarget e target old new status =
+    MapsWhole e target old new status
+    ⊎ (MapsCut e target old new status ⊎ MapsRefused e target old new status)

@@ -1,0 +1,137 @@
+//! The line of a block of a map.
+
+ghost use Rattle.std.specs.Prelude.{OnOk, ◌++◌, codes, decimal};
+ghost use Rattle.std.specs.List.{flat_map};
+ghost use Rattle.std.specs.Io.KnownBytes.{Appends};
+ghost use Rattle.targets.specs.MapLines.{held_words, last_words, line_if_any, line_words, or_words, wanted_words, write_words};
+
+use crate::told::{Told, kind_word};
+use diagnosis::{Holds, Write as Written};
+use fc_base::{JobNo, RunNo, Seq, ServerNo};
+use recheck::{Expected, Placed};
+use std::io;
+use std::io::Write;
+
+/// Writes the line of a block, if it has one.
+pub(crate) fn write_told<W: Write>(
+    writer: &mut W,
+    expected: &Expected,
+    block: u32,
+    told: &Told,
+) -> io::Result<()>
+    ensures { OnOk result (Appends (W.contents writer.old) (W.contents writer.new)
+        (line_if_any expected.now block told.now)) }
+{
+    match told {
+        Told::Unchecked => Ok(()),
+        Told::Sound => Ok(()),
+        Told::Unread => write_line(writer, expected, block, told),
+        Told::Fault(_) => write_line(writer, expected, block, told),
+    }
+}
+
+/// Writes the line of a block of which this is told.
+fn write_line<W: Write>(
+    writer: &mut W,
+    expected: &Expected,
+    block: u32,
+    told: &Told,
+) -> io::Result<()>
+    ensures { OnOk result (Appends (W.contents writer.old) (W.contents writer.new)
+        (line_words expected.now block told.now)) }
+{
+    write!(writer, "block {block} {}: wants write ", kind_word(told))?;
+    write_wanted(writer, expected, block)?;
+    write_held(writer, told)?;
+    writeln!(writer)
+}
+
+/// Writes the writes that the block may hold, as `5` or `5 or 9`.
+fn write_wanted<W: Write>(writer: &mut W, expected: &Expected, block: u32) -> io::Result<()>
+    ensures { OnOk result (Appends (W.contents writer.old) (W.contents writer.new)
+        (wanted_words expected.now block)) }
+{
+    write_last(writer, expected.last_write(block))?;
+    write_in_flight(writer, expected.in_flight(), block)
+}
+
+/// Writes the number of the last completed write.
+fn write_last<W: Write>(writer: &mut W, last: Option<Seq>) -> io::Result<()>
+    ensures { OnOk result (Appends (W.contents writer.old) (W.contents writer.new)
+        (last_words last)) }
+{
+    match last {
+        None => Ok(()),
+        Some(Seq(number)) => write!(writer, "{number}"),
+    }
+}
+
+/// Writes the numbers of those of the writes that go to the block.
+fn write_in_flight<W: Write>(writer: &mut W, writes: &[Placed], block: u32) -> io::Result<()>
+    ensures { OnOk result (Appends (W.contents writer.old) (W.contents writer.new)
+        (flat_map (or_words block) writes.now)) }
+{
+    for write in writes {
+        write_or(writer, block, write)?;
+    }
+    Ok(())
+}
+
+/// Writes the number of a write, if it goes to the block.
+fn write_or<W: Write>(writer: &mut W, block: u32, write: &Placed) -> io::Result<()>
+    ensures { OnOk result (Appends (W.contents writer.old) (W.contents writer.new)
+        (or_words block write.now)) }
+{
+    if write.block == block {
+        let Seq(number) = write.seq;
+        write!(writer, " or {number}")
+    } else {
+        Ok(())
+    }
+}
+
+/// Writes what the block holds, where that is more than its kind.
+fn write_held<W: Write>(writer: &mut W, told: &Told) -> io::Result<()>
+    ensures { OnOk result (Appends (W.contents writer.old) (W.contents writer.new)
+        (held_words told.now)) }
+{
+    match told {
+        Told::Fault(Holds::Filled(byte)) => write!(writer, ", holds byte {byte}"),
+        Told::Fault(Holds::Lost(seq)) => write_seq(writer, *seq),
+        Told::Fault(Holds::Unissued(seq)) => write_seq(writer, *seq),
+        Told::Fault(Holds::OtherRun(write)) => write_write(writer, write),
+        Told::Fault(Holds::Misdirected(write)) => write_write(writer, write),
+        Told::Fault(Holds::Corrupt(sectors)) => write!(writer, ", unknown sectors {sectors}"),
+        Told::Fault(Holds::Sound) => Ok(()),
+        Told::Fault(Holds::Unwritten) => Ok(()),
+        Told::Fault(Holds::Torn) => Ok(()),
+        Told::Unchecked => Ok(()),
+        Told::Unread => Ok(()),
+        Told::Sound => Ok(()),
+    }
+}
+
+/// Writes which write of the job to the block it holds.
+fn write_seq<W: Write>(writer: &mut W, seq: Seq) -> io::Result<()>
+    ensures { OnOk result (Appends (W.contents writer.old) (W.contents writer.new)
+        (codes ", holds write " ++ decimal seq)) }
+{
+    let Seq(number) = seq;
+    write!(writer, ", holds write {number}")
+}
+
+/// Writes which write a block holds, and whose.
+fn write_write<W: Write>(writer: &mut W, write: &Written) -> io::Result<()>
+    ensures { OnOk result (Appends (W.contents writer.old) (W.contents writer.new)
+        (write_words write.now)) }
+{
+    let Seq(seq) = write.seq;
+    let block = write.block;
+    let JobNo(job) = write.key.job;
+    let ServerNo(server) = write.key.server;
+    let RunNo(run) = write.key.run;
+    write!(
+        writer,
+        ", holds write {seq} of block {block} of job {job} of server {server} of run {run}",
+    )
+}

@@ -1,0 +1,292 @@
+//! Maps of a target: the lines of its blocks, of those that aren't checked and of the report, and
+//! the status.
+
+use super::inputs::Tell::*;
+use super::inputs::{TWO_BLOCKS, Tell};
+use super::map_inputs::Comes::{Byte, Sector as Bytes};
+use super::map_inputs::Sector::*;
+use super::map_inputs::{FATAL, ONE_BLOCK, Row, SIX_BLOCKS, agrees, answers, map_input};
+use super::stamps::RUN;
+use fake_io::{failing_at, source_of};
+use std::alloc::Global;
+use std::test::Fail;
+
+/// Writes 0 and 1 done, and 2 and 3 in flight.
+const TWO_DONE: &[Tell] = &[Done(0), Done(1), Take];
+
+/// Each kind, at the first block and at the last.
+static KINDS: [Row; 13] = [
+    (
+        TWO_BLOCKS,
+        TWO_DONE,
+        &[
+            Byte(1),
+            Bytes(Stamp(RUN, 0, 0, 0, 0)),
+            Byte(1),
+            Bytes(Stamp(RUN, 0, 3, 1, 0)),
+        ],
+        0,
+        "unchecked\nreport checked 2 faults 0 end whole first -\n",
+    ),
+    (
+        TWO_BLOCKS,
+        TWO_DONE,
+        &[
+            Byte(1),
+            Bytes(Filled(0)),
+            Byte(1),
+            Bytes(Stamp(RUN, 0, 1, 1, 0)),
+        ],
+        1,
+        "block 0 unwritten: wants write 0 or 2\n\
+         unchecked\nreport checked 2 faults 1 end whole first 0\n",
+    ),
+    (
+        TWO_BLOCKS,
+        TWO_DONE,
+        &[
+            Byte(1),
+            Bytes(Stamp(RUN, 0, 0, 0, 0)),
+            Byte(1),
+            Bytes(Filled(255)),
+        ],
+        1,
+        "block 1 filled: wants write 1 or 3, holds byte 255\n\
+         unchecked\nreport checked 2 faults 1 end whole first 1\n",
+    ),
+    (
+        TWO_BLOCKS,
+        &[],
+        &[
+            Byte(1),
+            Bytes(Stamp(RUN, 0, 0, 0, 0)),
+            Byte(1),
+            Bytes(Stamp(RUN, 0, 1, 1, 0)),
+        ],
+        1,
+        "block 0 lost: wants write 2, holds write 0\n\
+         block 1 lost: wants write 3, holds write 1\n\
+         unchecked\nreport checked 2 faults 2 end whole first 0 1\n",
+    ),
+    (
+        TWO_BLOCKS,
+        &[],
+        &[
+            Byte(1),
+            Bytes(Stamp(RUN, 0, 4, 0, 0)),
+            Byte(1),
+            Bytes(Stamp(RUN, 0, 3, 1, 0)),
+        ],
+        1,
+        "block 0 unissued: wants write 2, holds write 4\n\
+         unchecked\nreport checked 2 faults 1 end whole first 0\n",
+    ),
+    (
+        TWO_BLOCKS,
+        &[],
+        &[
+            Byte(1),
+            Bytes(Stamp(6, 0, 2, 0, 0)),
+            Byte(1),
+            Bytes(Stamp(RUN, 0, 3, 1, 0)),
+        ],
+        1,
+        "block 0 other-run: wants write 2, \
+         holds write 2 of block 0 of job 0 of server 0 of run 6\n\
+         unchecked\nreport checked 2 faults 1 end whole first 0\n",
+    ),
+    (
+        TWO_BLOCKS,
+        &[],
+        &[
+            Byte(1),
+            Bytes(Stamp(RUN, 0, 3, 1, 0)),
+            Byte(1),
+            Bytes(Stamp(RUN, 5, 3, 1, 0)),
+        ],
+        1,
+        "block 0 misdirected: wants write 2, \
+         holds write 3 of block 1 of job 0 of server 0 of run 7\n\
+         block 1 misdirected: wants write 3, \
+         holds write 3 of block 1 of job 5 of server 0 of run 7\n\
+         unchecked\nreport checked 2 faults 2 end whole first 0 1\n",
+    ),
+    (
+        TWO_BLOCKS,
+        &[],
+        &[
+            Byte(1),
+            Bytes(Stamp(RUN, 0, 2, 0, 0)),
+            Byte(1),
+            Bytes(Changed(3, 1, 511)),
+        ],
+        1,
+        "block 1 corrupt: wants write 3, unknown sectors 1\n\
+         unchecked\nreport checked 2 faults 1 end whole first 1\n",
+    ),
+    (
+        ONE_BLOCK,
+        &[],
+        &[
+            Byte(1),
+            Bytes(Stamp(RUN, 0, 1, 0, 0)),
+            Bytes(Stamp(RUN, 0, 0, 0, 1)),
+        ],
+        1,
+        "block 0 torn: wants write 1\nunchecked\nreport checked 1 faults 1 end whole first 0\n",
+    ),
+    (
+        TWO_BLOCKS,
+        &[],
+        &[Byte(0), Byte(1), Bytes(Stamp(RUN, 0, 3, 1, 0))],
+        2,
+        "block 0 unread: wants write 2\n\
+         unchecked\nreport checked 1 faults 0 end whole first -\n",
+    ),
+    (
+        TWO_BLOCKS,
+        &[],
+        &[Byte(1), Bytes(Filled(0)), Byte(0)],
+        2,
+        "block 0 unwritten: wants write 2\nblock 1 unread: wants write 3\n\
+         unchecked\nreport checked 1 faults 1 end whole first 0\n",
+    ),
+    (
+        FATAL,
+        &[],
+        &[Byte(1), Bytes(Filled(0)), Byte(1), Bytes(Filled(0))],
+        1,
+        "block 0 unwritten: wants write 2\nblock 1 unwritten: wants write 3\n\
+         unchecked\nreport checked 2 faults 2 end whole first 0 1\n",
+    ),
+    (
+        TWO_BLOCKS,
+        &[],
+        &[Byte(0), Byte(0)],
+        2,
+        "block 0 unread: wants write 2\nblock 1 unread: wants write 3\n\
+         unchecked\nreport checked 0 faults 0 end whole first -\n",
+    ),
+];
+
+/// Blocks that aren't checked, inputs that end early, and bytes that are neither 0 nor 1.
+static ENDS: [Row; 8] = [
+    (
+        SIX_BLOCKS,
+        &[Done(0), Done(3), Take],
+        &[
+            Byte(1),
+            Bytes(Stamp(RUN, 0, 0, 0, 0)),
+            Byte(0),
+            Byte(1),
+            Bytes(Filled(9)),
+            Byte(1),
+            Bytes(Filled(9)),
+            Byte(0),
+            Byte(0),
+        ],
+        1,
+        "block 3 filled: wants write 3, holds byte 9\n\
+         unchecked 1-2 4-5\nreport checked 2 faults 1 end whole first 3\n",
+    ),
+    (
+        SIX_BLOCKS,
+        &[Done(1), Done(4), Take],
+        &[Byte(0), Byte(0), Byte(0), Byte(0), Byte(0), Byte(0)],
+        2,
+        "block 1 unread: wants write 1\nblock 4 unread: wants write 4\n\
+         unchecked 0-0 2-3 5-5\nreport checked 0 faults 0 end whole first -\n",
+    ),
+    (
+        SIX_BLOCKS,
+        &[Take],
+        &[Byte(0), Byte(0), Byte(0), Byte(0), Byte(0), Byte(0)],
+        0,
+        "unchecked 0-5\nreport checked 0 faults 0 end whole first -\n",
+    ),
+    (
+        TWO_BLOCKS,
+        &[],
+        &[],
+        2,
+        "unchecked\nreport checked 0 faults 0 end read 0 first -\n",
+    ),
+    (
+        TWO_BLOCKS,
+        &[],
+        &[Byte(1), Bytes(Filled(0)), Byte(1)],
+        2,
+        "block 0 unwritten: wants write 2\n\
+         unchecked\nreport checked 1 faults 1 end read 1 first 0\n",
+    ),
+    (
+        TWO_BLOCKS,
+        &[],
+        &[Byte(0)],
+        2,
+        "block 0 unread: wants write 2\n\
+         unchecked\nreport checked 0 faults 0 end read 1 first -\n",
+    ),
+    (TWO_BLOCKS, &[], &[Byte(2)], 2, "refused 94 BadNotice\n"),
+    (
+        TWO_BLOCKS,
+        &[],
+        &[Byte(1), Bytes(Filled(0)), Byte(255), Bytes(Filled(0))],
+        2,
+        "block 0 unwritten: wants write 2\nrefused 94 BadNotice\n",
+    ),
+];
+
+/// Whether each row is answered as it says, or the number of the first that isn't.
+fn all_agree(alloc: Global, rows: &[Row]) -> Result<(), Fail> {
+    for (number, row) in rows.iter().enumerate() {
+        if agrees(alloc, row) != Some(true) {
+            return Err(Fail::new(number));
+        }
+    }
+    Ok(())
+}
+
+#[test]
+fn each_kind(rt: HostRuntime) -> Result<(), Fail> {
+    all_agree(rt.alloc(), &KINDS)
+}
+
+#[test]
+fn ends_and_unchecked_blocks(rt: HostRuntime) -> Result<(), Fail> {
+    all_agree(rt.alloc(), &ENDS)
+}
+
+/// Whether a map by the state of another run is refused.
+fn refuses_another_run(alloc: Global) -> Option<bool> {
+    let input = map_input(alloc, TWO_BLOCKS, TWO_DONE, &[])?;
+    Some(answers(alloc, 8, source_of(&input), 2, "refused 36 OtherKey\n"))
+}
+
+#[test]
+fn a_state_of_another_run(rt: HostRuntime) -> Result<(), Fail> {
+    match refuses_another_run(rt.alloc()) {
+        Some(true) => Ok(()),
+        _ => Err(Fail::new("another run")),
+    }
+}
+
+/// Whether a map is refused behind its lines where the last read fails.
+fn fails_at_read(alloc: Global, number: u32, lines: &str) -> Option<bool> {
+    let target = [Byte(1), Bytes(Filled(0)), Byte(1), Bytes(Filled(0))];
+    let input = map_input(alloc, TWO_BLOCKS, &[], &target)?;
+    let source = failing_at(&input, usize::MAX, number);
+    Some(answers(alloc, RUN, source, 2, lines))
+}
+
+#[test]
+fn failed_reads_of_a_map(rt: HostRuntime) -> Result<(), Fail> {
+    let none = "refused 91 ReadError\n";
+    let one = "block 0 unwritten: wants write 2\nrefused 91 ReadError\n";
+    for (number, lines) in [(0, none), (3, none), (4, none), (5, one), (6, one)] {
+        if fails_at_read(rt.alloc(), number, lines) != Some(true) {
+            return Err(Fail::new(number));
+        }
+    }
+    Ok(())
+}
