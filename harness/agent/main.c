@@ -96,13 +96,14 @@ static bool give_back_bytes(void *none, const void *bytes, size_t length) {
     return true;
 }
 
-static void tell_missed(void *none, uint64_t block, const char *why) {
+static bool tell_missed(void *none, uint64_t block, const char *why) {
     struct chunk chunk = {htobe64(CHUNK_MISSED), htobe64(block)};
     char words[MAX_WHY] = "";
     (void)none;
     snprintf(words, sizeof words, "%s", why);
     answer(&chunk, sizeof chunk);
     answer(words, sizeof words);
+    return true;
 }
 
 static void write_for(const struct settings *settings, struct hello *hello) {

@@ -14,10 +14,7 @@ enum { AT_ONCE = 1 << 20, PAGE = 4096 };
 static bool read_block(const struct target *target, const struct region *region, const struct sink *sink, void *bytes, uint64_t block) {
     ssize_t count = pread(target->fd, bytes, region->block_size, (off_t)place_of(region, block));
     if (count == (ssize_t)region->block_size) return sink->take(sink->whose, bytes, region->block_size);
-    const char *why = count < 0 ? strerror(errno) : "the target ends there";
-    if (count > 0 && !sink->take(sink->whose, bytes, (size_t)count)) return false;
-    sink->miss(sink->whose, block, why);
-    return false;
+    return sink->miss(sink->whose, block, count < 0 ? strerror(errno) : "the target ends there");
 }
 
 void read_region(const struct target *target, const struct region *region, const struct sink *sink) {

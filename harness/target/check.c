@@ -2,6 +2,7 @@
 
 #include "bytes.h"
 #include "drive.h"
+#include "map.h"
 #include "reading.h"
 #include "report.h"
 #include "say.h"
@@ -9,31 +10,67 @@
 
 #include <inttypes.h>
 
-struct check {
-    const struct target *target;
+/* What a target is checked by, and the target. */
+struct subject {
+    uint8_t state[MAX_STATE];
+    size_t length; /* of the state; 0 in a full pass */
+    uint64_t run;
+    struct region region;
+    struct target target;
     struct child drive;
+    struct map map;
 };
 
-static bool give_to_drive(void *check, const void *bytes, size_t length) {
-    return write_all(((const struct check *)check)->drive.to, bytes, length) == 0;
+static void open_subject(struct subject *subject, const struct options *options, const struct job *job) {
+    bool is_full = is_full_pass(options);
+    subject->length = is_full ? 0 : read_state(options->state, subject->state);
+    subject->run = options->run ? options->run : run_of_state(subject->state);
+    subject->region = is_full ? region_of(job, options->offset, options->stride) : region_of_state(options->state, job, options->offset, options->stride);
+    subject->target = open_to_read(&options->opening);
+    if (subject->target.size < end_of(&subject->region))
+        say("%s: it ends after %" PRIu64 " bytes, before the job's region does", subject->target.name, subject->target.size);
+}
+
+static void say_unread(const struct subject *subject, uint64_t block, const char *why) {
+    say("%s: block %" PRIu64 " can't be read: %s", subject->target.name, block, why);
+}
+
+static bool give_bytes(void *subject, const void *bytes, size_t length) {
+    return write_all(((const struct subject *)subject)->drive.to, bytes, length) == 0;
 }
 
 /* `drive` says where its bytes end; this says why. */
-static void say_unread(void *check, uint64_t block, const char *why) {
-    say("%s: block %" PRIu64 " can't be read: %s", ((const struct check *)check)->target->name, block, why);
+static bool end_bytes(void *subject, uint64_t block, const char *why) {
+    say_unread(subject, block, why);
+    return false;
 }
 
 int check_target(const struct options *options, const struct job *job) {
-    uint8_t state[MAX_STATE] = {0};
-    bool is_full = is_full_pass(options);
-    size_t length = is_full ? 0 : read_state(options->state, state);
-    struct region region = is_full ? region_of(job, options->offset, options->stride) : region_of_state(options->state, job, options->offset, options->stride);
-    struct target target = open_to_read(&options->opening);
-    if (target.size < end_of(&region)) say("%s: it ends after %" PRIu64 " bytes, before the job's region does", target.name, target.size);
-    struct check check = {&target, start_drive("check", options->run ? options->run : run_of_state(state), job, CHILD_READS | CHILD_WRITES)};
+    static struct subject subject;
     struct report report;
-    feed(&check.drive, state, length);
-    read_region(&target, &region, &(struct sink){&check, give_to_drive, say_unread});
-    await_report(&check.drive, &report);
+    open_subject(&subject, options, job);
+    subject.drive = start_drive("check", subject.run, job, CHILD_READS | CHILD_WRITES);
+    feed(&subject.drive, subject.state, subject.length);
+    read_region(&subject.target, &subject.region, &(struct sink){&subject, give_bytes, end_bytes});
+    await_report(&subject.drive, &report);
     return tell_report(&report);
+}
+
+static bool give_blocks(void *subject, const void *bytes, size_t length) {
+    return map_blocks(&((struct subject *)subject)->map, bytes, length);
+}
+
+static bool pass_over(void *subject, uint64_t block, const char *why) {
+    say_unread(subject, block, why);
+    return map_missed(&((struct subject *)subject)->map);
+}
+
+int map_target(const struct options *options, const struct job *job) {
+    static struct subject subject;
+    open_subject(&subject, options, job);
+    open_map(&subject.map, subject.run, job, &subject.region, subject.state, subject.length);
+    read_region(&subject.target, &subject.region, &(struct sink){&subject, give_blocks, pass_over});
+    int status = tell_map(&subject.map, await_map(&subject.map));
+    free_map(&subject.map);
+    return status;
 }

@@ -1,4 +1,5 @@
-/* What drive-target does, for each of its two words. Each returns the status that it ends with. */
+/* What drive-target does, for each of its three words. Each returns the status that it ends
+ * with. */
 #ifndef COMMANDS_H
 #define COMMANDS_H
 
@@ -10,5 +11,9 @@ int write_target(const struct options *options, const struct job *job);
 
 /* Checks a target by a state, or in a full pass. */
 int check_target(const struct options *options, const struct job *job);
+
+/* The same, and tells of each faulty block what it holds. A block that can't be read costs no
+ * other. */
+int map_target(const struct options *options, const struct job *job);
 
 #endif

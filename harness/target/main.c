@@ -11,5 +11,9 @@ int main(int count, char **words) {
     const struct options options = read_options(count, words);
     signal(SIGPIPE, SIG_IGN);
     const struct job job = read_job(options.job_file, options.job);
-    return options.writes ? write_target(&options, &job) : check_target(&options, &job);
+    switch (options.command) {
+    case WRITE: return write_target(&options, &job);
+    case CHECK: return check_target(&options, &job);
+    default: return map_target(&options, &job);
+    }
 }

@@ -10,6 +10,7 @@
 static const char USAGE[] =
     "usage: drive-target write JOBFILE TARGET STATE [OPTIONS]     writes, and keeps the state in the file STATE\n"
     "       drive-target check JOBFILE TARGET STATE|- [OPTIONS]   checks the target by that state; `-`: a full pass\n"
+    "       drive-target map JOBFILE TARGET STATE|- [OPTIONS]     the same, and tells what each faulty block holds\n"
     "  --job N           job N of the file, from 0\n"
     "write:\n"
     "  --after N         takes the state once N writes are done\n"
@@ -19,20 +20,25 @@ static const char USAGE[] =
     "  --flush N         tells writes as done behind a flush: N of them, or fewer where no other is out\n"
     "  --yes             writes over what the target holds; what is mounted or in use it never writes\n"
     "  --torn            takes blocks that are larger than what the device writes whole\n"
-    "check:\n"
+    "check, map:\n"
     "  --run N           checks as run N, which a full pass has to say\n"
-    "both:\n"
+    "all:\n"
     "  --offset BYTES    where the first block begins, 0 else; --stride BYTES: from one block's front to the next\n"
     "  --cached          without O_DIRECT and O_DSYNC\n"
     "FIOCUT and DRIVE name the two programs. It takes the state at SIGTERM and SIGINT, too.\n"
     "status: 0; 1 the check found faults; 2 something failed or was refused; 3 the check checked no block\n";
 
-enum { WRITE = 1, CHECK = 2 };
+/* The command of this name, or 0. */
+static enum command command_of(const char *name) {
+    if (!strcmp(name, "write")) return WRITE;
+    if (!strcmp(name, "check")) return CHECK;
+    return strcmp(name, "map") ? 0 : MAP;
+}
 
 struct options read_options(int count, char **words) {
     struct options read = {0};
     const struct option all[] = {
-        {"--job", 0, &read.job, 0, WRITE | CHECK},
+        {"--job", 0, &read.job, 0, WRITE | CHECK | MAP},
         {"--after", 0, &read.after, 0, WRITE},
         {"--trigger", &read.trigger, 0, 0, WRITE},
         {"--keep", &read.keep, 0, 0, WRITE},
@@ -40,26 +46,26 @@ struct options read_options(int count, char **words) {
         {"--flush", 0, &read.flush, 0, WRITE},
         {"--yes", 0, 0, &read.opening.yes, WRITE},
         {"--torn", 0, 0, &read.opening.torn, WRITE},
-        {"--run", 0, &read.run, 0, CHECK},
-        {"--offset", 0, &read.offset, 0, WRITE | CHECK},
-        {"--stride", 0, &read.stride, 0, WRITE | CHECK},
-        {"--cached", 0, 0, &read.opening.cached, WRITE | CHECK},
+        {"--run", 0, &read.run, 0, CHECK | MAP},
+        {"--offset", 0, &read.offset, 0, WRITE | CHECK | MAP},
+        {"--stride", 0, &read.stride, 0, WRITE | CHECK | MAP},
+        {"--cached", 0, 0, &read.opening.cached, WRITE | CHECK | MAP},
         {0, 0, 0, 0, 0},
     };
     if (asks_for_help(count, words)) {
         fputs(USAGE, stdout);
         exit(STATUS_SOUND);
     }
-    read.writes = count > 1 && !strcmp(words[1], "write");
-    if (count < 5 || (!read.writes && strcmp(words[1], "check"))) {
+    read.command = count > 4 ? command_of(words[1]) : 0;
+    if (!read.command) {
         fputs(USAGE, stderr);
         exit(STATUS_FAILED);
     }
     read.job_file = words[2], read.opening.name = words[3], read.state = words[4];
-    read_words(all, read.writes ? WRITE : CHECK, count - 5, words + 5);
+    read_words(all, (int)read.command, count - 5, words + 5);
     read.opening.flushed = read.flush > 0;
-    if (!read.writes && is_full_pass(&read) && read.run == 0) give_up("-", "a full pass wants --run, the number of the run that wrote");
-    if (read.writes && is_full_pass(&read)) give_up("-", "a state is kept in a file");
+    if (read.command != WRITE && is_full_pass(&read) && read.run == 0) give_up("-", "a full pass wants --run, the number of the run that wrote");
+    if (read.command == WRITE && is_full_pass(&read)) give_up("-", "a state is kept in a file");
     return read;
 }
 

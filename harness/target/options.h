@@ -8,7 +8,7 @@
 #include <stdint.h>
 
 struct options {
-    bool writes; /* `write`, and else `check` */
+    enum command { WRITE = 1, CHECK = 2, MAP = 4 } command;
     const char *job_file, *state;
     struct opening opening;
     const char *trigger, *keep, *cut; /* NULL where the option isn't given */

@@ -1,15 +1,15 @@
 /* A target that lies, in front of a harness that is tested: a library for LD_PRELOAD.
  *
- * LIE=KIND:EVERY[:FROM] harms each EVERYth write of a block, from the FROMth on. Kinds: lost;
- * torn, its first half alone; misdirected, to the block behind it; flipped, its last bit; late,
- * behind LIE_HELD further writes; failed, and not made; doubtful, failed but made; short, half of
- * it written and told; stalled, it never comes back. LIE=cached:N is a drive with a volatile cache
- * of N blocks: each write is told at once, whatever O_DSYNC says, and another one, by chance, makes
+ * LIE=KIND:EVERY[:FROM] harms each EVERYth write of a block, from the FROMth on. Kinds: lost; torn,
+ * its first half alone; misdirected, to the block behind it; flipped, its last bit; late, behind
+ * LIE_HELD further writes; failed, and not made; doubtful, failed but made; short, half of it
+ * written and told; stalled, it never comes back. LIE=cached:N is a drive with a volatile cache of
+ * N blocks: each write is told at once, whatever O_DSYNC says, and another one, by chance, makes
  * room for it; LIE_FLUSHES has fdatasync empty it. Killed, it loses the rest. LIE_LOG=FILE has a
- * line for each: `KIND BLOCK WRITE`, in the order in which they were told; LIE_SYNCS has it tell each
- * fsync, too: `synced PATH`. LIE_UNREADABLE=BYTE fails each read of the target that has this byte.
- * LIE_TARGET=NAME is the end of the target's path. The kernel's io_uring passes a library by, so
- * there is none here: the harness writes by threads. */
+ * line for each: `KIND BLOCK WRITE`, in the order in which they were told; LIE_SYNCS has it tell
+ * each fsync, too: `synced PATH`. LIE_UNREADABLE=BYTE fails each read of the target that has this
+ * byte. LIE_TARGET=NAME is the end of the target's path. The kernel's io_uring passes a library by,
+ * so there is none here: the harness writes by threads. */
 #include <dlfcn.h>
 #include <endian.h>
 #include <errno.h>

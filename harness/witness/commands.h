@@ -7,6 +7,7 @@
 
 int write_by_agent(const struct options *options, const struct job *job);
 int check_by_agent(const struct options *options, const struct job *job);
+int map_by_agent(const struct options *options, const struct job *job);
 int cycle_by_agent(const struct options *options, const struct job *job);
 
 #endif

@@ -2,11 +2,11 @@
 
 #include "bytes.h"
 #include "folder.h"
+#include "map.h"
 #include "say.h"
 
 #include <inttypes.h>
 #include <stdio.h>
-#include <string.h>
 #include <unistd.h>
 
 /* splitmix64: a number that depends on the seed and the cycle alone, so that a series which is
@@ -23,21 +23,28 @@ static bool read_report(struct cycle *cycle) {
     return sscanf(cycle->report.text, "report checked %" SCNu64 " faults %" SCNu64, &cycle->checked, &cycle->faults) == 2;
 }
 
-static void keep_report(const struct folder *folder, const struct cycle *cycle) {
+/* Keeps what is told of each faulty block, and the report. */
+static void keep_report(const struct folder *folder, const struct cycle *cycle, const struct map *map) {
     char name[PATH_MAX];
     name_of(folder, cycle->number, "report", name);
     FILE *kept = fopen(name, "w");
-    if (!kept || fputs(cycle->report.text, kept) < 0 || fflush(kept) || fsync(fileno(kept)) || fclose(kept)) give_up_by_errno(name);
+    if (!kept || fputs(map->text, kept) < 0 || fflush(kept) || fsync(fileno(kept)) || fclose(kept)) give_up_by_errno(name);
 }
 
-/* Gives the power back, and checks. Returns whether there was a report of the whole region. */
+/* Gives the power back, and checks. Returns whether there is a report of the whole region: no
+ * checked block of it that couldn't be read. */
 static bool check_cycle(const struct options *options, const struct job *job, const struct region *region, const struct folder *folder, struct cycle *cycle) {
     const struct hello hello = {.depth = job->depth, .region = *region};
     if (run_command(options->on, NULL, 0)) give_up(options->on, "it didn't give the power back");
     struct link link = open_link(options->link, &hello, job, options->wait);
-    check_job(job, &link, cycle->tally.state, cycle->tally.state_length, &cycle->report);
-    keep_report(folder, cycle);
-    return read_report(cycle) && !strstr(cycle->report.text, " end read ");
+    static struct map map;
+    cycle->report.status = map_job(job, &link, cycle->tally.state, cycle->tally.state_length, &map);
+    snprintf(cycle->report.text, sizeof cycle->report.text, "%s", report_of_map(&map));
+    keep_report(folder, cycle, &map);
+    count_kinds(map.text, cycle->kinds);
+    free_map(&map);
+    bool is_whole = cycle->report.status == STATUS_SOUND || cycle->report.status == STATUS_FAULTS;
+    return read_report(cycle) && is_whole;
 }
 
 /* Writes, and has the power cut. */

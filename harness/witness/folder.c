@@ -76,13 +76,26 @@ struct folder open_folder(const struct options *options, const struct job *job, 
     return folder;
 }
 
+/* The kinds of a cycle's faults as an object of JSON. */
+static void spell_kinds(const char *kinds, char text[MAX_LINE / 2]) {
+    size_t length = 0;
+    char kind[32];
+    uint64_t count;
+    int used;
+    for (; sscanf(kinds, " %31s %" SCNu64 "%n", kind, &count, &used) == 2; kinds += used)
+        length += (size_t)snprintf(text + length, MAX_LINE / 2 - length, "%s\"%s\": %" PRIu64, length ? ", " : "", kind, count);
+    text[length] = 0;
+}
+
 static size_t line_of(const struct cycle *cycle, char line[MAX_LINE]) {
     const struct tally *tally = &cycle->tally;
+    char kinds[MAX_LINE / 2];
+    spell_kinds(cycle->kinds, kinds);
     return (size_t)snprintf(line, MAX_LINE,
                             "{\"cycle\": %" PRIu64 ", \"run\": \"%" PRIu64 "\", \"cut_after\": %.3f, \"seconds\": %.3f, \"cut\": %s, \"ordered\": %" PRIu64
-                            ", \"told\": %" PRIu64 ", \"failed\": %" PRIu64 ", \"in_flight\": %" PRIu64 ", \"checked\": %" PRIu64 ", \"faults\": %" PRIu64 "}\n",
+                            ", \"told\": %" PRIu64 ", \"failed\": %" PRIu64 ", \"in_flight\": %" PRIu64 ", \"checked\": %" PRIu64 ", \"faults\": %" PRIu64 ", \"kinds\": {%s}}\n",
                             cycle->number, tally->run, (double)cycle->cut_after / 1000, (double)tally->milliseconds / 1000, tally->is_cut ? "true" : "false", tally->ordered,
-                            tally->told, tally->failed, in_flight(tally), cycle->checked, cycle->faults);
+                            tally->told, tally->failed, in_flight(tally), cycle->checked, cycle->faults, kinds);
 }
 
 void keep_cycle(struct folder *folder, const struct cycle *cycle, bool json) {
@@ -97,7 +110,8 @@ void keep_cycle(struct folder *folder, const struct cycle *cycle, bool json) {
     folder->unchecked += cycle->checked == 0;
     if (json) fputs(line, stdout);
     else
-        printf("cycle %" PRIu64 ": run %" PRIu64 ", %" PRIu64 " ordered, %" PRIu64 " told, %" PRIu64 " in flight, %" PRIu64 " checked, %" PRIu64 " faults, %.1f s\n",
-               cycle->number, tally->run, tally->ordered, tally->told, in_flight(tally), cycle->checked, cycle->faults, (double)tally->milliseconds / 1000);
+        printf("cycle %" PRIu64 ": run %" PRIu64 ", %" PRIu64 " ordered, %" PRIu64 " told, %" PRIu64 " in flight, %" PRIu64 " checked, %" PRIu64 " faults%s%s, %.1f s\n",
+               cycle->number, tally->run, tally->ordered, tally->told, in_flight(tally), cycle->checked, cycle->faults, *cycle->kinds ? ": " : "", cycle->kinds,
+               (double)tally->milliseconds / 1000);
     fflush(stdout);
 }

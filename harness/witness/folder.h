@@ -4,6 +4,7 @@
 #define FOLDER_H
 
 #include "job.h"
+#include "kinds.h"
 #include "options.h"
 #include "report.h"
 #include "run.h"
@@ -16,6 +17,7 @@ struct cycle {
     struct tally tally;
     struct report report;
     uint64_t checked, faults;
+    char kinds[KIND_WORDS]; /* of the faults, and how many of each: `lost 4 torn 1` */
 };
 
 struct folder {

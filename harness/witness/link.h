@@ -13,9 +13,9 @@ struct link {
     struct welcome welcome;
 };
 
-/* Starts the command, says hello, with the job file behind it where the hello wants that, and waits for the welcome: a new start where none comes, until so
- * many seconds are over. Where an agent refuses, or what answers is none, or nothing answers, the
- * witness gives up. */
+/* Starts the command, says hello, with the job file behind it where the hello wants that, and waits
+ * for the welcome: a new start where none comes, until so many seconds are over. Where an agent
+ * refuses, or what answers is none, or nothing answers, the witness gives up. */
 struct link open_link(const char *command, const struct hello *hello, const struct job *job, uint64_t seconds);
 
 /* Says what the agent has opened, and what of it makes a verdict weaker. */

@@ -2,6 +2,7 @@
  * as done. docs/DRIVE.md is the manual. */
 #include "commands.h"
 
+#include "map.h"
 #include "report.h"
 #include "run.h"
 #include "say.h"
@@ -23,15 +24,30 @@ int write_by_agent(const struct options *options, const struct job *job) {
     return tally.failed ? STATUS_FAILED : STATUS_SOUND;
 }
 
+/* A link to an agent that reads, by the region of the state. */
+static struct link open_for_state(const struct options *options, const struct job *job) {
+    const struct region region = region_of_state(options->place, job, options->offset, options->stride);
+    const struct hello hello = {.depth = job->depth, .region = region};
+    return open_link(options->link, &hello, job, options->wait);
+}
+
 int check_by_agent(const struct options *options, const struct job *job) {
     static uint8_t state[MAX_STATE];
     static struct report report;
     size_t length = read_state(options->place, state);
-    const struct region region = region_of_state(options->place, job, options->offset, options->stride);
-    const struct hello hello = {.depth = job->depth, .region = region};
-    struct link link = open_link(options->link, &hello, job, options->wait);
+    struct link link = open_for_state(options, job);
     check_job(job, &link, state, length, &report);
     return tell_report(&report);
+}
+
+int map_by_agent(const struct options *options, const struct job *job) {
+    static uint8_t state[MAX_STATE];
+    static struct map map;
+    size_t length = read_state(options->place, state);
+    struct link link = open_for_state(options, job);
+    int status = tell_map(&map, map_job(job, &link, state, length, &map));
+    free_map(&map);
+    return status;
 }
 
 int main(int count, char **words) {
@@ -42,6 +58,7 @@ int main(int count, char **words) {
     switch (options.command) {
     case WRITE: return write_by_agent(&options, &job);
     case CHECK: return check_by_agent(&options, &job);
+    case MAP: return map_by_agent(&options, &job);
     default: return cycle_by_agent(&options, &job);
     }
 }

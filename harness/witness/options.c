@@ -10,6 +10,7 @@
 static const char USAGE[] =
     "usage: drive-witness write JOBFILE STATE --link COMMAND [OPTIONS]    has an agent write, until the link ends, and keeps the state\n"
     "       drive-witness check JOBFILE STATE --link COMMAND [OPTIONS]    checks what an agent reads by that state\n"
+    "       drive-witness map JOBFILE STATE --link COMMAND [OPTIONS]      the same, and tells what each faulty block holds\n"
     "       drive-witness cycle JOBFILE FOLDER --link COMMAND --off COMMAND --on COMMAND [OPTIONS]\n"
     "                                                    writes, cuts, checks, again and again, and keeps all in FOLDER\n"
     "  --link COMMAND    a shell runs it: the way to drive-agent, as 'ssh dut drive-agent /dev/disk/by-id/X'\n"
@@ -58,9 +59,9 @@ static void refuse_missing(const struct options *read) {
 /* The command that the first word names, with two words behind it. Else the program says how it
  * goes, and ends. */
 static enum command read_command(int count, char **words) {
-    const char *const names[] = {"write", "check", "cycle"};
+    const char *const names[] = {"write", "check", "map", "cycle"};
     bool asks = asks_for_help(count, words);
-    for (int at = 0; at < 3; at++)
+    for (int at = 0; at < 4; at++)
         if (count > 3 && !strcmp(words[1], names[at])) return (enum command)(1 << at);
     fputs(USAGE, asks ? stdout : stderr);
     exit(asks ? STATUS_SOUND : STATUS_FAILED);
@@ -69,7 +70,7 @@ static enum command read_command(int count, char **words) {
 struct options read_options(int count, char **words) {
     struct options read = {.command = read_command(count, words)};
     const char *every = "1..10";
-    const int all_commands = WRITE | CHECK | CYCLE;
+    const int all_commands = WRITE | CHECK | MAP | CYCLE;
     const struct option all[] = {
         {"--link", &read.link, 0, 0, all_commands},
         {"--job", 0, &read.job, 0, all_commands},

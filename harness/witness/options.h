@@ -5,7 +5,7 @@
 #include <stdbool.h>
 #include <stdint.h>
 
-enum command { WRITE = 1, CHECK = 2, CYCLE = 4 };
+enum command { WRITE = 1, CHECK = 2, MAP = 4, CYCLE = 8 };
 
 struct options {
     enum command command;

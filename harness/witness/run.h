@@ -35,4 +35,9 @@ struct tally run_job(const struct options *options, const struct job *job, struc
 struct report;
 void check_job(const struct job *job, struct link *link, const uint8_t *state, size_t length, struct report *report);
 
+
+/* The same, and keeps what `drive map` says of each faulty block. Returns its status. */
+struct map;
+int map_job(const struct job *job, struct link *link, const uint8_t *state, size_t length, struct map *map);
+
 #endif

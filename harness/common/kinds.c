@@ -1,0 +1,82 @@
+#include "kinds.h"
+
+#include "say.h"
+
+#include <errno.h>
+#include <inttypes.h>
+#include <stdbool.h>
+#include <stdio.h>
+#include <stdlib.h>
+#include <string.h>
+
+enum { ROW = 64 };
+
+static const struct { const char *word; char letter; } ALL[KINDS] = {
+    {"unwritten", '0'}, {"filled", 'F'}, {"lost", 'L'}, {"unissued", 'U'}, {"other-run", 'R'},
+    {"misdirected", 'M'}, {"torn", 'T'}, {"corrupt", 'C'}, {"unread", '?'},
+};
+
+/* Reads the front of a line, as `block 5 lost: ..`. Returns its kind, or -1 where it is another. */
+static int kind_of(const char *line, uint64_t *block) {
+    char word[32];
+    if (sscanf(line, "block %" SCNu64 " %31[a-z-]:", block, word) != 2) return -1;
+    for (int kind = 0; kind < KINDS; kind++)
+        if (!strcmp(word, ALL[kind].word)) return kind;
+    return -1;
+}
+
+static const char *next_line(const char *line) {
+    const char *end = strchr(line, '\n');
+    return end && end[1] ? end + 1 : NULL;
+}
+
+/* Counts the blocks of each kind. Returns how many there are. */
+static uint64_t count_each(const char *lines, uint64_t counts[KINDS]) {
+    uint64_t block, all = 0;
+    memset(counts, 0, KINDS * sizeof *counts);
+    for (const char *line = lines; line; line = next_line(line)) {
+        int kind = kind_of(line, &block);
+        if (kind >= 0) counts[kind]++, all++;
+    }
+    return all;
+}
+
+void count_kinds(const char *lines, char words[KIND_WORDS]) {
+    uint64_t counts[KINDS];
+    size_t length = 0;
+    count_each(lines, counts);
+    words[0] = 0;
+    for (int kind = 0; kind < KINDS; kind++)
+        if (counts[kind]) length += (size_t)snprintf(words + length, KIND_WORDS - length, "%s%s %" PRIu64, length ? " " : "", ALL[kind].word, counts[kind]);
+}
+
+/* Marks the blocks of a line `unchecked 5-9 12-12`. Returns whether it is one, with any. */
+static bool mark_unchecked(const char *line, char *letters, uint64_t blocks) {
+    uint64_t from, to;
+    int used;
+    bool has_any = false;
+    if (strncmp(line, "unchecked", 9)) return false;
+    for (line += 9; sscanf(line, " %" SCNu64 "-%" SCNu64 "%n", &from, &to, &used) == 2; line += used, has_any = true)
+        for (uint64_t block = from; block <= to && block < blocks; block++) letters[block] = '-';
+    return has_any;
+}
+
+void print_picture(const char *lines, uint64_t blocks) {
+    uint64_t counts[KINDS], block;
+    bool has_unchecked = false;
+    char *letters = malloc(blocks);
+    if (!letters) give_up("memory", strerror(ENOMEM));
+    memset(letters, '.', blocks);
+    for (const char *line = lines; line; line = next_line(line)) {
+        int kind = kind_of(line, &block);
+        if (kind >= 0 && block < blocks) letters[block] = ALL[kind].letter;
+        else has_unchecked |= mark_unchecked(line, letters, blocks);
+    }
+    for (block = 0; block < blocks; block += ROW) printf("%7" PRIu64 " %.*s\n", block, (int)(blocks - block < ROW ? blocks - block : ROW), letters + block);
+    printf("        . sound%s", has_unchecked ? "  - unchecked" : "");
+    count_each(lines, counts);
+    for (int kind = 0; kind < KINDS; kind++)
+        if (counts[kind]) printf("  %c %s", ALL[kind].letter, ALL[kind].word);
+    printf("\n");
+    free(letters);
+}

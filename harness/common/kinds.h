@@ -1,0 +1,18 @@
+/* What faulty blocks hold, by the lines of `drive map`. */
+#ifndef KINDS_H
+#define KINDS_H
+
+#include <stddef.h>
+#include <stdint.h>
+
+/* The kinds, in the order in which they are told. */
+enum { KINDS = 9, KIND_WORDS = 256 };
+
+/* Puts `lost 4 torn 1` there: how many blocks are told of each kind, and nothing where none is. */
+void count_kinds(const char *lines, char words[KIND_WORDS]);
+
+/* Prints a picture of a region: a character a block, 64 in a row, and what the letters stand
+ * for. */
+void print_picture(const char *lines, uint64_t blocks);
+
+#endif

@@ -1,0 +1,113 @@
+#include "map.h"
+
+#include "bytes.h"
+#include "drive.h"
+#include "kinds.h"
+#include "report.h"
+#include "say.h"
+
+#include <errno.h>
+#include <inttypes.h>
+#include <stdio.h>
+#include <stdlib.h>
+#include <string.h>
+#include <sys/uio.h>
+#include <time.h>
+#include <unistd.h>
+
+enum { AT_ONCE = 512, STEP = 1 << 16 };
+
+static void *read_all_lines(void *given) {
+    struct map *map = given;
+    size_t room = 0;
+    for (;;) {
+        if (map->length + STEP >= room) {
+            room = 2 * room + 2 * STEP;
+            map->text = realloc(map->text, room);
+            if (!map->text) give_up("memory", strerror(ENOMEM));
+        }
+        ssize_t count = read_all(map->drive.from, map->text + map->length, STEP);
+        if (count > 0) map->length += (size_t)count;
+        if (count < STEP) break;
+    }
+    map->text[map->length] = 0;
+    return NULL;
+}
+
+void open_map(struct map *map, uint64_t run, const struct job *job, const struct region *region, const uint8_t *state, size_t length) {
+    *map = (struct map){.region = *region, .total = region->blocks, .next_line = time(NULL) + 2};
+    map->drive = start_drive("map", run, job, CHILD_READS | CHILD_WRITES);
+    feed(&map->drive, state, length);
+    int error = pthread_create(&map->reader, NULL, read_all_lines, map);
+    if (error) give_up("threads", strerror(error));
+}
+
+/* Says how far it is, once in two seconds. */
+static void say_progress(struct map *map) {
+    if (time(NULL) < map->next_line) return;
+    map->next_line = time(NULL) + 2;
+    say("%" PRIu64 " of %" PRIu64 " blocks", map->seen, map->total);
+}
+
+/* Writes all pieces. */
+static bool write_pieces(int to, struct iovec *pieces, int count) {
+    while (count > 0) {
+        ssize_t written = writev(to, pieces, count);
+        if (written < 0 && errno == EINTR) continue;
+        if (written < 0) return false;
+        for (; count > 0 && (size_t)written >= pieces->iov_len; pieces++, count--) written -= (ssize_t)pieces->iov_len;
+        if (count > 0) pieces->iov_base = (uint8_t *)pieces->iov_base + written, pieces->iov_len -= (size_t)written;
+    }
+    return true;
+}
+
+bool map_blocks(struct map *map, const void *bytes, size_t length) {
+    static uint8_t is_read = 1;
+    size_t size = map->region.block_size;
+    for (size_t at = 0; at < length;) {
+        struct iovec pieces[2 * AT_ONCE];
+        int count = 0;
+        for (; count < 2 * AT_ONCE && at < length; at += size) {
+            pieces[count++] = (struct iovec){&is_read, 1};
+            pieces[count++] = (struct iovec){(uint8_t *)(uintptr_t)bytes + at, size};
+        }
+        map->seen += (uint64_t)count / 2;
+        if (!write_pieces(map->drive.to, pieces, count)) return false;
+    }
+    say_progress(map);
+    return true;
+}
+
+bool map_missed(struct map *map) {
+    map->seen++;
+    return write_all(map->drive.to, "", 1) == 0;
+}
+
+int await_map(struct map *map) {
+    end_input(&map->drive);
+    pthread_join(map->reader, NULL);
+    int status = wait_for(&map->drive);
+    if (status < 0) give_up("drive", "it was killed");
+    return status;
+}
+
+const char *report_of_map(const struct map *map) {
+    const char *end = map->length > 1 ? memrchr(map->text, '\n', map->length - 1) : NULL;
+    return end ? end + 1 : map->text;
+}
+
+int tell_map(const struct map *map, int status) {
+    const char *last = report_of_map(map);
+    char kinds[KIND_WORDS];
+    count_kinds(map->text, kinds);
+    if (isatty(STDOUT_FILENO) && !strncmp(last, "report ", 7)) print_picture(map->text, map->total);
+    fwrite(map->text, 1, (size_t)(last - map->text), stdout);
+    if (*kinds) printf("kinds %s\n", kinds);
+    struct report report = {.status = status};
+    snprintf(report.text, sizeof report.text, "%s", last);
+    return tell_report(&report);
+}
+
+void free_map(struct map *map) {
+    free(map->text);
+}

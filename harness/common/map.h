@@ -1,0 +1,45 @@
+/* What `drive map` says of a target's blocks: those that are at fault, and what each holds. */
+#ifndef MAP_H
+#define MAP_H
+
+#include "child.h"
+#include "job.h"
+#include "region.h"
+
+#include <pthread.h>
+#include <stdbool.h>
+#include <stddef.h>
+#include <stdint.h>
+
+struct map {
+    struct child drive;
+    struct region region;
+    pthread_t reader; /* takes what `drive` says while it is still given blocks */
+    char *text;       /* all of that, with a 0 behind it */
+    size_t length;
+    uint64_t seen, total; /* blocks that were given, and those of the region */
+    int64_t next_line;    /* when it is said next how far it is */
+};
+
+/* Starts `drive map`, and gives it the job file and the state, of length 0 for none. */
+void open_map(struct map *map, uint64_t run, const struct job *job, const struct region *region, const uint8_t *state, size_t length);
+
+/* Gives it the next blocks, whole; and tells it that the next one can't be read. False once it
+ * reads no more. */
+bool map_blocks(struct map *map, const void *bytes, size_t length);
+bool map_missed(struct map *map);
+
+/* Ends its input, and waits for all that it says. Returns its status. Where a signal ended it, the
+ * harness gives up. */
+int await_map(struct map *map);
+
+/* Prints it, with the sums of its kinds before the report, and on a terminal behind a picture of
+ * the region. Returns the status that it comes to. */
+int tell_map(const struct map *map, int status);
+
+/* The last line of what it said: the report, or why there is none. */
+const char *report_of_map(const struct map *map);
+
+void free_map(struct map *map);
+
+#endif

@@ -1,0 +1,111 @@
+"""What a map tells of each faulty block: bytes by the manual's layout, and the lines that are due."""
+import json
+import os
+import pty
+import subprocess
+
+from trying import BLOCK, LIAR, TARGET, job, put, read, report, run, run_of, stamp, tell, tell_has, write
+from witness import counted, link, witness
+
+
+def mapped(faults, checked, kinds, unchecked=""):
+    """What `map` prints of these faulty blocks, each with its line, and what was checked."""
+    lines = "".join(f"block {block} {line}\n" for block, line in sorted(faults.items()))
+    sums = f"kinds {kinds}\n" if kinds else ""
+    blamed = [block for block, line in faults.items() if not line.startswith("unread")]
+    return f"{lines}unchecked{unchecked}\n{sums}{report(blamed, checked)}"
+
+
+def written(log):
+    """The writes to each block, in their order, by the log of the target."""
+    of_block = {}
+    for _, block, number in (line.split() for line in log.decode().splitlines()):
+        of_block.setdefault(int(block), []).append(int(number))
+    return of_block
+
+
+def harm(data, run_number, of_block):
+    """Harms a block by each kind there is, and returns the lines that are due."""
+    last = {block: max(numbers) for block, numbers in of_block.items()}
+    first = {block: min(numbers) for block, numbers in of_block.items()}
+    half = BLOCK // 2
+    put(data, 0, bytes(BLOCK))
+    put(data, 2, b"\xff" * BLOCK)
+    put(data, 3, stamp(run_number, 0, first[3], 3))
+    put(data, 4, stamp(run_number, 0, 500, 4))
+    put(data, 5, stamp(run_number + 1, 0, last[5], 5))
+    put(data, 6, stamp(run_number, 0, last[7], 7))
+    put(data, 8, stamp(run_number, 0, last[8], 8)[:half] + stamp(run_number, 0, first[8], 8)[half:])
+    data[9 * BLOCK + 1000] ^= 1
+    put(data, 63, stamp(run_number, 0, first[63], 63))
+    held = {
+        0: ("unwritten", ""),
+        2: ("filled", ", holds byte 255"),
+        3: ("lost", f", holds write {first[3]}"),
+        4: ("unissued", ", holds write 500"),
+        5: ("other-run", f", holds write {last[5]} of block 5 of job 0 of server 0 of run {run_number + 1}"),
+        6: ("misdirected", f", holds write {last[7]} of block 7 of job 0 of server 0 of run {run_number}"),
+        8: ("torn", ""),
+        9: ("corrupt", ", unknown sectors 1"),
+        63: ("lost", f", holds write {first[63]}"),
+    }
+    return {block: f"{kind}: wants write {last[block]}{what}" for block, (kind, what) in held.items()}
+
+
+KINDS = "unwritten 1 filled 1 lost 2 unissued 1 other-run 1 misdirected 1 torn 1 corrupt 1"
+
+
+def maps():
+    """Each kind at its block, by drive-target and by a witness; and a block that can't be read."""
+    env = {"LD_PRELOAD": LIAR, "LIE_LOG": "map-log", "LIE_TARGET": "/mapped"}
+    tell("a run to be mapped", run("write", "two.fio", "mapped", "ms", env=env)[0], 0)
+    tell("a map of what is sound", run("map", "two.fio", "mapped", "ms")[:2], (0, mapped({}, 64, "")))
+    data, of_block = bytearray(read("mapped")), written(read("map-log"))
+    due = harm(data, run_of("ms"), of_block)
+    write("mapped", bytes(data))
+    tell("a map", run("map", "two.fio", "mapped", "ms")[:2], (1, mapped(due, 64, KINDS)))
+    tell("a map by a witness", witness("map", "two.fio", "ms", *link("mapped"))[:2], (1, mapped(due, 64, KINDS)))
+    env = {"LD_PRELOAD": LIAR, "LIE_UNREADABLE": str(10 * BLOCK + 7), "LIE_TARGET": "/mapped"}
+    due[10] = f"unread: wants write {max(of_block[10])}"
+    for what, (status, printed, said) in (
+        ("drive-target", run("map", "two.fio", "mapped", "ms", env=env)),
+        ("a witness", witness("map", "two.fio", "ms", *link("mapped"), env=env)),
+    ):
+        tell(f"an unreadable block costs no other, by {what}", (status, printed), (2, mapped(due, 63, f"{KINDS} unread 1")))
+        tell_has(f"and why, by {what}", said, "block 10 can't be read: Input/output error")
+    pictures(due)
+    unchecked()
+
+
+def pictures(due):
+    """On a terminal a picture of the region stands before the lines."""
+    ours, theirs = pty.openpty()
+    ran = subprocess.Popen([TARGET, "map", "two.fio", "mapped", "ms"], stdout=theirs, stderr=subprocess.DEVNULL)
+    ran.wait(30)
+    os.close(theirs)
+    shown = os.read(ours, 65536).decode().replace("\r", "")
+    os.close(ours)
+    letters = {"unwritten": "0", "filled": "F", "lost": "L", "unissued": "U", "other-run": "R", "misdirected": "M", "torn": "T", "corrupt": "C"}
+    row = "".join(letters.get(due[at].split(":")[0], ".") if at in due else "." for at in range(64))
+    tell("the picture", shown.splitlines()[0], f"      0 {row}")
+    tell_has("what its letters stand for", shown, "        . sound  0 unwritten  F filled  L lost")
+
+
+def unchecked():
+    """Blocks that no write has completed to are told as unchecked; and the kinds of a cycle."""
+    env = {"LD_PRELOAD": LIAR, "LIE_LOG": "few-log", "LIE_TARGET": "/few"}
+    tell("a few writes", run("write", job("few.fio", writes=64), "few", "fs2", "--after", "20", env=env)[0], 0)
+    _, done = counted(read("fs2"))
+    checked = {block for block, numbers in written(read("few-log")).items() if set(numbers) & done}
+    extents = ""
+    for block in range(64):
+        if block not in checked:
+            extents += f" {block}" if block == 0 or block - 1 in checked else ""
+            extents += f"-{block}" if block == 63 or block + 1 in checked else ""
+    tell("blocks that aren't checked", run("map", "few.fio", "few", "fs2")[:2], (0, mapped({}, len(checked), "", extents)))
+    env = {"LD_PRELOAD": LIAR, "LIE": "lost:3", "LIE_TARGET": "/cm"}
+    off = ("--off", "kill -KILL $(cat agent)", "--on", "true", "--every", "0.2..0.3", "--seed", "5")
+    _, printed, _ = witness("cycle", "long.fio", "kinds", *link("cm"), *off, "--cycles", "1", "--json", env=env)
+    row = json.loads(printed)
+    tell("a cycle tells the kinds of its faults", (sum(row["kinds"].values()), row["kinds"].get("unwritten", 0) > 0), (row["faults"], True))
+    tell_has("and keeps their lines", read("kinds/cycle-000001.report").decode(), " unwritten: wants write ")
