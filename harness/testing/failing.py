@@ -29,7 +29,7 @@ def failures():
 def stalled():
     """A write that never comes back keeps neither the state nor the cut."""
     env = {**os.environ, "LD_PRELOAD": LIAR, "LIE_TARGET": "/failing", "LIE": "stalled:50"}
-    for what, words in (("SIGTERM", []), ("a cut", ["--after", "45", "--cut", "touch was-cut"])):
+    for what, words in (("SIGTERM", []), ("a cut", ["--after", "45", "--cut", "touch cut-at-once"])):
         ran = subprocess.Popen([TARGET, "write", "fail.fio", "failing", "fs", *words], env=env, **QUIET)
         if not words:
             time.sleep(1)
@@ -37,7 +37,7 @@ def stalled():
         tell(f"a write that never comes back, and {what}: the status", ended(ran, 20), 0)
         _, printed, _ = run("check", "fail.fio", "failing", "fs")
         tell_has(f"a write that never comes back, and {what}: the check", printed, "faults 0 end whole first -")
-    tell("the power was cut while it was out", os.path.exists("was-cut"), True)
+    tell("the power was cut while it was out", os.path.exists("cut-at-once"), True)
 
 
 def ended(ran, seconds):
