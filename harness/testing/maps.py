@@ -24,6 +24,11 @@ def written(log):
     return of_block
 
 
+def pieces(*rows):
+    """What is told of the sectors of a block: from which to which, and whose they are."""
+    return "".join(f"; {front}-{back} " + (f"{whose} place {back}" if whose else "unknown") for front, back, whose in rows)
+
+
 def harm(data, run_number, of_block):
     """Harms a block by each kind there is, and returns the lines that are due."""
     last = {block: max(numbers) for block, numbers in of_block.items()}
@@ -38,15 +43,19 @@ def harm(data, run_number, of_block):
     put(data, 8, stamp(run_number, 0, last[8], 8)[:half] + stamp(run_number, 0, first[8], 8)[half:])
     data[9 * BLOCK + 1000] ^= 1
     put(data, 63, stamp(run_number, 0, first[63], 63))
+
+    def said(number, block):
+        return f"write {number} of block {block} of job 0 of server 0 of run {run_number}"
+
     held = {
         0: ("unwritten", ""),
         2: ("filled", ", holds byte 255"),
         3: ("lost", f", holds write {first[3]}"),
         4: ("unissued", ", holds write 500"),
         5: ("other-run", f", holds write {last[5]} of block 5 of job 0 of server 0 of run {run_number + 1}"),
-        6: ("misdirected", f", holds write {last[7]} of block 7 of job 0 of server 0 of run {run_number}"),
-        8: ("torn", ""),
-        9: ("corrupt", ", unknown sectors 1"),
+        6: ("misdirected", f", holds {said(last[7], 7)}"),
+        8: ("torn", pieces((0, 3, said(last[8], 8)), (4, 7, said(first[8], 8)))),
+        9: ("corrupt", ", unknown sectors 1" + pieces((0, 0, said(last[9], 9)), (1, 1, None), (2, 7, said(last[9], 9)))),
         63: ("lost", f", holds write {first[63]}"),
     }
     return {block: f"{kind}: wants write {last[block]}{what}" for block, (kind, what) in held.items()}

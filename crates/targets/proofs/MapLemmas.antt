@@ -26,7 +26,7 @@ use Rattle.targets.specs.Jobs.{Refuses}
 use Rattle.targets.specs.Reports.{report_line, report_status}
 use Rattle.targets.specs.MapInput.{block_code, EndsInBlock, IsPart, NoBlock}
 use Rattle.targets.specs.MapLines.{line_if_any, line_words, unchecked_line}
-use Rattle.targets.specs.Maps.{AreOf, AreTold, Cell, HasCome, MapsTarget, Reports, Tells, has_line, is_sound, is_unread, lines_of, read_blocks}
+use Rattle.targets.specs.Maps.{AreOf, AreTold, Cell, HasCome, MapsTarget, Reports, Tells, bytes_in, has_line, is_sound, is_unread, lines_of, read_blocks}
 use Rattle.targets.specs.Mapping.{GoesOn, IsReady, HasTaken, TakesBlock}
 use Rattle.targets.specs.MapJobs.{status_with}
 use Rattle.targets.proofs.CheckLemmas.{known_rest}
@@ -72,31 +72,38 @@ sound_is : (e : Expected) (block : ℕ) (bytes : Option (List ℕ)) (told : Told
     → is_sound e (record { block = block; bytes = bytes; told = told }) ≡ is_expected e block held
 sound_is e block bytes told held is = ap (λ (bs : Option (List ℕ)). is_sound e (record { block = block; bytes = bs; told = told })) is
 
-line_if : (e : Expected) (block : ℕ) (bytes : Option (List ℕ)) (told : Told) → Tells e block bytes told
-    → flat_map (λ (c : Cell). line_words e c.block c.told) (filter (has_line e) (record { block = block; bytes = bytes; told = told } ∷ [])) ≡ line_if_any e block told
-line_if e block bytes tolds.Unchecked tells =
-    one_line (has_line e) (λ (c : Cell). line_words e c.block c.told) _ false (ap (λ b. b && not (is_sound e (record { block = block; bytes = bytes; told = tolds.Unchecked }))) tells)
-line_if e block bytes tolds.Unread (checked, none) =
-    one_line (has_line e) (λ (c : Cell). line_words e c.block c.told) _ true
+line_if : (e : Expected) (block : ℕ) (bytes : Option (List ℕ)) (told : Told) (buffer : List ℕ) → Tells e block bytes told
+    → IfSome bytes (λ l. buffer ≡ l)
+    → flat_map (λ (c : Cell). line_words e c.block (bytes_in c.bytes) c.told) (filter (has_line e) (record { block = block; bytes = bytes; told = told } ∷ []))
+    ≡ line_if_any e block buffer told
+line_if e block bytes tolds.Unchecked buffer tells here =
+    one_line (has_line e) (λ (c : Cell). line_words e c.block (bytes_in c.bytes) c.told) _ false
+    (ap (λ b. b && not (is_sound e (record { block = block; bytes = bytes; told = tolds.Unchecked }))) tells)
+line_if e block bytes tolds.Unread buffer (checked, none) here =
+    one_line (has_line e) (λ (c : Cell). line_words e c.block (bytes_in c.bytes) c.told) _ true
     (ap (λ b. b && not (is_sound e (record { block = block; bytes = bytes; told = tolds.Unread }))) checked
     ∙ ap (λ (bs : Option (List ℕ)). not (is_sound e (record { block = block; bytes = bs; told = tolds.Unread }))) none)
-line_if e block bytes tolds.Sound (checked, (held, is, expected)) =
-    one_line (has_line e) (λ (c : Cell). line_words e c.block c.told) _ false
+line_if e block bytes tolds.Sound buffer (checked, (held, is, expected)) here =
+    one_line (has_line e) (λ (c : Cell). line_words e c.block (bytes_in c.bytes) c.told) _ false
     (ap (λ b. b && not (is_sound e (record { block = block; bytes = bytes; told = tolds.Sound }))) checked
     ∙ ap not (sound_is e block bytes tolds.Sound held is ∙ expected))
-line_if e block bytes (tolds.Fault kind) (checked, (held, is, unexpected, holds)) =
-    one_line (has_line e) (λ (c : Cell). line_words e c.block c.told) _ true
+line_if e block bytes (tolds.Fault kind) buffer (checked, (held, is, unexpected, holds)) here =
+    let same : buffer ≡ held = subst (λ (bs : Option (List ℕ)). IfSome bs (λ l. buffer ≡ l)) is here in
+    one_line (has_line e) (λ (c : Cell). line_words e c.block (bytes_in c.bytes) c.told) _ true
     (ap (λ b. b && not (is_sound e (record { block = block; bytes = bytes; told = tolds.Fault kind }))) checked
     ∙ ap not (sound_is e block bytes (tolds.Fault kind) held is ∙ unexpected))
+    ∙ ap (λ (bs : Option (List ℕ)). line_words e block (bytes_in bs) (tolds.Fault kind)) is
+    ∙ ap (λ l. line_words e block l (tolds.Fault kind)) (sym same)
 
-lines_more : (e : Expected) (cells : List Cell) (block : ℕ) (bytes : Option (List ℕ)) (told : Told) → Tells e block bytes told
-    → lines_of e (cells ++ record { block = block; bytes = bytes; told = told } ∷ []) ≡ lines_of e cells ++ line_if_any e block told
-lines_more e cells block bytes told tells =
-    let f : Cell → List ℕ = λ c. line_words e c.block c.told in
+lines_more : (e : Expected) (cells : List Cell) (block : ℕ) (bytes : Option (List ℕ)) (told : Told) (buffer : List ℕ) → Tells e block bytes told
+    → IfSome bytes (λ l. buffer ≡ l)
+    → lines_of e (cells ++ record { block = block; bytes = bytes; told = told } ∷ []) ≡ lines_of e cells ++ line_if_any e block buffer told
+lines_more e cells block bytes told buffer tells here =
+    let f : Cell → List ℕ = λ c. line_words e c.block (bytes_in c.bytes) c.told in
     let cell : Cell = record { block = block; bytes = bytes; told = told } in
     ap (flat_map f) (filter-append (has_line e) cells (cell ∷ []))
     ∙ flat_map-append f (filter (has_line e) cells) (filter (has_line e) (cell ∷ []))
-    ∙ ap (λ l. lines_of e cells ++ l) (line_if e block bytes told tells)
+    ∙ ap (λ l. lines_of e cells ++ l) (line_if e block bytes told buffer tells here)
 
 -- The check has seen one block more, where it was read.
 seen_more : (old new : Check) (cells : List Cell) (block : ℕ) (bytes : Option (List ℕ)) (told : Told) (held : ℕ → List ℕ)
@@ -129,7 +136,7 @@ unread_kept false false = refl
 -- One block more.
 pub map_more : (e : Expected) (old new : Map) (count : ℕ) (first input left first_text text new_text : Option (List ℕ)) (told : Told)
     → HasMapped e old.check old.unread count first input first_text text → TakesBlock e old new count input left told
-    → Appends text new_text (line_if_any e count told) → HasMapped e new.check new.unread (count + 1) first left first_text new_text
+    → Appends text new_text (line_if_any e count new.bytes.items told) → HasMapped e new.check new.unread (count + 1) first left first_text new_text
 map_more e old new count first input left first_text text new_text told so_far takes wrote =
     let cell : Cell = record { block = count; bytes = takes.bytes; told = told } in
     let f : Cell → List ℕ = λ c. block_code c.bytes in
@@ -142,8 +149,8 @@ map_more e old new count first input left first_text text new_text told so_far t
       came = subst (Consumes first left)
           (sym (flat_map-append f so_far.cells (cell ∷ []) ∙ ap (λ l. flat_map f so_far.cells ++ l) (append-nil (block_code takes.bytes))))
           (Consumes-trans first input left (flat_map f so_far.cells) (block_code takes.bytes) so_far.came takes.came);
-      written = subst (Appends first_text new_text) (sym (lines_more e so_far.cells count takes.bytes told takes.tells))
-          (Appends-trans first_text text new_text (lines_of e so_far.cells) (line_if_any e count told) so_far.written wrote);
+      written = subst (Appends first_text new_text) (sym (lines_more e so_far.cells count takes.bytes told new.bytes.items takes.tells takes.here))
+          (Appends-trans first_text text new_text (lines_of e so_far.cells) (line_if_any e count new.bytes.items told) so_far.written wrote);
       seen = λ held are.
           let parts = of_more held so_far.cells cell are in
           seen_more old.check new.check so_far.cells count takes.bytes told held (so_far.seen held parts.0) takes.taken parts.1;

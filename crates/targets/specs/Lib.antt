@@ -11,6 +11,7 @@ pub mod Jobs
 pub mod Reports
 pub mod Command
 pub mod MapInput
+pub mod MapSectors
 pub mod MapLines
 pub mod Maps
 pub mod Mapping

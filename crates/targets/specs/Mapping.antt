@@ -37,6 +37,7 @@ pub record TakesBlock (e : Expected) (old new : Map) (block : ℕ) (input left :
   pub bytes : Option (List ℕ)
   pub came : Consumes input left (block_code bytes)
   pub whole : IfSome bytes (λ l. length l ≡ e.job.bs)
+  pub here : IfSome bytes (λ l. new.bytes.items ≡ l)
   pub tells : Tells e block bytes told
   pub taken : HasTaken old.check new.check block bytes
   pub unread : new.unread

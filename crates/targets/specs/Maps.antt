@@ -63,9 +63,15 @@ is_sound e cell = by cell.bytes
 abbrev pub has_line : Expected → Cell → Bool
 has_line e cell = is_checked e cell.block && not (is_sound e cell)
 
+-- The bytes of a block, or none where it could not be read: the line of such a one tells of none.
+abbrev pub bytes_in : Option (List ℕ) → List ℕ
+bytes_in None = []
+bytes_in (Some bytes) = bytes
+
 -- The lines of these blocks.
 abbrev pub lines_of : Expected → List Cell → List ℕ
-lines_of e cells = flat_map (λ c. line_words e c.block c.told) (filter (has_line e) cells)
+lines_of e cells =
+    flat_map (λ c. line_words e c.block (bytes_in c.bytes) c.told) (filter (has_line e) cells)
 
 -- A checked block could not be read.
 abbrev pub is_unread : Expected → Cell → Bool

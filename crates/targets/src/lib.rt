@@ -22,6 +22,7 @@ mod law;
 mod map;
 mod map_input;
 mod map_lines;
+mod map_sectors;
 mod map_unchecked;
 mod notice;
 mod order;

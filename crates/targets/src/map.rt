@@ -100,7 +100,7 @@ fn go_over<R: Read, W: Write>(mut map: Map, reader: &mut R, writer: &mut W) -> i
 {
     for block in 0..map.check.expected().rec().blocks() {
         match take_block(&mut map, block, reader) {
-            Ok(Some(told)) => write_told(writer, map.check.expected(), block, &told)?,
+            Ok(Some(told)) => write_told(writer, map.check.expected(), block, &map.bytes, &told)?,
             Ok(None) => {
                 write_unchecked(writer, map.check.expected())?;
                 let Map {

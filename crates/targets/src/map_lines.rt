@@ -1,13 +1,15 @@
 //! The line of a block of a map.
 
-ghost use Rattle.std.specs.Prelude.{OnOk, ◌++◌, codes, decimal};
+ghost use Rattle.std.specs.Prelude.{◌≡◌, OnOk, ◌++◌, length, codes, decimal};
 ghost use Rattle.std.specs.List.{flat_map};
 ghost use Rattle.std.specs.Io.KnownBytes.{Appends};
+ghost use Rattle.targets.specs.MapSectors.{sectors_words};
 ghost use Rattle.targets.specs.MapLines.{held_words, last_words, line_if_any, line_words, or_words, wanted_words, write_words};
 
+use crate::map_sectors::write_sectors;
 use crate::told::{Told, kind_word};
 use diagnosis::{Holds, Write as Written};
-use fc_base::{JobNo, RunNo, Seq, ServerNo};
+use fc_base::{JobNo, JobRecord, RunNo, Seq, ServerNo};
 use recheck::{Expected, Placed};
 use std::io;
 use std::io::Write;
@@ -17,16 +19,18 @@ pub(crate) fn write_told<W: Write>(
     writer: &mut W,
     expected: &Expected,
     block: u32,
+    bytes: &[u8],
     told: &Told,
 ) -> io::Result<()>
+    requires { length bytes.now ≡ expected.now.job.bs }
     ensures { OnOk result (Appends (W.contents writer.old) (W.contents writer.new)
-        (line_if_any expected.now block told.now)) }
+        (line_if_any expected.now block bytes.now told.now)) }
 {
     match told {
         Told::Unchecked => Ok(()),
         Told::Sound => Ok(()),
-        Told::Unread => write_line(writer, expected, block, told),
-        Told::Fault(_) => write_line(writer, expected, block, told),
+        Told::Unread => write_line(writer, expected, block, bytes, told),
+        Told::Fault(_) => write_line(writer, expected, block, bytes, told),
     }
 }
 
@@ -35,14 +39,16 @@ fn write_line<W: Write>(
     writer: &mut W,
     expected: &Expected,
     block: u32,
+    bytes: &[u8],
     told: &Told,
 ) -> io::Result<()>
+    requires { length bytes.now ≡ expected.now.job.bs }
     ensures { OnOk result (Appends (W.contents writer.old) (W.contents writer.new)
-        (line_words expected.now block told.now)) }
+        (line_words expected.now block bytes.now told.now)) }
 {
     write!(writer, "block {block} {}: wants write ", kind_word(told))?;
     write_wanted(writer, expected, block)?;
-    write_held(writer, told)?;
+    write_held(writer, &expected.rec(), bytes, told)?;
     writeln!(writer)
 }
 
@@ -91,9 +97,15 @@ fn write_or<W: Write>(writer: &mut W, block: u32, write: &Placed) -> io::Result<
 }
 
 /// Writes what the block holds, where that is more than its kind.
-fn write_held<W: Write>(writer: &mut W, told: &Told) -> io::Result<()>
+fn write_held<W: Write>(
+    writer: &mut W,
+    rec: &JobRecord,
+    bytes: &[u8],
+    told: &Told,
+) -> io::Result<()>
+    requires { length bytes.now ≡ rec.now.bs }
     ensures { OnOk result (Appends (W.contents writer.old) (W.contents writer.new)
-        (held_words told.now)) }
+        (held_words rec.now bytes.now told.now)) }
 {
     match told {
         Told::Fault(Holds::Filled(byte)) => write!(writer, ", holds byte {byte}"),
@@ -101,14 +113,29 @@ fn write_held<W: Write>(writer: &mut W, told: &Told) -> io::Result<()>
         Told::Fault(Holds::Unissued(seq)) => write_seq(writer, *seq),
         Told::Fault(Holds::OtherRun(write)) => write_write(writer, write),
         Told::Fault(Holds::Misdirected(write)) => write_write(writer, write),
-        Told::Fault(Holds::Corrupt(sectors)) => write!(writer, ", unknown sectors {sectors}"),
+        Told::Fault(Holds::Corrupt(sectors)) => write_corrupt(writer, rec, bytes, *sectors),
         Told::Fault(Holds::Sound) => Ok(()),
         Told::Fault(Holds::Unwritten) => Ok(()),
-        Told::Fault(Holds::Torn) => Ok(()),
+        Told::Fault(Holds::Torn) => write_sectors(writer, rec, bytes),
         Told::Unchecked => Ok(()),
         Told::Unread => Ok(()),
         Told::Sound => Ok(()),
     }
+}
+
+/// Writes how many sectors are unknown, and what each holds.
+fn write_corrupt<W: Write>(
+    writer: &mut W,
+    rec: &JobRecord,
+    bytes: &[u8],
+    sectors: u32,
+) -> io::Result<()>
+    requires { length bytes.now ≡ rec.now.bs }
+    ensures { OnOk result (Appends (W.contents writer.old) (W.contents writer.new)
+        (codes ", unknown sectors " ++ (decimal sectors ++ sectors_words rec.now bytes.now))) }
+{
+    write!(writer, ", unknown sectors {sectors}")?;
+    write_sectors(writer, rec, bytes)
 }
 
 /// Writes which write of the job to the block it holds.

@@ -5,6 +5,7 @@ mod fakes;
 mod flushes;
 mod inputs;
 mod map_inputs;
+mod map_kinds;
 mod maps;
 mod reads;
 mod runs;

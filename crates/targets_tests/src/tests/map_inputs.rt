@@ -7,6 +7,7 @@ use fake_io::{Source, in_steps, page_with, source_of};
 use fc_base::{JobNo, RunNo};
 use std::alloc::{AllocError, Global};
 use std::io::BufReader;
+use std::test::Fail;
 use targets::{map_job, write_job};
 
 /// Four writes to two blocks, where the first fault is fatal.
@@ -16,8 +17,14 @@ pub(super) const FATAL: &[u8] =
 /// Two writes to one block of two sectors.
 pub(super) const ONE_BLOCK: &[u8] = b"[a]\nrw=write\nbs=1k\nsize=1k\nio_size=2k\niodepth=2\n";
 
+/// Two writes to one block of four sectors.
+pub(super) const FOUR_SECTORS: &[u8] = b"[a]\nrw=write\nbs=2k\nsize=2k\nio_size=4k\niodepth=2\n";
+
 /// Six blocks, of which each is written once, all at once.
 pub(super) const SIX_BLOCKS: &[u8] = b"[a]\nrw=write\nbs=512\nsize=3k\niodepth=6\n";
+
+/// Writes 0 and 1 done, and 2 and 3 in flight.
+pub(super) const TWO_DONE: &[Tell] = &[Tell::Done(0), Tell::Done(1), Tell::Take];
 
 /// What a sector is made of.
 #[derive(Clone, Copy)]
@@ -157,4 +164,14 @@ pub(super) fn agrees(alloc: Global, row: &Row) -> Option<bool> {
         answers(alloc, RUN, source_of(&input), *status, lines)
             && answers(alloc, RUN, in_steps(&input, 100), *status, lines),
     )
+}
+
+/// Whether each row is answered as it says, or the number of the first that isn't.
+pub(super) fn all_agree(alloc: Global, rows: &[Row]) -> Result<(), Fail> {
+    for (number, row) in rows.iter().enumerate() {
+        if agrees(alloc, row) != Some(true) {
+            return Err(Fail::new(number));
+        }
+    }
+    Ok(())
 }

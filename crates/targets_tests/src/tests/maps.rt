@@ -1,173 +1,14 @@
-//! Maps of a target: the lines of its blocks, of those that aren't checked and of the report, and
-//! the status.
+//! Maps of a target: blocks that aren't checked, inputs that end early, and refusals.
 
+use super::inputs::TWO_BLOCKS;
 use super::inputs::Tell::*;
-use super::inputs::{TWO_BLOCKS, Tell};
 use super::map_inputs::Comes::{Byte, Sector as Bytes};
 use super::map_inputs::Sector::*;
-use super::map_inputs::{FATAL, ONE_BLOCK, Row, SIX_BLOCKS, agrees, answers, map_input};
+use super::map_inputs::{Row, SIX_BLOCKS, TWO_DONE, all_agree, answers, map_input};
 use super::stamps::RUN;
 use fake_io::{failing_at, source_of};
 use std::alloc::Global;
 use std::test::Fail;
-
-/// Writes 0 and 1 done, and 2 and 3 in flight.
-const TWO_DONE: &[Tell] = &[Done(0), Done(1), Take];
-
-/// Each kind, at the first block and at the last.
-static KINDS: [Row; 13] = [
-    (
-        TWO_BLOCKS,
-        TWO_DONE,
-        &[
-            Byte(1),
-            Bytes(Stamp(RUN, 0, 0, 0, 0)),
-            Byte(1),
-            Bytes(Stamp(RUN, 0, 3, 1, 0)),
-        ],
-        0,
-        "unchecked\nreport checked 2 faults 0 end whole first -\n",
-    ),
-    (
-        TWO_BLOCKS,
-        TWO_DONE,
-        &[
-            Byte(1),
-            Bytes(Filled(0)),
-            Byte(1),
-            Bytes(Stamp(RUN, 0, 1, 1, 0)),
-        ],
-        1,
-        "block 0 unwritten: wants write 0 or 2\n\
-         unchecked\nreport checked 2 faults 1 end whole first 0\n",
-    ),
-    (
-        TWO_BLOCKS,
-        TWO_DONE,
-        &[
-            Byte(1),
-            Bytes(Stamp(RUN, 0, 0, 0, 0)),
-            Byte(1),
-            Bytes(Filled(255)),
-        ],
-        1,
-        "block 1 filled: wants write 1 or 3, holds byte 255\n\
-         unchecked\nreport checked 2 faults 1 end whole first 1\n",
-    ),
-    (
-        TWO_BLOCKS,
-        &[],
-        &[
-            Byte(1),
-            Bytes(Stamp(RUN, 0, 0, 0, 0)),
-            Byte(1),
-            Bytes(Stamp(RUN, 0, 1, 1, 0)),
-        ],
-        1,
-        "block 0 lost: wants write 2, holds write 0\n\
-         block 1 lost: wants write 3, holds write 1\n\
-         unchecked\nreport checked 2 faults 2 end whole first 0 1\n",
-    ),
-    (
-        TWO_BLOCKS,
-        &[],
-        &[
-            Byte(1),
-            Bytes(Stamp(RUN, 0, 4, 0, 0)),
-            Byte(1),
-            Bytes(Stamp(RUN, 0, 3, 1, 0)),
-        ],
-        1,
-        "block 0 unissued: wants write 2, holds write 4\n\
-         unchecked\nreport checked 2 faults 1 end whole first 0\n",
-    ),
-    (
-        TWO_BLOCKS,
-        &[],
-        &[
-            Byte(1),
-            Bytes(Stamp(6, 0, 2, 0, 0)),
-            Byte(1),
-            Bytes(Stamp(RUN, 0, 3, 1, 0)),
-        ],
-        1,
-        "block 0 other-run: wants write 2, \
-         holds write 2 of block 0 of job 0 of server 0 of run 6\n\
-         unchecked\nreport checked 2 faults 1 end whole first 0\n",
-    ),
-    (
-        TWO_BLOCKS,
-        &[],
-        &[
-            Byte(1),
-            Bytes(Stamp(RUN, 0, 3, 1, 0)),
-            Byte(1),
-            Bytes(Stamp(RUN, 5, 3, 1, 0)),
-        ],
-        1,
-        "block 0 misdirected: wants write 2, \
-         holds write 3 of block 1 of job 0 of server 0 of run 7\n\
-         block 1 misdirected: wants write 3, \
-         holds write 3 of block 1 of job 5 of server 0 of run 7\n\
-         unchecked\nreport checked 2 faults 2 end whole first 0 1\n",
-    ),
-    (
-        TWO_BLOCKS,
-        &[],
-        &[
-            Byte(1),
-            Bytes(Stamp(RUN, 0, 2, 0, 0)),
-            Byte(1),
-            Bytes(Changed(3, 1, 511)),
-        ],
-        1,
-        "block 1 corrupt: wants write 3, unknown sectors 1\n\
-         unchecked\nreport checked 2 faults 1 end whole first 1\n",
-    ),
-    (
-        ONE_BLOCK,
-        &[],
-        &[
-            Byte(1),
-            Bytes(Stamp(RUN, 0, 1, 0, 0)),
-            Bytes(Stamp(RUN, 0, 0, 0, 1)),
-        ],
-        1,
-        "block 0 torn: wants write 1\nunchecked\nreport checked 1 faults 1 end whole first 0\n",
-    ),
-    (
-        TWO_BLOCKS,
-        &[],
-        &[Byte(0), Byte(1), Bytes(Stamp(RUN, 0, 3, 1, 0))],
-        2,
-        "block 0 unread: wants write 2\n\
-         unchecked\nreport checked 1 faults 0 end whole first -\n",
-    ),
-    (
-        TWO_BLOCKS,
-        &[],
-        &[Byte(1), Bytes(Filled(0)), Byte(0)],
-        2,
-        "block 0 unwritten: wants write 2\nblock 1 unread: wants write 3\n\
-         unchecked\nreport checked 1 faults 1 end whole first 0\n",
-    ),
-    (
-        FATAL,
-        &[],
-        &[Byte(1), Bytes(Filled(0)), Byte(1), Bytes(Filled(0))],
-        1,
-        "block 0 unwritten: wants write 2\nblock 1 unwritten: wants write 3\n\
-         unchecked\nreport checked 2 faults 2 end whole first 0 1\n",
-    ),
-    (
-        TWO_BLOCKS,
-        &[],
-        &[Byte(0), Byte(0)],
-        2,
-        "block 0 unread: wants write 2\nblock 1 unread: wants write 3\n\
-         unchecked\nreport checked 0 faults 0 end whole first -\n",
-    ),
-];
 
 /// Blocks that aren't checked, inputs that end early, and bytes that are neither 0 nor 1.
 static ENDS: [Row; 8] = [
@@ -236,21 +77,6 @@ static ENDS: [Row; 8] = [
         "block 0 unwritten: wants write 2\nrefused 94 BadNotice\n",
     ),
 ];
-
-/// Whether each row is answered as it says, or the number of the first that isn't.
-fn all_agree(alloc: Global, rows: &[Row]) -> Result<(), Fail> {
-    for (number, row) in rows.iter().enumerate() {
-        if agrees(alloc, row) != Some(true) {
-            return Err(Fail::new(number));
-        }
-    }
-    Ok(())
-}
-
-#[test]
-fn each_kind(rt: HostRuntime) -> Result<(), Fail> {
-    all_agree(rt.alloc(), &KINDS)
-}
 
 #[test]
 fn ends_and_unchecked_blocks(rt: HostRuntime) -> Result<(), Fail> {

@@ -77,7 +77,9 @@ loop-block-preserved g c =
       mapped = map_more e c.loop-block.map c.take_block.new.map c.loop-block.block (g.R.Read.remaining c.args.reader.now) now later
           (g.W.Write.contents c.args.writer.now) text new_text told kept.mapped
           (subst (λ x. TakesBlock x c.loop-block.map c.take_block.new.map c.loop-block.block now later told) kept.goes_on.expected takes)
-          (subst (λ x. Appends text new_text (line_if_any x c.loop-block.block told)) same c.in_ok-write_told-in-Ok-Some.ensures);
+          (subst (λ x. Appends text new_text (line_if_any x c.loop-block.block c.take_block.new.map.bytes.items told)) same
+          (subst (λ l. Appends text new_text (line_if_any c.expected-in-Ok-Some.result.now c.loop-block.block l told)) c.deref.ensures.value
+          c.in_ok-write_told-in-Ok-Some.ensures));
     }
 
 pub returns : goal.returns

@@ -15,6 +15,7 @@ returns-in-Bytes-clause-takes g c =
       came = subst (λ k. Comes (g.R.Read.remaining c.args.reader.now) (g.R.Read.remaining c.next_block.new.reader) bytes (Ok k)) c.in-Bytes.is
           c.in_ok-next_block.ensures;
       whole = omega (arith, c.next_block.auto.bytes, c.deref_mut.ensures.len, c.requires.goes_on.room);
+      here = take_at bytes _ c.args.map.now.bytes.len (omega (arith, c.next_block.auto.bytes, c.deref_mut.ensures.len));
       tells = subst (λ l. Tells c.args.map.now.check.expected c.args.block (Some l) c.tell_bytes.result) same c.tell_bytes.ensures.tells;
       taken = λ held blocks holds seen. c.tell_bytes.ensures.taken held blocks (holds ∙ sym same) seen;
       unread = unread_kept c.args.map.now.unread _;

@@ -1,0 +1,74 @@
+-- What the sectors of a block hold, extent by extent.
+use Rattle.std.specs.Prelude.{ℕ, ◌==◌, ◌+◌, ◌-◌, ◌/◌, Bool, true, false, not, ◌&&◌, ◌||◌, List, [], ◌++◌, codes, decimal, if◌then◌else◌}
+use Rattle.std.specs.List.{flat_map, range_with_len}
+use Rattle.fc_base.specs.declared.numbers.Key.{Key}
+use Rattle.fc_base.specs.declared.record.JobParts.{JobParts}
+use Rattle.diagnosis.specs.declared.piece.Piece.{Piece}
+use Rattle.diagnosis.specs.declared.piece.Piece.TheVariants as pieces
+use Rattle.diagnosis.specs.declared.stamp.Stamp.{Stamp}
+use Rattle.diagnosis.specs.declared.stamp.Write.{Write}
+use Rattle.diagnosis.specs.Pieces.{piece_at}
+
+-- The same numbers.
+abbrev pub is_same_key : Key → Key → Bool
+is_same_key a b = a.run == b.run && (a.server == b.server && a.job == b.job)
+
+abbrev pub is_same_write : Write → Write → Bool
+is_same_write a b = a.seq == b.seq && (a.block == b.block && is_same_key a.key b.key)
+
+-- The next sector of the same write.
+abbrev pub is_next : Stamp → Stamp → Bool
+is_next first next = is_same_write first.write next.write && next.sector == first.sector + 1
+
+-- What a sector holds goes on in the next: both are alike, or they are sectors of one write, in
+-- their order.
+abbrev pub goes_on : Piece → Piece → Bool
+goes_on pieces.Zeros pieces.Zeros = true
+goes_on pieces.Pattern pieces.Pattern = true
+goes_on pieces.Unknown pieces.Unknown = true
+goes_on (pieces.Stamp first) (pieces.Stamp next) = is_next first next
+goes_on first next = false
+
+-- An extent begins at a sector that the one before it doesn't go on in.
+abbrev pub begins_at : JobParts → List ℕ → ℕ → Bool
+begins_at job bytes n =
+    n == 0 || not (goes_on (piece_at job bytes (n - 1)) (piece_at job bytes n))
+
+-- It ends at one that doesn't go on in the next, of so many.
+abbrev pub ends_at : JobParts → List ℕ → ℕ → ℕ → Bool
+ends_at job bytes sectors n =
+    n + 1 == sectors || not (goes_on (piece_at job bytes n) (piece_at job bytes (n + 1)))
+
+-- What a stamp says: the write, and which of its sectors this is.
+abbrev pub stamp_words : Stamp → List ℕ
+stamp_words stamp =
+    codes "write " ++ (decimal stamp.write.seq ++ (codes " of block " ++ (decimal stamp.write.block
+    ++ (codes " of job " ++ (decimal stamp.write.key.job ++ (codes " of server "
+    ++ (decimal stamp.write.key.server ++ (codes " of run " ++ (decimal stamp.write.key.run
+    ++ (codes " place " ++ decimal stamp.sector))))))))))
+
+abbrev pub piece_words : Piece → List ℕ
+piece_words pieces.Zeros = codes "zeros"
+piece_words pieces.Pattern = codes "pattern"
+piece_words pieces.Unknown = codes "unknown"
+piece_words (pieces.Stamp stamp) = stamp_words stamp
+
+-- The first sector of an extent.
+abbrev pub begin_words : JobParts → List ℕ → ℕ → List ℕ
+begin_words job bytes n = if begins_at job bytes n then codes "; " ++ decimal n else []
+
+-- Its last, and what that holds.
+abbrev pub last_sector_words : ℕ → Piece → List ℕ
+last_sector_words n piece = codes "-" ++ (decimal n ++ (codes " " ++ piece_words piece))
+
+abbrev pub end_words : JobParts → List ℕ → ℕ → ℕ → List ℕ
+end_words job bytes sectors n =
+    if ends_at job bytes sectors n then last_sector_words n (piece_at job bytes n) else []
+
+abbrev pub sector_words : JobParts → List ℕ → ℕ → ℕ → List ℕ
+sector_words job bytes sectors n = begin_words job bytes n ++ end_words job bytes sectors n
+
+-- All extents of a block, each from its first sector to its last, with what the last one holds.
+abbrev pub sectors_words : JobParts → List ℕ → List ℕ
+sectors_words job bytes =
+    flat_map (sector_words job bytes (job.bs / 512)) (range_with_len 0 (job.bs / 512))
