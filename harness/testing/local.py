@@ -7,7 +7,7 @@ import subprocess
 import time
 
 from trying import LIAR, QUIET, WITNESS, await_file, read, report, run_of, tell, tell_has, write
-from witness import PASS_ON, faults_by, kill_agent, link, put_earlier_state, witness
+from witness import PASS_ON, endless, faults_by, kill_agent, link, put_earlier_state, witness
 
 # What a hello and a welcome take of a link, and each notice.
 HELLO, WELCOME, NOTICE = 88, 328, 16
@@ -48,17 +48,18 @@ def begun(job_file, state, *words):
 
 def local_kills():
     """The agent is killed at random moments, or its `drive`, and no fault is told."""
+    endless()
     chance = random.Random(3)
     for turn in range(32):
         put_earlier_state("ks")
-        ran = begun("long.fio", "ks", *link("lk", *(("--flush", "4") if turn % 3 == 1 else ())))
+        ran = begun("endless.fio", "ks", *link("lk", *(("--flush", "4") if turn % 3 == 1 else ())))
         await_file("ks.old")
         time.sleep(chance.uniform(0, 0.15))
         if turn % 4 == 3:
             subprocess.run(["pkill", "-KILL", "-P", read("agent").decode().strip()], **QUIET)
         else:
             kill_agent()
-        checked(f"killed, turn {turn}", ran, "long.fio", "ks", "lk")
+        checked(f"killed, turn {turn}", ran, "endless.fio", "ks", "lk")
 
 
 def local_links():

@@ -96,22 +96,28 @@ def witness_runs():
     tell_has("its check", witness("check", "long.fio", "wi", *link("wl"))[1], "faults 0 end whole first -")
 
 
+def endless():
+    """A job that no machine is through with before it is cut."""
+    return job("endless.fio", blocks=4096, writes=1_000_000)
+
+
 def random_kills():
     """The agent is killed at a hundred random moments, by io_uring and by threads, and no fault is
     told."""
+    endless()
     chance, flying = random.Random(2), 0
     for turn in range(100):
         env = {**os.environ, **({"LD_PRELOAD": LIAR} if turn % 4 == 3 else {})}
         put_earlier_state("ks")
         options = ("--flush", "4") if turn % 4 == 1 else ()
-        ran = subprocess.Popen([WITNESS, "write", "long.fio", "ks", *link("wk", *options)], stdout=subprocess.PIPE, stderr=subprocess.DEVNULL, text=True, env=env)
+        ran = subprocess.Popen([WITNESS, "write", "endless.fio", "ks", *link("wk", *options)], stdout=subprocess.PIPE, stderr=subprocess.DEVNULL, text=True, env=env)
         await_file("ks.old")
         time.sleep(chance.uniform(0, 0.15))
         kill_agent()
         printed, _ = ran.communicate(timeout=30)
         told = re.search(r"(\d+) told, (\d+) in flight at the cut", printed)
         flying += int(told[2]) if told else 0
-        _, printed, said = witness("check", "long.fio", "ks", *link("wk"))
+        _, printed, said = witness("check", "endless.fio", "ks", *link("wk"))
         tell(f"killed, turn {turn}", (bool(told), "faults 0 end whole first -" in printed), (True, True))
     tell("writes were in flight", flying > 100, True)
 
@@ -119,7 +125,7 @@ def random_kills():
 def lying_caches():
     """A cache that tells writes as done which it hasn't written: just the blocks that it lost are
     faults. One that obeys a flush loses none."""
-    job("cache.fio", blocks=512, writes=65536, depth=8)
+    job("cache.fio", blocks=512, writes=1_000_000, depth=8)
     for turn in range(8):
         flushes, cached = turn % 2 == 1, turn > 5
         for file in ("agent", "log", "lc"):
