@@ -34,12 +34,19 @@ static void tell_written(struct executor *executor, struct written *written) {
     written->count = 0;
 }
 
+/* So many writes are told at once: as many as a flush is for; else a quarter of the depth, so that
+ * the next orders are made while the others are written. */
+static size_t batch_of(const struct executor *executor) {
+    if (executor->flush) return executor->flush;
+    return executor->depth < 4 ? 1 : executor->depth / 4;
+}
+
 /* Carries out what has come by now. */
 static void write_all_orders(struct executor *executor, struct written *written) {
     for (size_t slot; next_order(&executor->slots, &slot);) {
         written->slots[written->count] = slot;
         written->answers[written->count++] = write_slot(executor, slot);
-        if (executor->flush && written->count >= executor->flush) tell_written(executor, written);
+        if (written->count >= batch_of(executor)) tell_written(executor, written);
     }
     tell_written(executor, written);
 }
