@@ -3,6 +3,7 @@
 #include "answers.h"
 #include "bytes.h"
 #include "chunk.h"
+#include "cpu.h"
 #include "executor.h"
 #include "hello.h"
 #include "local.h"
@@ -20,6 +21,7 @@
 static const char USAGE[] =
     "usage: drive-agent TARGET [OPTIONS]    on the machine under test; started by drive-witness --link\n"
     "  --flush N    tells writes as done behind a flush: N of them, or fewer where no other is out\n"
+    "  --cpu N      runs on processor N alone, with its own `drive` where it has one\n"
     "  --yes        writes over what the target holds; what is mounted or in use it never writes\n"
     "  --torn       takes blocks that are larger than what the device writes whole\n"
     "  --cached     without O_DIRECT and O_DSYNC\n"
@@ -28,12 +30,13 @@ static const char USAGE[] =
 struct settings {
     struct opening opening;
     uint64_t flush;
+    const char *cpu;
 };
 
 static struct settings read_settings(int count, char **words) {
     struct settings read = {0};
     const struct option all[] = {
-        {"--flush", 0, &read.flush, 0, 1}, {"--yes", 0, 0, &read.opening.yes, 1}, {"--torn", 0, 0, &read.opening.torn, 1}, {"--cached", 0, 0, &read.opening.cached, 1}, {0, 0, 0, 0, 0},
+        {"--flush", 0, &read.flush, 0, 1}, {"--cpu", &read.cpu, 0, 0, 1}, {"--yes", 0, 0, &read.opening.yes, 1}, {"--torn", 0, 0, &read.opening.torn, 1}, {"--cached", 0, 0, &read.opening.cached, 1}, {0, 0, 0, 0, 0},
     };
     bool asks = asks_for_help(count, words);
     if (asks || count < 2) {
@@ -133,6 +136,7 @@ int main(int count, char **words) {
     speak_as("drive-agent");
     const struct settings settings = read_settings(count, words);
     signal(SIGPIPE, SIG_IGN);
+    if (settings.cpu) stay_on(number_of("--cpu", settings.cpu));
     also_tell_end(tell_refusal);
     struct hello hello = await_hello();
     if (hello.writes) write_for(&settings, &hello);

@@ -34,11 +34,11 @@ static void tell_written(struct executor *executor, struct written *written) {
     written->count = 0;
 }
 
-/* So many writes are told at once: as many as a flush is for; else a quarter of the depth, so that
- * the next orders are made while the others are written. */
+/* So many writes are told at once: as many as a flush is for; else half of the depth, so that the
+ * next orders are made while the others are written. */
 static size_t batch_of(const struct executor *executor) {
     if (executor->flush) return executor->flush;
-    return executor->depth < 4 ? 1 : executor->depth / 4;
+    return executor->depth < 2 ? 1 : executor->depth / 2;
 }
 
 /* Carries out what has come by now. */

@@ -2,7 +2,9 @@
  * power cut. docs/DRIVE.md is the manual. */
 #include "commands.h"
 
+#include "cpu.h"
 #include "say.h"
+#include "words.h"
 
 #include <signal.h>
 
@@ -10,6 +12,7 @@ int main(int count, char **words) {
     speak_as("drive-target");
     const struct options options = read_options(count, words);
     signal(SIGPIPE, SIG_IGN);
+    if (options.cpu) stay_on(number_of("--cpu", options.cpu));
     const struct job job = read_job(options.job_file, options.job);
     switch (options.command) {
     case WRITE: return write_target(&options, &job);

@@ -11,7 +11,7 @@ struct options {
     enum command { WRITE = 1, CHECK = 2, MAP = 4 } command;
     const char *job_file, *state;
     struct opening opening;
-    const char *trigger, *keep, *cut; /* NULL where the option isn't given */
+    const char *trigger, *keep, *cut, *cpu; /* NULL where the option isn't given */
     uint64_t job, offset, stride;
     uint64_t after; /* 0: at no number of writes */
     uint64_t run;   /* 0: the run of the state */

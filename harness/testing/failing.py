@@ -76,14 +76,24 @@ def kills():
     tell("states were kept before a kill", states >= 25, True)
 
 
+def processors(pid):
+    """Those that a process and its threads may run on, as the system has it."""
+    found = set()
+    for it in os.listdir(f"/proc/{pid}/task"):
+        with open(f"/proc/{pid}/task/{it}/status", encoding="ascii") as status:
+            found |= {line.split()[1] for line in status if line.startswith("Cpus_allowed_list")}
+    return found
+
+
 def killed_drive():
-    """`drive` is killed, and a second harness comes."""
+    """`drive` is killed, and a second harness comes. Both run on one processor, as is asked for."""
     job("longest.fio", blocks=4096, writes=1_000_000)
-    ran = subprocess.Popen([TARGET, "write", "longest.fio", "alone", "as"], stdout=subprocess.PIPE, stderr=subprocess.PIPE, text=True)
+    ran = subprocess.Popen([TARGET, "write", "longest.fio", "alone", "as", "--cpu", "0"], stdout=subprocess.PIPE, stderr=subprocess.PIPE, text=True)
     time.sleep(0.1)
     status, _, said = run("write", "long.fio", "alone", "as2")
     tell("a second harness", (status, "another harness" in said), (2, True))
     children = subprocess.run(["pgrep", "-P", str(ran.pid)], capture_output=True, text=True).stdout.split()
+    tell("on one processor", [processors(it) for it in (ran.pid, *children)], [{"0"}, {"0"}])
     for it in children:
         os.kill(int(it), signal.SIGKILL)
     _, said = ran.communicate(timeout=30)

@@ -45,7 +45,8 @@ def refusals():
     refused("a full pass without a run", ["check", full, "t", "-"], "--run")
     for words, part in (
         (["--after", "1k"], "wants a number"), (["--job", "-1"], "wants a number"), (["--after"], "nothing stands behind it"), (["--afer", "1"], "no such option"),
-        (["--run", "1"], "it is for another command"), (["--job", "1"], "no such job"),
+        (["--run", "1"], "it is for another command"), (["--job", "1"], "no such job"), (["--cpu", "-1"], "wants a number"),
+        (["--cpu", "1000"], "no such processor"), (["--cpu", "99999"], "no such processor"),
     ):
         refused(" ".join(words), ["write", full, "t", "rs2", *words], part)
     write("bad.fio", "[a]\nrw=write\n")
