@@ -93,6 +93,15 @@ impl<N: Notes> Client<N> {
         core.off()
     }
 
+    /// The note that it keeps, as it is durable. Behind a failed save it is what that left.
+    pub fn notes(&self) -> &N
+        ensures note { N.note result.now ≡ N.note self.now.core.notes }
+        ensures says { (o : Opening) (past : List FrameEntry) → StandsFor N.note self.now o past →
+            Says (N.note result.now).bytes (words_noted o (packets_heard o past)) }
+    {
+        self.core.notes()
+    }
+
     /// Whether it is on: a client whose save failed is down until it is restarted.
     pub fn on(&self) -> bool
         ensures { (o : Opening) (past : List FrameEntry) → StandsFor N.note self.now o past →
