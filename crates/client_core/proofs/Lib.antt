@@ -26,6 +26,7 @@ mod RangeLemmas
 mod ReasonLemmas
 mod RefusalLemmas
 mod RenewLemmas
+mod ReportKeyLemmas
 mod ReportLemmas
 mod RisingLemmas
 mod SentLemmas

@@ -57,7 +57,7 @@ same_reports server _ deeds h = cc
 
 -- What the mirror says leaves the requests and the reports.
 pub mirror_said : (old new : Life) (server : ℕ) (body : Body) (deeds : List Deed) → is_of_mirror (kind_of body) ≡ true → new.runs ≡ old.runs
-    → new.attempts ≡ old.attempts → new.reports.items ≡ old.reports.items
+    → new.attempts ≡ old.attempts → new.reports ≡ old.reports
     → CopiedAre new (Hears server body ∷ deeds) → LifeIs old deeds → LifeIs new (Hears server body ∷ deeds)
 mirror_said old new server body deeds h runs attempts kept copied l = record {
   runs = subst (λ m. (run : ℕ) → RunFor run (Hears server body ∷ deeds) (get nat_cmp m run)) (sym runs)

@@ -17,6 +17,7 @@ pub mod Outcomes
 pub mod Packets
 pub mod Ranges
 pub mod Refusals
+pub mod ReportKeys
 pub mod Reports
 pub mod Requests
 pub mod Saves

@@ -82,7 +82,7 @@ CopiedAre kept deeds =
 pub record LifeIs (kept : Life) (deeds : List Deed) : Type 0 where
   pub runs : RunsAre kept deeds
   pub attempts : AttemptsAre kept deeds
-  pub reports_are : kept.reports.items ≡ reports deeds
+  pub reports_are : kept.reports ≡ reports deeds
   pub copied : CopiedAre kept deeds
 
 -- P holds of each list of deeds of which this is kept.

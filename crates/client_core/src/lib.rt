@@ -31,6 +31,7 @@ mod peers;
 mod received;
 mod refusal;
 mod replies;
+mod reports;
 mod run_asked;
 mod servers;
 mod standing;

@@ -9,7 +9,7 @@ mod hear;
 mod look;
 
 use crate::attempt_asked::AttemptAsked;
-use crate::received::Received;
+use crate::reports::Reports;
 use crate::run_asked::RunAsked;
 use fc_base::{Attempt, Key, RunNo};
 use messages::{Act, Body, Text};
@@ -21,7 +21,7 @@ use std::collections::{BTreeMap, HashSet};
 pub struct Life {
     pub runs: BTreeMap<u64, RunAsked>,
     pub attempts: BTreeMap<u64, Option<AttemptAsked>>,
-    pub reports: Vec<Received>,
+    pub reports: Reports,
     /// The keys of the states that the mirror said it keeps.
     pub copied: HashSet<Key>,
 }
@@ -49,7 +49,7 @@ impl Life {
         Life {
             runs: BTreeMap::new(alloc),
             attempts: BTreeMap::new(alloc),
-            reports: Vec::new(alloc),
+            reports: Reports::new(alloc),
             copied: HashSet::new(alloc),
         }
     }

@@ -78,7 +78,7 @@ impl Life {
         ensures same { OnErr result (IsUnchanged self.old.copied self.new.copied) }
         ensures runs { self.new.runs ≡ self.old.runs }
         ensures attempts { self.new.attempts ≡ self.old.attempts }
-        ensures reports { self.new.reports.items ≡ self.old.reports.items }
+        ensures reports { self.new.reports ≡ self.old.reports }
     {
         self.copied.insert(key)?;
         Ok(())
@@ -102,7 +102,7 @@ impl Life {
         ensures runs { (deeds : List Deed) → RunsAre self.old deeds →
             RunsAre self.new (Hears server body.now ∷ deeds) }
         ensures attempts { self.new.attempts ≡ self.old.attempts }
-        ensures reports { self.new.reports.items ≡ self.old.reports.items }
+        ensures reports { self.new.reports ≡ self.old.reports }
         ensures copied { self.new.copied ≡ self.old.copied }
     {
         let run = run_told(body);
@@ -118,7 +118,7 @@ impl Life {
         ensures attempts { (deeds : List Deed) → AttemptsAre self.old deeds →
             AttemptsAre self.new (Hears server body.now ∷ deeds) }
         ensures runs { self.new.runs ≡ self.old.runs }
-        ensures reports { self.new.reports.items ≡ self.old.reports.items }
+        ensures reports { self.new.reports ≡ self.old.reports }
         ensures copied { self.new.copied ≡ self.old.copied }
     {
         let attempt = attempt_told(body);

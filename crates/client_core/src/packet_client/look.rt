@@ -21,7 +21,7 @@ impl<N: Notes> PacketClient<N> {
         ensures { (o : Opening) (past : List Entry) → StandsFor N.note self.now o past →
             result.now ≡ reports (life o (shown_entries past)) }
     {
-        &self.life.reports
+        self.life.reports.as_slice()
     }
 
     /// How a request of this life stands at a server, by the number of its run or attempt. Where a save

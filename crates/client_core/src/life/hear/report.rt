@@ -7,7 +7,7 @@ ghost use Rattle.messages.specs.Ranges.{is_job_of};
 ghost use Rattle.messages.specs.declared.body.Body.TheVariants.{Report};
 ghost use Rattle.client_core.specs.Life.{Deed, Hears};
 ghost use Rattle.client_core.specs.Lives.{LifeIs, EachLife, AttemptsAre, AttemptFor};
-ghost use Rattle.client_core.specs.Reports.{has_report, report_counts, reports_heard, report_body};
+ghost use Rattle.client_core.specs.Reports.{report_counts, reports_heard, report_body};
 
 use crate::attempt_asked::AttemptAsked;
 use crate::life::Life;
@@ -37,18 +37,18 @@ impl Life {
     fn keep_report(&mut self, received: Received, jobs: u32) -> Result<(), AllocError>
         requires { received.server < MAX_SERVERS }
         ensures kept { OnOk result ((deeds : List Deed) → AttemptsAre self.old deeds →
-            self.new.reports.items
+            self.new.reports
             ≡ reports_heard deeds received.server
-            (report_body received jobs) self.old.reports.items) }
-        ensures same { OnErr result (self.new.reports.items ≡ self.old.reports.items) }
+            (report_body received jobs) self.old.reports) }
+        ensures same { OnErr result (self.new.reports ≡ self.old.reports) }
         ensures runs { self.new.runs ≡ self.old.runs }
         ensures attempts { self.new.attempts ≡ self.old.attempts }
         ensures copied { self.new.copied ≡ self.old.copied }
     {
         let (attempt, server, job) = (received.attempt, received.server, received.job);
         let counts = self.counts(received.run, attempt, server, job, jobs);
-        if counts && !has_report(&self.reports, attempt, server, job) {
-            self.reports.push(received)?;
+        if counts {
+            self.reports.add(received)?;
         }
         Ok(())
     }
@@ -60,7 +60,7 @@ impl Life {
         ensures attempts { (deeds : List Deed) (report : ReportParts) → AttemptsAre self.old deeds →
             AttemptsAre self.new (Hears server (Report run attempt job jobs report) ∷ deeds) }
         ensures runs { self.new.runs ≡ self.old.runs }
-        ensures reports { self.new.reports.items ≡ self.old.reports.items }
+        ensures reports { self.new.reports ≡ self.old.reports }
         ensures copied { self.new.copied ≡ self.old.copied }
     {
         if let Some(place) = self.attempts.get_mut(&attempt.0) {
@@ -79,14 +79,6 @@ impl Life {
             _ => false,
         }
     }
-}
-
-/// Whether one of the reports is of this attempt, server and job.
-fn has_report(reports: &[Received], attempt: Attempt, server: ServerNo, job: JobNo) -> bool
-    ensures { result ≡ has_report attempt server job reports.now }
-{
-    reports.iter().any(|report| report.attempt == attempt
-        && (report.server == server && report.job == job))
 }
 
 /// An attempt hears a report, where it was made.
