@@ -30,24 +30,13 @@ static const char *next_line(const char *line) {
     return end && end[1] ? end + 1 : NULL;
 }
 
-/* Counts the blocks of each kind. Returns how many there are. */
-static uint64_t count_each(const char *lines, uint64_t counts[KINDS]) {
-    uint64_t block, all = 0;
-    memset(counts, 0, KINDS * sizeof *counts);
-    for (const char *line = lines; line; line = next_line(line)) {
-        int kind = kind_of(line, &block);
-        if (kind >= 0) counts[kind]++, all++;
-    }
-    return all;
-}
-
-void count_kinds(const char *lines, char words[KIND_WORDS]) {
-    uint64_t counts[KINDS];
-    size_t length = 0;
-    count_each(lines, counts);
+void kinds_of(const char *report, char words[KIND_WORDS]) {
+    const char *first = strstr(report, " first ");
     words[0] = 0;
-    for (int kind = 0; kind < KINDS; kind++)
-        if (counts[kind]) length += (size_t)snprintf(words + length, KIND_WORDS - length, "%s%s %" PRIu64, length ? " " : "", ALL[kind].word, counts[kind]);
+    if (!first) return;
+    first += strlen(" first ");
+    first += strspn(first, "0123456789- ");
+    snprintf(words, KIND_WORDS, "%.*s", (int)strcspn(first, "\n"), first);
 }
 
 /* Marks the blocks of a line `unchecked 5-9 12-12`. Returns whether it is one, with any. */
@@ -62,21 +51,20 @@ static bool mark_unchecked(const char *line, char *letters, uint64_t blocks) {
 }
 
 void print_picture(const char *lines, uint64_t blocks) {
-    uint64_t counts[KINDS], block;
-    bool has_unchecked = false;
+    uint64_t block;
+    bool has_unchecked = false, is_there[KINDS] = {false};
     char *letters = malloc(blocks);
     if (!letters) give_up("memory", strerror(ENOMEM));
     memset(letters, '.', blocks);
     for (const char *line = lines; line; line = next_line(line)) {
         int kind = kind_of(line, &block);
-        if (kind >= 0 && block < blocks) letters[block] = ALL[kind].letter;
+        if (kind >= 0 && block < blocks) letters[block] = ALL[kind].letter, is_there[kind] = true;
         else has_unchecked |= mark_unchecked(line, letters, blocks);
     }
     for (block = 0; block < blocks; block += ROW) printf("%7" PRIu64 " %.*s\n", block, (int)(blocks - block < ROW ? blocks - block : ROW), letters + block);
     printf("        . sound%s", has_unchecked ? "  - unchecked" : "");
-    count_each(lines, counts);
     for (int kind = 0; kind < KINDS; kind++)
-        if (counts[kind]) printf("  %c %s", ALL[kind].letter, ALL[kind].word);
+        if (is_there[kind]) printf("  %c %s", ALL[kind].letter, ALL[kind].word);
     printf("\n");
     free(letters);
 }

@@ -8,8 +8,9 @@
 /* The kinds, in the order in which they are told. */
 enum { KINDS = 9, KIND_WORDS = 256 };
 
-/* Puts `lost 4 torn 1` there: how many blocks are told of each kind, and nothing where none is. */
-void count_kinds(const char *lines, char words[KIND_WORDS]);
+/* Puts `lost 4 torn 1` there: what the line of the report says of the kinds, and nothing where it
+ * says nothing, or is another line. */
+void kinds_of(const char *report, char words[KIND_WORDS]);
 
 /* Prints a picture of a region: a character a block, 64 in a row, and what the letters stand
  * for. */

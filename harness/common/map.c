@@ -98,11 +98,8 @@ const char *report_of_map(const struct map *map) {
 
 int tell_map(const struct map *map, int status) {
     const char *last = report_of_map(map);
-    char kinds[KIND_WORDS];
-    count_kinds(map->text, kinds);
     if (isatty(STDOUT_FILENO) && !strncmp(last, "report ", 7)) print_picture(map->text, map->total);
     fwrite(map->text, 1, (size_t)(last - map->text), stdout);
-    if (*kinds) printf("kinds %s\n", kinds);
     struct report report = {.status = status};
     snprintf(report.text, sizeof report.text, "%s", last);
     return tell_report(&report);

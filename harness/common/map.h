@@ -33,8 +33,7 @@ bool map_missed(struct map *map);
  * harness gives up. */
 int await_map(struct map *map);
 
-/* Prints it, with the sums of its kinds before the report, and on a terminal behind a picture of
- * the region. Returns the status that it comes to. */
+/* Prints it, on a terminal behind a picture of the region. Returns the status that it comes to. */
 int tell_map(const struct map *map, int status);
 
 /* The last line of what it said: the report, or why there is none. */

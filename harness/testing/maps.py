@@ -11,9 +11,8 @@ from witness import counted, link, witness
 def mapped(faults, checked, kinds, unchecked=""):
     """What `map` prints of these faulty blocks, each with its line, and what was checked."""
     lines = "".join(f"block {block} {line}\n" for block, line in sorted(faults.items()))
-    sums = f"kinds {kinds}\n" if kinds else ""
     blamed = [block for block, line in faults.items() if not line.startswith("unread")]
-    return f"{lines}unchecked{unchecked}\n{sums}{report(blamed, checked)}"
+    return f"{lines}unchecked{unchecked}\n{report(blamed, checked)[:-1]}{kinds and ' '}{kinds}\n"
 
 
 def written(log):
@@ -55,7 +54,7 @@ def harm(data, run_number, of_block):
         5: ("other-run", f", holds write {last[5]} of block 5 of job 0 of server 0 of run {run_number + 1}"),
         6: ("misdirected", f", holds {said(last[7], 7)}"),
         8: ("torn", pieces((0, 3, said(last[8], 8)), (4, 7, said(first[8], 8)))),
-        9: ("corrupt", ", unknown sectors 1" + pieces((0, 0, said(last[9], 9)), (1, 1, None), (2, 7, said(last[9], 9)))),
+        9: ("corrupt", f", unknown sectors 1, differs from write {last[9]} by bits 1 first at sector 1 byte 488" + pieces((0, 0, said(last[9], 9)), (1, 1, None), (2, 7, said(last[9], 9)))),
         63: ("lost", f", holds write {first[63]}"),
     }
     return {block: f"{kind}: wants write {last[block]}{what}" for block, (kind, what) in held.items()}

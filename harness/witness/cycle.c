@@ -41,7 +41,7 @@ static bool check_cycle(const struct options *options, const struct job *job, co
     cycle->report.status = map_job(job, &link, cycle->tally.state, cycle->tally.state_length, &map);
     snprintf(cycle->report.text, sizeof cycle->report.text, "%s", report_of_map(&map));
     keep_report(folder, cycle, &map);
-    count_kinds(map.text, cycle->kinds);
+    kinds_of(cycle->report.text, cycle->kinds);
     free_map(&map);
     bool is_whole = cycle->report.status == STATUS_SOUND || cycle->report.status == STATUS_FAULTS;
     return read_report(cycle) && is_whole;

@@ -1,5 +1,5 @@
 -- A map of a target, block by block as it comes.
-use Rattle.std.proofs.Common.{◌≡◌, ◌<◌, ◌+◌, ℕ, Bool, true, false, not, ◌&&◌, ◌||◌, List, [], ◌∷◌, ◌++◌, length, Option, Some, None, map, filter}
+use Rattle.std.proofs.Common.{◌≡◌, ◌<◌, ◌+◌, ℕ, Bool, true, false, ◌&&◌, ◌||◌, List, [], ◌∷◌, ◌++◌, length, Option, Some, None, map, filter}
 use Rattle.std.proofs.Common.{IfSome, IfOk, OnOk, Result, Ok, Err, append-nil, refl, sym, ap, ◌∙◌, subst, inl, inr, arith}
 use Rattle.std.specs.Prelude.{if◌then◌else◌, is_some}
 use Rattle.std.specs.List.{flat_map, list_any}
@@ -16,40 +16,44 @@ use Rattle.fc_base.specs.declared.report.ReportEnd.TheVariants.{ReadFault, Whole
 use Rattle.program_io.specs.Words.{with_line_feed}
 use Rattle.program_io.specs.Refusals.{plain, refusal_line}
 use Rattle.recheck.specs.Expected.{Expected}
-use Rattle.recheck.specs.Faults.{is_expected}
 use Rattle.recheck.specs.Report.{report_of, report_with, tally}
 use Rattle.recheck.specs.Check.{Check, HasSeen, start}
+use Rattle.targets.specs.declared.kinds.Kinds.{Kinds}
 use Rattle.targets.specs.declared.map.Map.{Map}
 use Rattle.targets.specs.declared.told.Told.{Told}
 use Rattle.targets.specs.declared.told.Told.TheVariants as tolds
 use Rattle.targets.specs.Jobs.{Refuses}
-use Rattle.targets.specs.Reports.{report_line, report_status}
+use Rattle.targets.specs.Reports.{report_status}
 use Rattle.targets.specs.MapInput.{block_code, EndsInBlock, IsPart, NoBlock}
+use Rattle.targets.specs.MapKinds.{no_lines, with_line}
 use Rattle.targets.specs.MapLines.{line_if_any, line_words, unchecked_line}
-use Rattle.targets.specs.Maps.{AreOf, AreTold, Cell, HasCome, MapsTarget, Reports, Tells, bytes_in, has_line, is_sound, is_unread, lines_of, read_blocks}
+use Rattle.targets.specs.Maps.{AreOf, AreTold, Cell, HasCome, MapsTarget, Reports, Tells, bytes_in, has_line, is_unread, kinds_of, last_line, lines_of, read_blocks}
 use Rattle.targets.specs.Mapping.{GoesOn, IsReady, HasTaken, TakesBlock}
 use Rattle.targets.specs.MapJobs.{status_with}
 use Rattle.targets.proofs.CheckLemmas.{known_rest}
+use Rattle.targets.proofs.KindLemmas.{is_line, kinds_more, line_is}
 
 -- So many blocks have come since the input was this, and their lines were written.
-pub record HasMapped (e : Expected) (check : Check) (unread : Bool) (count : ℕ) (first now first_text text : Option (List ℕ)) : Type 0 where
+pub record HasMapped (e : Expected) (check : Check) (unread : Bool) (sums : Kinds) (count : ℕ) (first now first_text text : Option (List ℕ)) : Type 0 where
   pub cells : List Cell
   pub come : HasCome e count cells
   pub came : Consumes first now (flat_map (λ c. block_code c.bytes) cells)
   pub written : Appends first_text text (lines_of e cells)
   pub seen : (held : ℕ → List ℕ) → AreOf held cells → HasSeen check held (read_blocks cells)
   pub any : unread ≡ list_any (is_unread e) cells
+  pub kinds : sums ≡ kinds_of e cells
 
 -- None has come yet.
-pub none_mapped : (e : Expected) (check : Check) (unread : Bool) (input text : Option (List ℕ)) → check ≡ start e false → unread ≡ false
-    → HasMapped e check unread 0 input input text text
-none_mapped e check unread input text is none = record {
+pub none_mapped : (e : Expected) (check : Check) (unread : Bool) (sums : Kinds) (input text : Option (List ℕ)) → check ≡ start e false → unread ≡ false
+    → sums ≡ no_lines → HasMapped e check unread sums 0 input input text text
+none_mapped e check unread sums input text is none zeros = record {
   cells = [];
   come = record { blocks = refl; told = tt };
   came = Consumes-nil input;
   written = Appends-nil text;
   seen = λ held are. subst (λ k. HasSeen k held []) (sym is) (record { uncut = refl; found = refl });
   any = none;
+  kinds = zeros;
 }
 
 -- The parts of what holds of blocks and of one more.
@@ -68,30 +72,20 @@ one_line : {X : Type 0} (p : X → Bool) (f : X → List ℕ) (x : X) (b : Bool)
 one_line p f x true is = rw (is) (append-nil (f x))
 one_line p f x false is = rw (is) refl
 
-sound_is : (e : Expected) (block : ℕ) (bytes : Option (List ℕ)) (told : Told) (held : List ℕ) → bytes ≡ Some held
-    → is_sound e (record { block = block; bytes = bytes; told = told }) ≡ is_expected e block held
-sound_is e block bytes told held is = ap (λ (bs : Option (List ℕ)). is_sound e (record { block = block; bytes = bs; told = told })) is
-
 line_if : (e : Expected) (block : ℕ) (bytes : Option (List ℕ)) (told : Told) (buffer : List ℕ) → Tells e block bytes told
     → IfSome bytes (λ l. buffer ≡ l)
     → flat_map (λ (c : Cell). line_words e c.block (bytes_in c.bytes) c.told) (filter (has_line e) (record { block = block; bytes = bytes; told = told } ∷ []))
     ≡ line_if_any e block buffer told
+unfolding is_line
 line_if e block bytes tolds.Unchecked buffer tells here =
-    one_line (has_line e) (λ (c : Cell). line_words e c.block (bytes_in c.bytes) c.told) _ false
-    (ap (λ b. b && not (is_sound e (record { block = block; bytes = bytes; told = tolds.Unchecked }))) tells)
-line_if e block bytes tolds.Unread buffer (checked, none) here =
-    one_line (has_line e) (λ (c : Cell). line_words e c.block (bytes_in c.bytes) c.told) _ true
-    (ap (λ b. b && not (is_sound e (record { block = block; bytes = bytes; told = tolds.Unread }))) checked
-    ∙ ap (λ (bs : Option (List ℕ)). not (is_sound e (record { block = block; bytes = bs; told = tolds.Unread }))) none)
-line_if e block bytes tolds.Sound buffer (checked, (held, is, expected)) here =
-    one_line (has_line e) (λ (c : Cell). line_words e c.block (bytes_in c.bytes) c.told) _ false
-    (ap (λ b. b && not (is_sound e (record { block = block; bytes = bytes; told = tolds.Sound }))) checked
-    ∙ ap not (sound_is e block bytes tolds.Sound held is ∙ expected))
+    one_line (has_line e) (λ (c : Cell). line_words e c.block (bytes_in c.bytes) c.told) (record { block = block; bytes = bytes; told = tolds.Unchecked }) false (line_is e block bytes tolds.Unchecked tells)
+line_if e block bytes tolds.Unread buffer tells here =
+    one_line (has_line e) (λ (c : Cell). line_words e c.block (bytes_in c.bytes) c.told) (record { block = block; bytes = bytes; told = tolds.Unread }) true (line_is e block bytes tolds.Unread tells)
+line_if e block bytes tolds.Sound buffer tells here =
+    one_line (has_line e) (λ (c : Cell). line_words e c.block (bytes_in c.bytes) c.told) (record { block = block; bytes = bytes; told = tolds.Sound }) false (line_is e block bytes tolds.Sound tells)
 line_if e block bytes (tolds.Fault kind) buffer (checked, (held, is, unexpected, holds)) here =
     let same : buffer ≡ held = subst (λ (bs : Option (List ℕ)). IfSome bs (λ l. buffer ≡ l)) is here in
-    one_line (has_line e) (λ (c : Cell). line_words e c.block (bytes_in c.bytes) c.told) _ true
-    (ap (λ b. b && not (is_sound e (record { block = block; bytes = bytes; told = tolds.Fault kind }))) checked
-    ∙ ap not (sound_is e block bytes (tolds.Fault kind) held is ∙ unexpected))
+    one_line (has_line e) (λ (c : Cell). line_words e c.block (bytes_in c.bytes) c.told) (record { block = block; bytes = bytes; told = tolds.Fault kind }) true (line_is e block bytes (tolds.Fault kind) (checked, (held, is, unexpected, holds)))
     ∙ ap (λ (bs : Option (List ℕ)). line_words e block (bytes_in bs) (tolds.Fault kind)) is
     ∙ ap (λ l. line_words e block l (tolds.Fault kind)) (sym same)
 
@@ -134,10 +128,11 @@ unread_kept false true = refl
 unread_kept false false = refl
 
 -- One block more.
-pub map_more : (e : Expected) (old new : Map) (count : ℕ) (first input left first_text text new_text : Option (List ℕ)) (told : Told)
-    → HasMapped e old.check old.unread count first input first_text text → TakesBlock e old new count input left told
-    → Appends text new_text (line_if_any e count new.bytes.items told) → HasMapped e new.check new.unread (count + 1) first left first_text new_text
-map_more e old new count first input left first_text text new_text told so_far takes wrote =
+pub map_more : (e : Expected) (old new : Map) (sums new_sums : Kinds) (count : ℕ) (first input left first_text text new_text : Option (List ℕ)) (told : Told)
+    → HasMapped e old.check old.unread sums count first input first_text text → TakesBlock e old new count input left told
+    → Appends text new_text (line_if_any e count new.bytes.items told) → new_sums ≡ with_line sums told
+    → HasMapped e new.check new.unread new_sums (count + 1) first left first_text new_text
+map_more e old new sums new_sums count first input left first_text text new_text told so_far takes wrote summed =
     let cell : Cell = record { block = count; bytes = takes.bytes; told = told } in
     let f : Cell → List ℕ = λ c. block_code c.bytes in
     record {
@@ -156,6 +151,7 @@ map_more e old new count first input left first_text text new_text told so_far t
           seen_more old.check new.check so_far.cells count takes.bytes told held (so_far.seen held parts.0) takes.taken parts.1;
       any = takes.unread ∙ ap (λ b. b || is_unread e cell) so_far.any
           ∙ sym (list_any-append (is_unread e) so_far.cells (cell ∷ []) ∙ ap (λ b. list_any (is_unread e) so_far.cells || b) (or_false (is_unread e cell)));
+      kinds = summed ∙ ap (λ (k : Kinds). with_line k told) so_far.kinds ∙ sym (kinds_more e so_far.cells count takes.bytes told takes.tells);
     }
 
 -- The report of the blocks that were read.
@@ -174,12 +170,13 @@ cut_status true = refl
 cut_status false = refl
 
 -- All blocks have come.
-pub mapped_whole : {E : Type 0} (e : Expected) (check : Check) (unread : Bool) (target : List ℕ) (input first_text text mid_text new_text : Option (List ℕ))
-    (r : ReportParts) (status : Result ℕ E) → HasMapped e check unread e.job.blocks (Some target) input first_text text → check.expected ≡ e
+pub mapped_whole : {E : Type 0} (e : Expected) (check : Check) (unread : Bool) (sums : Kinds) (target : List ℕ)
+    (input first_text text mid_text new_text : Option (List ℕ)) (r : ReportParts) (status : Result ℕ E)
+    → HasMapped e check unread sums e.job.blocks (Some target) input first_text text → check.expected ≡ e
     → check.fatal ≡ false → r ≡ report_of check.fatal check.found
-    → Appends text mid_text (unchecked_line e) → OnOk status (Appends mid_text new_text (with_line_feed (report_line r))) → IfOk status (λ s. s ≡ status_with unread r)
+    → Appends text mid_text (unchecked_line e) → OnOk status (Appends mid_text new_text (last_line r sums)) → IfOk status (λ s. s ≡ status_with unread r)
     → IfOk status (MapsTarget e target first_text new_text)
-mapped_whole e check unread target input first_text text mid_text new_text r status so_far same whole is told line says =
+mapped_whole e check unread sums target input first_text text mid_text new_text r status so_far same whole is told line says =
     let known = known_rest target (Some target) input _ refl so_far.came in
     let mine : r ≡ report_with check.found Whole = is ∙ ap (λ f. report_of f check.found) whole in
     both status _ _ _ line says (λ wrote s is_status. inl (record {
@@ -191,8 +188,9 @@ mapped_whole e check unread target input first_text text mid_text new_text r sta
       reports = reports e check so_far.cells same whole so_far.seen;
       finishes = (
         Appends-trans first_text text new_text (lines_of e so_far.cells) _ so_far.written
-            (Appends-trans text mid_text new_text (unchecked_line e) (with_line_feed (report_line (report_with check.found Whole))) told
-            (subst (λ (p : ReportParts). Appends mid_text new_text (with_line_feed (report_line p))) mine wrote)),
+            (Appends-trans text mid_text new_text (unchecked_line e) (last_line (report_with check.found Whole) (kinds_of e so_far.cells)) told
+            (subst (λ (k : Kinds). Appends mid_text new_text (last_line (report_with check.found Whole) k)) so_far.kinds
+            (subst (λ (p : ReportParts). Appends mid_text new_text (last_line p sums)) mine wrote))),
         is_status ∙ ap (status_with unread) mine ∙ ap (λ b. if b then 2 else report_status (report_with check.found Whole)) so_far.any,
       );
     }))
@@ -204,14 +202,14 @@ part_left size rest (Some xs) (part, read, is, end) =
     subst (IsPart size) (sym (read ∙ ap (λ l. part ++ l) end ∙ append-nil part)) is
 
 -- The input ends in the next block.
-pub mapped_cut : {E : Type 0} (e : Expected) (check new_check : Check) (unread new_unread : Bool) (count : ℕ) (target : List ℕ)
+pub mapped_cut : {E : Type 0} (e : Expected) (check new_check : Check) (unread new_unread : Bool) (sums : Kinds) (count : ℕ) (target : List ℕ)
     (input left first_text text mid_text new_text : Option (List ℕ)) (r : ReportParts) (status : Result ℕ E)
-    → HasMapped e check unread count (Some target) input first_text text → check.expected ≡ e
+    → HasMapped e check unread sums count (Some target) input first_text text → check.expected ≡ e
     → check.fatal ≡ false → count < e.job.blocks → EndsInBlock e.job.bs input left → new_check ≡ check → new_unread ≡ unread
     → r ≡ report_with new_check.found (ReadFault count)
-    → Appends text mid_text (unchecked_line e) → OnOk status (Appends mid_text new_text (with_line_feed (report_line r))) → IfOk status (λ s. s ≡ status_with new_unread r)
+    → Appends text mid_text (unchecked_line e) → OnOk status (Appends mid_text new_text (last_line r sums)) → IfOk status (λ s. s ≡ status_with new_unread r)
     → IfOk status (MapsTarget e target first_text new_text)
-mapped_cut e check new_check unread new_unread count target input left first_text text mid_text new_text r status so_far same whole within ends kept kept_unread is told line says =
+mapped_cut e check new_check unread new_unread sums count target input left first_text text mid_text new_text r status so_far same whole within ends kept kept_unread is told line says =
     let known = known_rest target (Some target) input _ refl so_far.came in
     let mine : r ≡ report_with check.found (ReadFault count) = is ∙ ap (λ (k : Check). report_with k.found (ReadFault count)) kept in
     both status _ _ _ line says (λ wrote s is_status. inr (inl (record {
@@ -226,19 +224,20 @@ mapped_cut e check new_check unread new_unread count target input left first_tex
       reports = reports e check so_far.cells same whole so_far.seen;
       finishes = (
         Appends-trans first_text text new_text (lines_of e so_far.cells) _ so_far.written
-            (Appends-trans text mid_text new_text (unchecked_line e) (with_line_feed (report_line (report_with check.found (ReadFault count)))) told
-            (subst (λ (p : ReportParts). Appends mid_text new_text (with_line_feed (report_line p))) mine wrote)),
+            (Appends-trans text mid_text new_text (unchecked_line e) (last_line (report_with check.found (ReadFault count)) (kinds_of e so_far.cells)) told
+            (subst (λ (k : Kinds). Appends mid_text new_text (last_line (report_with check.found (ReadFault count)) k)) so_far.kinds
+            (subst (λ (p : ReportParts). Appends mid_text new_text (last_line p sums)) mine wrote))),
         is_status ∙ ap (status_with new_unread) mine ∙ cut_status new_unread,
       );
     })))
 
 -- No block comes.
-pub mapped_refused : {E : Type 0} (e : Expected) (check : Check) (unread : Bool) (count : ℕ) (target : List ℕ)
+pub mapped_refused : {E : Type 0} (e : Expected) (check : Check) (unread : Bool) (sums : Kinds) (count : ℕ) (target : List ℕ)
     (input left first_text text new_text : Option (List ℕ)) (fault : Fault) (status : Result ℕ E)
-    → HasMapped e check unread count (Some target) input first_text text → count < e.job.blocks → NoBlock fault input left
+    → HasMapped e check unread sums count (Some target) input first_text text → count < e.job.blocks → NoBlock fault input left
     → IfOk status (Refuses (plain fault) text new_text) → IfOk status (MapsTarget e target first_text new_text)
-mapped_refused e check unread count target input left first_text text new_text fault (Err x) so_far within none refuses = tt
-mapped_refused e check unread count target input left first_text text new_text fault (Ok s) so_far within none refuses =
+mapped_refused e check unread sums count target input left first_text text new_text fault (Err x) so_far within none refuses = tt
+mapped_refused e check unread sums count target input left first_text text new_text fault (Ok s) so_far within none refuses =
     let known = known_rest target (Some target) input _ refl so_far.came in
     inr (inr (record {
       cells = so_far.cells;

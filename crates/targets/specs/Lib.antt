@@ -12,6 +12,8 @@ pub mod Reports
 pub mod Command
 pub mod MapInput
 pub mod MapSectors
+pub mod MapDifferences
+pub mod MapKinds
 pub mod MapLines
 pub mod Maps
 pub mod Mapping

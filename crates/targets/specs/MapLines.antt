@@ -1,12 +1,12 @@
 -- The lines of a map.
 use Rattle.std.specs.Prelude.{ℕ, ◌==◌, ◌+◌, ◌-◌, Bool, not, ◌&&◌, ◌||◌, List, [], ◌++◌, Option, Some, None, codes, decimal, if◌then◌else◌}
-use Rattle.fc_base.specs.declared.record.JobParts.{JobParts}
 use Rattle.std.specs.List.{flat_map, range_with_len}
 use Rattle.diagnosis.specs.declared.holds.Holds.TheVariants as kinds
 use Rattle.diagnosis.specs.declared.stamp.Write.{Write}
 use Rattle.recheck.specs.declared.expected.Placed.{Placed}
 use Rattle.recheck.specs.Expected.{Expected}
 use Rattle.recheck.specs.Faults.{is_checked, last_write}
+use Rattle.targets.specs.MapDifferences.{differs_words}
 use Rattle.targets.specs.MapSectors.{sectors_words}
 use Rattle.targets.specs.declared.told.Told.{Told}
 use Rattle.targets.specs.declared.told.Told.TheVariants as tolds
@@ -47,27 +47,28 @@ write_words write =
     ++ (decimal write.key.server ++ (codes " of run " ++ decimal write.key.run))))))))
 
 -- What a block with these bytes holds, where that is more than its kind.
-abbrev pub held_words : JobParts → List ℕ → Told → List ℕ
-held_words job bytes tolds.Unchecked = []
-held_words job bytes tolds.Unread = []
-held_words job bytes tolds.Sound = []
-held_words job bytes (tolds.Fault kinds.Sound) = []
-held_words job bytes (tolds.Fault kinds.Unwritten) = []
-held_words job bytes (tolds.Fault (kinds.Filled byte)) = codes ", holds byte " ++ decimal byte
-held_words job bytes (tolds.Fault (kinds.Lost k)) = codes ", holds write " ++ decimal k
-held_words job bytes (tolds.Fault (kinds.Unissued k)) = codes ", holds write " ++ decimal k
-held_words job bytes (tolds.Fault (kinds.OtherRun write)) = write_words write
-held_words job bytes (tolds.Fault (kinds.Misdirected write)) = write_words write
-held_words job bytes (tolds.Fault kinds.Torn) = sectors_words job bytes
-held_words job bytes (tolds.Fault (kinds.Corrupt sectors)) =
-    codes ", unknown sectors " ++ (decimal sectors ++ sectors_words job bytes)
+abbrev pub held_words : Expected → ℕ → List ℕ → Told → List ℕ
+held_words e block bytes tolds.Unchecked = []
+held_words e block bytes tolds.Unread = []
+held_words e block bytes tolds.Sound = []
+held_words e block bytes (tolds.Fault kinds.Sound) = []
+held_words e block bytes (tolds.Fault kinds.Unwritten) = []
+held_words e block bytes (tolds.Fault (kinds.Filled byte)) = codes ", holds byte " ++ decimal byte
+held_words e block bytes (tolds.Fault (kinds.Lost k)) = codes ", holds write " ++ decimal k
+held_words e block bytes (tolds.Fault (kinds.Unissued k)) = codes ", holds write " ++ decimal k
+held_words e block bytes (tolds.Fault (kinds.OtherRun write)) = write_words write
+held_words e block bytes (tolds.Fault (kinds.Misdirected write)) = write_words write
+held_words e block bytes (tolds.Fault kinds.Torn) = sectors_words e.job bytes
+held_words e block bytes (tolds.Fault (kinds.Corrupt sectors)) =
+    codes ", unknown sectors " ++ (decimal sectors
+    ++ (differs_words e block bytes ++ sectors_words e.job bytes))
 
 -- The line of a block: its number, what is told of it, the writes that it may hold, and what it
 -- holds.
 abbrev pub line_words : Expected → ℕ → List ℕ → Told → List ℕ
 line_words e block bytes told =
     codes "block " ++ (decimal block ++ (codes " " ++ (kind_word told ++ (codes ": wants write "
-    ++ (wanted_words e block ++ (held_words e.job bytes told ++ codes "\n"))))))
+    ++ (wanted_words e block ++ (held_words e block bytes told ++ codes "\n"))))))
 
 -- It has none where it isn't checked or is sound.
 abbrev pub line_if_any : Expected → ℕ → List ℕ → Told → List ℕ

@@ -1,6 +1,7 @@
 -- A map of a target: what is told of each of its blocks.
 use Rattle.std.specs.Prelude.{◌≡◌, ◌⊎◌, ◌<◌, ℕ, Bool, false, not, ◌&&◌, List, [], ◌∷◌, ◌++◌, filter, map, length, Option, Some, None, is_some, IsTrue, IfSome, if◌then◌else◌}
 use Rattle.std.specs.List.{flat_map, list_any, range_with_len}
+use Rattle.std.specs.Str.{bytes_eq}
 use Rattle.fc_base.specs.declared.fault.Fault.{Fault}
 use Rattle.fc_base.specs.declared.report.ReportParts.{ReportParts}
 use Rattle.fc_base.specs.declared.report.ReportEnd.TheVariants.{ReadFault}
@@ -10,11 +11,13 @@ use Rattle.program_io.specs.Refusals.{plain, refusal_line}
 use Rattle.recheck.specs.Expected.{Expected}
 use Rattle.recheck.specs.Faults.{is_checked, is_expected}
 use Rattle.recheck.specs.Report.{report}
+use Rattle.targets.specs.declared.kinds.Kinds.{Kinds}
 use Rattle.targets.specs.declared.told.Told.{Told}
 use Rattle.targets.specs.declared.told.Told.TheVariants as tolds
 use Rattle.targets.specs.Reports.{report_line, report_status}
 use Rattle.targets.specs.MapInput.{block_code, IsPart, NoBlock}
-use Rattle.targets.specs.MapLines.{line_words, unchecked_line}
+use Rattle.targets.specs.MapKinds.{kinds_by, kinds_words}
+use Rattle.targets.specs.MapLines.{kind_word, line_words, unchecked_line}
 
 -- A block of a target: its bytes, or none where it could not be read, and what is told of it.
 pub record Cell : Type 0 where
@@ -73,6 +76,15 @@ abbrev pub lines_of : Expected → List Cell → List ℕ
 lines_of e cells =
     flat_map (λ c. line_words e c.block (bytes_in c.bytes) c.told) (filter (has_line e) cells)
 
+-- How many of these blocks have a line of the kind with this word.
+abbrev pub lines_with : Expected → List Cell → List ℕ → ℕ
+lines_with e cells word =
+    length (filter (λ c. has_line e c && bytes_eq (kind_word c.told) word) cells)
+
+-- How many have a line of each kind.
+abbrev pub kinds_of : Expected → List Cell → Kinds
+kinds_of e cells = kinds_by (lines_with e cells)
+
 -- A checked block could not be read.
 abbrev pub is_unread : Expected → Cell → Bool
 is_unread e cell = is_checked e cell.block && not (is_some cell.bytes)
@@ -87,10 +99,14 @@ abbrev pub Reports : Expected → List Cell → ReportParts → Type 0
 Reports e cells r =
     (held : ℕ → List ℕ) → AreOf held cells → r ≡ report false e held (read_blocks cells)
 
+-- The last line: the report's, and behind it how many lines there are of each kind.
+abbrev pub last_line : ReportParts → Kinds → List ℕ
+last_line r kinds = with_line_feed (report_line r ++ kinds_words kinds)
+
 -- What is written of these blocks: their lines, the line that tells which blocks of the region
--- aren't checked, and the report's.
+-- aren't checked, and the last.
 abbrev pub map_text : Expected → List Cell → ReportParts → List ℕ
-map_text e cells r = lines_of e cells ++ (unchecked_line e ++ with_line_feed (report_line r))
+map_text e cells r = lines_of e cells ++ (unchecked_line e ++ last_line r (kinds_of e cells))
 
 -- The status is 2 where a checked block could not be read, and else that of the report.
 abbrev pub map_status : Expected → List Cell → ReportParts → ℕ

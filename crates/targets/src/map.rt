@@ -2,17 +2,18 @@
 
 ghost use Rattle.std.specs.Prelude.{◌≡◌, ◌≤◌, ◌<◌, ◌+◌, ◌||◌, false, true, length, IfOk, IfErr, IfSome, OnOk, Some, None};
 ghost use Rattle.std.specs.Io.KnownBytes.{Appends};
-ghost use Rattle.program_io.specs.Words.{with_line_feed};
 ghost use Rattle.recheck.specs.Report.{report_of, report_with};
 ghost use Rattle.recheck.specs.Check.{start};
-ghost use Rattle.targets.specs.Reports.{CannotCheck, report_line, report_status};
+ghost use Rattle.targets.specs.Reports.{CannotCheck, report_status};
 ghost use Rattle.targets.specs.MapJobs.{MapsJob, StartsMap, status_with};
-ghost use Rattle.targets.specs.Maps.{MapsTarget};
+ghost use Rattle.targets.specs.Maps.{MapsTarget, last_line};
+ghost use Rattle.targets.specs.MapKinds.{all_lines};
 ghost use Rattle.targets.specs.Mapping.{GoesOn, IsReady, Takes, TellsBytes, TellsUnread};
 
 use crate::asked::{key_of, read_job};
 use crate::drive_check::{read_state, status_of};
 use crate::drive_write::refuse;
+use crate::kinds::{Kinds, no_lines, with_line, write_kinds};
 use crate::map_input::{Came, next_block};
 use crate::map_lines::write_told;
 use crate::map_unchecked::write_unchecked;
@@ -41,8 +42,9 @@ struct Map {
 /// and then its bytes; or 0, and no bytes, where it could not be read. Writes a line for each
 /// checked block that is a fault or could not be read, ascending, as
 /// `block 15 lost: wants write 239, holds write 68`; a line of the blocks that aren't checked, as
-/// `unchecked 5-9 12-12`; and the line of the report of the blocks that were read. It goes over the
-/// whole region, also where the job's faults are fatal.
+/// `unchecked 5-9 12-12`; and the line of the report of the blocks that were read, behind which
+/// stands how many lines there are of each kind, as `report checked 9 faults 1 end whole first 5
+/// lost 1`. It goes over the whole region, also where the job's faults are fatal.
 ///
 /// The status is 0; 1 where the report has faults; and 2 where a checked block could not be read,
 /// where the input ends before the region, which the report says as `end read B`, and for every
@@ -98,9 +100,13 @@ fn go_over<R: Read, W: Write>(mut map: Map, reader: &mut R, writer: &mut W) -> i
     ensures { IfSome (R.remaining reader.old) (λ target. IfOk result
         (MapsTarget map.check.expected target (W.contents writer.old) (W.contents writer.new))) }
 {
+    let mut kinds = no_lines();
     for block in 0..map.check.expected().rec().blocks() {
         match take_block(&mut map, block, reader) {
-            Ok(Some(told)) => write_told(writer, map.check.expected(), block, &map.bytes, &told)?,
+            Ok(Some(told)) => {
+                write_told(writer, map.check.expected(), block, &map.bytes, &told)?;
+                kinds = with_line(kinds, &told);
+            }
             Ok(None) => {
                 write_unchecked(writer, map.check.expected())?;
                 let Map {
@@ -108,7 +114,7 @@ fn go_over<R: Read, W: Write>(mut map: Map, reader: &mut R, writer: &mut W) -> i
                     bytes: _,
                     unread,
                 } = map;
-                return write_report(writer, &check.finish_at(block), unread);
+                return write_report(writer, &check.finish_at(block), &kinds, unread);
             }
             Err(fault) => return refuse(writer, PrintedRefusal::from(fault)),
         }
@@ -119,7 +125,7 @@ fn go_over<R: Read, W: Write>(mut map: Map, reader: &mut R, writer: &mut W) -> i
         bytes: _,
         unread,
     } = map;
-    write_report(writer, &check.finish(), unread)
+    write_report(writer, &check.finish(), &kinds, unread)
 }
 
 /// Reads the next block, and tells what it holds. `None` where the input ends in it.
@@ -164,15 +170,20 @@ fn tell_unread(map: &mut Map, block: u32) -> Told
     }
 }
 
-/// Writes the line of the report, and answers the status.
-fn write_report<W: Write>(writer: &mut W, report: &CheckReport, unread: bool) -> io::Result<u8>
+/// Writes the line of the report with the sums by kind, and answers the status.
+fn write_report<W: Write>(
+    writer: &mut W,
+    report: &CheckReport,
+    kinds: &Kinds,
+    unread: bool,
+) -> io::Result<u8>
     ensures line { OnOk result
-        (Appends (W.contents writer.old) (W.contents writer.new)
-        (with_line_feed (report_line report.now))) }
+        (Appends (W.contents writer.old) (W.contents writer.new) (last_line report.now kinds.now)) }
     ensures status { IfOk result (λ status. status ≡ status_with unread report.now) }
 {
     write!(writer, "report ")?;
     write_report_words(writer, report)?;
+    write_kinds(writer, kinds)?;
     writeln!(writer)?;
     writer.flush()?;
     Ok(status_with(unread, report))

@@ -3,13 +3,15 @@
 ghost use Rattle.std.specs.Prelude.{◌≡◌, OnOk, ◌++◌, length, codes, decimal};
 ghost use Rattle.std.specs.List.{flat_map};
 ghost use Rattle.std.specs.Io.KnownBytes.{Appends};
+ghost use Rattle.targets.specs.MapDifferences.{differs_words};
 ghost use Rattle.targets.specs.MapSectors.{sectors_words};
 ghost use Rattle.targets.specs.MapLines.{held_words, last_words, line_if_any, line_words, or_words, wanted_words, write_words};
 
+use crate::map_differences::write_differences;
 use crate::map_sectors::write_sectors;
 use crate::told::{Told, kind_word};
 use diagnosis::{Holds, Write as Written};
-use fc_base::{JobNo, JobRecord, RunNo, Seq, ServerNo};
+use fc_base::{JobNo, RunNo, Seq, ServerNo};
 use recheck::{Expected, Placed};
 use std::io;
 use std::io::Write;
@@ -48,7 +50,7 @@ fn write_line<W: Write>(
 {
     write!(writer, "block {block} {}: wants write ", kind_word(told))?;
     write_wanted(writer, expected, block)?;
-    write_held(writer, &expected.rec(), bytes, told)?;
+    write_held(writer, expected, block, bytes, told)?;
     writeln!(writer)
 }
 
@@ -99,13 +101,14 @@ fn write_or<W: Write>(writer: &mut W, block: u32, write: &Placed) -> io::Result<
 /// Writes what the block holds, where that is more than its kind.
 fn write_held<W: Write>(
     writer: &mut W,
-    rec: &JobRecord,
+    expected: &Expected,
+    block: u32,
     bytes: &[u8],
     told: &Told,
 ) -> io::Result<()>
-    requires { length bytes.now ≡ rec.now.bs }
+    requires { length bytes.now ≡ expected.now.job.bs }
     ensures { OnOk result (Appends (W.contents writer.old) (W.contents writer.new)
-        (held_words rec.now bytes.now told.now)) }
+        (held_words expected.now block bytes.now told.now)) }
 {
     match told {
         Told::Fault(Holds::Filled(byte)) => write!(writer, ", holds byte {byte}"),
@@ -113,29 +116,44 @@ fn write_held<W: Write>(
         Told::Fault(Holds::Unissued(seq)) => write_seq(writer, *seq),
         Told::Fault(Holds::OtherRun(write)) => write_write(writer, write),
         Told::Fault(Holds::Misdirected(write)) => write_write(writer, write),
-        Told::Fault(Holds::Corrupt(sectors)) => write_corrupt(writer, rec, bytes, *sectors),
+        Told::Fault(Holds::Corrupt(sectors)) => {
+            write_corrupt(writer, expected, block, bytes, *sectors)
+        }
         Told::Fault(Holds::Sound) => Ok(()),
         Told::Fault(Holds::Unwritten) => Ok(()),
-        Told::Fault(Holds::Torn) => write_sectors(writer, rec, bytes),
+        Told::Fault(Holds::Torn) => write_torn(writer, expected, bytes),
         Told::Unchecked => Ok(()),
         Told::Unread => Ok(()),
         Told::Sound => Ok(()),
     }
 }
 
-/// Writes how many sectors are unknown, and what each holds.
+/// Writes what each sector holds.
+fn write_torn<W: Write>(writer: &mut W, expected: &Expected, bytes: &[u8]) -> io::Result<()>
+    requires { length bytes.now ≡ expected.now.job.bs }
+    ensures { OnOk result (Appends (W.contents writer.old) (W.contents writer.new)
+        (sectors_words expected.now.job bytes.now)) }
+{
+    write_sectors(writer, &expected.rec(), bytes)
+}
+
+/// Writes how many sectors are unknown, how the block differs from what it may hold, and what each
+/// sector holds.
 fn write_corrupt<W: Write>(
     writer: &mut W,
-    rec: &JobRecord,
+    expected: &Expected,
+    block: u32,
     bytes: &[u8],
     sectors: u32,
 ) -> io::Result<()>
-    requires { length bytes.now ≡ rec.now.bs }
+    requires { length bytes.now ≡ expected.now.job.bs }
     ensures { OnOk result (Appends (W.contents writer.old) (W.contents writer.new)
-        (codes ", unknown sectors " ++ (decimal sectors ++ sectors_words rec.now bytes.now))) }
+        (codes ", unknown sectors " ++ (decimal sectors
+        ++ (differs_words expected.now block bytes.now ++ sectors_words expected.now.job bytes.now)))) }
 {
     write!(writer, ", unknown sectors {sectors}")?;
-    write_sectors(writer, rec, bytes)
+    write_differences(writer, expected, block, bytes)?;
+    write_torn(writer, expected, bytes)
 }
 
 /// Writes which write of the job to the block it holds.

@@ -4,6 +4,8 @@ mod checks;
 mod fakes;
 mod flushes;
 mod inputs;
+mod map_differences;
+mod map_failures;
 mod map_inputs;
 mod map_kinds;
 mod maps;

@@ -10,6 +10,10 @@ use std::io::BufReader;
 use std::test::Fail;
 use targets::{map_job, write_job};
 
+/// Two writes of a pattern to one block of two sectors.
+pub(super) const PATTERN: &[u8] =
+    b"[a]\nrw=write\nbs=1k\nsize=1k\nio_size=2k\niodepth=2\nverify=pattern\nverify_pattern=0x55\n";
+
 /// Four writes to two blocks, where the first fault is fatal.
 pub(super) const FATAL: &[u8] =
     b"[a]\nrw=write\nbs=512\nsize=1k\nio_size=2k\niodepth=2\nverify_fatal=1\n";
@@ -31,13 +35,16 @@ pub(super) const TWO_DONE: &[Tell] = &[Tell::Done(0), Tell::Done(1), Tell::Take]
 pub(super) enum Sector {
     /// The stamp of this run, job, write, block and place.
     Stamp(u64, u32, u64, u64, u32),
-    /// The stamp of this write and block, of which the byte at this place is another.
-    Changed(u64, u64, usize),
+    /// The stamp of this write, block and place, of whose bytes at these places these bits are
+    /// turned over.
+    Changed(u64, u64, u32, &'static [(usize, u8)]),
+    /// This byte over and over, likewise.
+    Spoilt(u8, &'static [(usize, u8)]),
     /// This byte over and over.
     Filled(u8),
 }
 
-use Sector::{Changed, Filled, Stamp};
+use Sector::{Changed, Filled, Spoilt, Stamp};
 
 /// What comes of a target: a byte, or a sector.
 #[derive(Clone, Copy)]
@@ -70,17 +77,29 @@ fn push_stamp(
     Ok(())
 }
 
+/// Turns bits over in the last 512 bytes.
+fn turn_over(bytes: &mut Vec<u8>, places: &[(usize, u8)]) {
+    let start = bytes.len().saturating_sub(512);
+    for (place, bits) in places {
+        if let Some(byte) = bytes.get_mut(start.wrapping_add(*place)) {
+            *byte ^= *bits;
+        }
+    }
+}
+
 /// Adds a sector.
 fn push_sector(bytes: &mut Vec<u8>, sector: Sector) -> Result<(), AllocError> {
     match sector {
         Stamp(run, job, write, block, place) => push_stamp(bytes, run, job, write, block, place),
         Filled(byte) => bytes.extend_from_slice(&[byte; 512]),
-        Changed(write, block, at) => {
-            let start = bytes.len();
-            push_stamp(bytes, RUN, 0, write, block, 0)?;
-            if let Some(byte) = bytes.get_mut(start.wrapping_add(at)) {
-                *byte ^= 1;
-            }
+        Changed(write, block, place, places) => {
+            push_stamp(bytes, RUN, 0, write, block, place)?;
+            turn_over(bytes, places);
+            Ok(())
+        }
+        Spoilt(byte, places) => {
+            bytes.extend_from_slice(&[byte; 512])?;
+            turn_over(bytes, places);
             Ok(())
         }
     }

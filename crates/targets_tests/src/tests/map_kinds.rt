@@ -32,7 +32,7 @@ static KINDS: [Row; 15] = [
         ],
         1,
         "block 0 unwritten: wants write 0 or 2\n\
-         unchecked\nreport checked 2 faults 1 end whole first 0\n",
+         unchecked\nreport checked 2 faults 1 end whole first 0 unwritten 1\n",
     ),
     (
         TWO_BLOCKS,
@@ -45,7 +45,7 @@ static KINDS: [Row; 15] = [
         ],
         1,
         "block 1 filled: wants write 1 or 3, holds byte 255\n\
-         unchecked\nreport checked 2 faults 1 end whole first 1\n",
+         unchecked\nreport checked 2 faults 1 end whole first 1 filled 1\n",
     ),
     (
         TWO_BLOCKS,
@@ -59,7 +59,7 @@ static KINDS: [Row; 15] = [
         1,
         "block 0 lost: wants write 2, holds write 0\n\
          block 1 lost: wants write 3, holds write 1\n\
-         unchecked\nreport checked 2 faults 2 end whole first 0 1\n",
+         unchecked\nreport checked 2 faults 2 end whole first 0 1 lost 2\n",
     ),
     (
         TWO_BLOCKS,
@@ -72,7 +72,7 @@ static KINDS: [Row; 15] = [
         ],
         1,
         "block 0 unissued: wants write 2, holds write 4\n\
-         unchecked\nreport checked 2 faults 1 end whole first 0\n",
+         unchecked\nreport checked 2 faults 1 end whole first 0 unissued 1\n",
     ),
     (
         TWO_BLOCKS,
@@ -86,7 +86,7 @@ static KINDS: [Row; 15] = [
         1,
         "block 0 other-run: wants write 2, \
          holds write 2 of block 0 of job 0 of server 0 of run 6\n\
-         unchecked\nreport checked 2 faults 1 end whole first 0\n",
+         unchecked\nreport checked 2 faults 1 end whole first 0 other-run 1\n",
     ),
     (
         TWO_BLOCKS,
@@ -102,7 +102,7 @@ static KINDS: [Row; 15] = [
          holds write 3 of block 1 of job 0 of server 0 of run 7\n\
          block 1 misdirected: wants write 3, \
          holds write 3 of block 1 of job 5 of server 0 of run 7\n\
-         unchecked\nreport checked 2 faults 2 end whole first 0 1\n",
+         unchecked\nreport checked 2 faults 2 end whole first 0 1 misdirected 2\n",
     ),
     (
         TWO_BLOCKS,
@@ -111,11 +111,12 @@ static KINDS: [Row; 15] = [
             Byte(1),
             Bytes(Stamp(RUN, 0, 2, 0, 0)),
             Byte(1),
-            Bytes(Changed(3, 1, 511)),
+            Bytes(Changed(3, 1, 0, &[(511, 1)])),
         ],
         1,
-        "block 1 corrupt: wants write 3, unknown sectors 1; 0-0 unknown\n\
-         unchecked\nreport checked 2 faults 1 end whole first 1\n",
+        "block 1 corrupt: wants write 3, unknown sectors 1, \
+         differs from write 3 by bits 1 first at sector 0 byte 511; 0-0 unknown\n\
+         unchecked\nreport checked 2 faults 1 end whole first 1 corrupt 1\n",
     ),
     (
         ONE_BLOCK,
@@ -129,7 +130,7 @@ static KINDS: [Row; 15] = [
         "block 0 torn: wants write 1; \
          0-0 write 1 of block 0 of job 0 of server 0 of run 7 place 0; \
          1-1 write 0 of block 0 of job 0 of server 0 of run 7 place 1\n\
-         unchecked\nreport checked 1 faults 1 end whole first 0\n",
+         unchecked\nreport checked 1 faults 1 end whole first 0 torn 1\n",
     ),
     (
         TWO_BLOCKS,
@@ -137,7 +138,7 @@ static KINDS: [Row; 15] = [
         &[Byte(0), Byte(1), Bytes(Stamp(RUN, 0, 3, 1, 0))],
         2,
         "block 0 unread: wants write 2\n\
-         unchecked\nreport checked 1 faults 0 end whole first -\n",
+         unchecked\nreport checked 1 faults 0 end whole first - unread 1\n",
     ),
     (
         TWO_BLOCKS,
@@ -145,7 +146,7 @@ static KINDS: [Row; 15] = [
         &[Byte(1), Bytes(Filled(0)), Byte(0)],
         2,
         "block 0 unwritten: wants write 2\nblock 1 unread: wants write 3\n\
-         unchecked\nreport checked 1 faults 1 end whole first 0\n",
+         unchecked\nreport checked 1 faults 1 end whole first 0 unwritten 1 unread 1\n",
     ),
     (
         FATAL,
@@ -153,7 +154,7 @@ static KINDS: [Row; 15] = [
         &[Byte(1), Bytes(Filled(0)), Byte(1), Bytes(Filled(0))],
         1,
         "block 0 unwritten: wants write 2\nblock 1 unwritten: wants write 3\n\
-         unchecked\nreport checked 2 faults 2 end whole first 0 1\n",
+         unchecked\nreport checked 2 faults 2 end whole first 0 1 unwritten 2\n",
     ),
     (
         TWO_BLOCKS,
@@ -161,7 +162,7 @@ static KINDS: [Row; 15] = [
         &[Byte(0), Byte(0)],
         2,
         "block 0 unread: wants write 2\nblock 1 unread: wants write 3\n\
-         unchecked\nreport checked 0 faults 0 end whole first -\n",
+         unchecked\nreport checked 0 faults 0 end whole first - unread 2\n",
     ),
     (
         FOUR_SECTORS,
@@ -176,7 +177,7 @@ static KINDS: [Row; 15] = [
         1,
         "block 0 torn: wants write 1; \
          0-1 write 1 of block 0 of job 0 of server 0 of run 7 place 1; 2-3 zeros\n\
-         unchecked\nreport checked 1 faults 1 end whole first 0\n",
+         unchecked\nreport checked 1 faults 1 end whole first 0 torn 1\n",
     ),
     (
         FOUR_SECTORS,
@@ -192,7 +193,7 @@ static KINDS: [Row; 15] = [
         "block 0 corrupt: wants write 1, unknown sectors 2; 0-0 unknown; \
          1-1 write 1 of block 0 of job 0 of server 0 of run 7 place 1; \
          2-2 write 1 of block 0 of job 0 of server 0 of run 7 place 1; 3-3 unknown\n\
-         unchecked\nreport checked 1 faults 1 end whole first 0\n",
+         unchecked\nreport checked 1 faults 1 end whole first 0 corrupt 1\n",
     ),
 ];
 

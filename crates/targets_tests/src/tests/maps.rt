@@ -28,7 +28,7 @@ static ENDS: [Row; 8] = [
         ],
         1,
         "block 3 filled: wants write 3, holds byte 9\n\
-         unchecked 1-2 4-5\nreport checked 2 faults 1 end whole first 3\n",
+         unchecked 1-2 4-5\nreport checked 2 faults 1 end whole first 3 filled 1\n",
     ),
     (
         SIX_BLOCKS,
@@ -36,7 +36,7 @@ static ENDS: [Row; 8] = [
         &[Byte(0), Byte(0), Byte(0), Byte(0), Byte(0), Byte(0)],
         2,
         "block 1 unread: wants write 1\nblock 4 unread: wants write 4\n\
-         unchecked 0-0 2-3 5-5\nreport checked 0 faults 0 end whole first -\n",
+         unchecked 0-0 2-3 5-5\nreport checked 0 faults 0 end whole first - unread 2\n",
     ),
     (
         SIX_BLOCKS,
@@ -58,7 +58,7 @@ static ENDS: [Row; 8] = [
         &[Byte(1), Bytes(Filled(0)), Byte(1)],
         2,
         "block 0 unwritten: wants write 2\n\
-         unchecked\nreport checked 1 faults 1 end read 1 first 0\n",
+         unchecked\nreport checked 1 faults 1 end read 1 first 0 unwritten 1\n",
     ),
     (
         TWO_BLOCKS,
@@ -66,7 +66,7 @@ static ENDS: [Row; 8] = [
         &[Byte(0)],
         2,
         "block 0 unread: wants write 2\n\
-         unchecked\nreport checked 0 faults 0 end read 1 first -\n",
+         unchecked\nreport checked 0 faults 0 end read 1 first - unread 1\n",
     ),
     (TWO_BLOCKS, &[], &[Byte(2)], 2, "refused 94 BadNotice\n"),
     (
@@ -77,6 +77,59 @@ static ENDS: [Row; 8] = [
         "block 0 unwritten: wants write 2\nrefused 94 BadNotice\n",
     ),
 ];
+
+/// Writes that have failed: each is in flight, and may have come to its block or not.
+static FAILED: [Row; 4] = [
+    (
+        TWO_BLOCKS,
+        &[Done(0), Failed(1), Take],
+        &[Byte(1), Bytes(Filled(0)), Byte(1), Bytes(Filled(9))],
+        1,
+        "block 0 unwritten: wants write 0 or 2\n\
+         unchecked 1-1\nreport checked 1 faults 1 end whole first 0 unwritten 1\n",
+    ),
+    (
+        TWO_BLOCKS,
+        &[Done(0), Done(1), Failed(2), Take],
+        &[
+            Byte(1),
+            Bytes(Stamp(RUN, 0, 2, 0, 0)),
+            Byte(1),
+            Bytes(Stamp(RUN, 0, 1, 1, 0)),
+        ],
+        0,
+        "unchecked\nreport checked 2 faults 0 end whole first -\n",
+    ),
+    (
+        TWO_BLOCKS,
+        &[Done(0), Done(1), Failed(2), Take],
+        &[
+            Byte(1),
+            Bytes(Changed(2, 0, 0, &[(256, 1)])),
+            Byte(1),
+            Bytes(Stamp(RUN, 0, 2, 0, 0)),
+        ],
+        1,
+        "block 0 corrupt: wants write 0 or 2, unknown sectors 1, \
+         differs from write 2 by bits 1 first at sector 0 byte 256; 0-0 unknown\n\
+         block 1 misdirected: wants write 1 or 3, \
+         holds write 2 of block 0 of job 0 of server 0 of run 7\n\
+         unchecked\nreport checked 2 faults 2 end whole first 0 1 misdirected 1 corrupt 1\n",
+    ),
+    (
+        SIX_BLOCKS,
+        &[Failed(3), Done(5), Done(0), Failed(1), Take],
+        &[Byte(0), Byte(0), Byte(0), Byte(0), Byte(0), Byte(0)],
+        2,
+        "block 0 unread: wants write 0\nblock 5 unread: wants write 5\n\
+         unchecked 1-4\nreport checked 0 faults 0 end whole first - unread 2\n",
+    ),
+];
+
+#[test]
+fn writes_that_have_failed(rt: HostRuntime) -> Result<(), Fail> {
+    all_agree(rt.alloc(), &FAILED)
+}
 
 #[test]
 fn ends_and_unchecked_blocks(rt: HostRuntime) -> Result<(), Fail> {
