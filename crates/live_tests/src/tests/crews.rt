@@ -22,6 +22,23 @@ const TWO_WRITES: &[u8] = b"[a]\nrw=write\nbs=512\nsize=1k\niodepth=2\n";
 /// Two jobs of two writes each, one in flight.
 const TWO_JOBS: &[u8] = b"[global]\nrw=write\nbs=512\nsize=1k\n[a]\n[b]\n";
 
+/// Two passes over two blocks, two writes in flight: what the second pass writes has to be found.
+const TWO_PASSES: &[u8] = b"[a]\nrw=write\nbs=512\nsize=1k\nio_size=2k\niodepth=2\n";
+
+/// Two jobs that have nothing in common: the second writes larger blocks, in another order, of one byte.
+const UNLIKE_JOBS: &[u8] = b"\
+[a]
+rw=write
+bs=512
+size=1k
+[b]
+rw=randwrite
+bs=1k
+size=3k
+verify=pattern
+verify_pattern=0x5a
+";
+
 /// Two writes, which were found on their disk.
 const SOUND: Taken = Taken {
     issued: 2,
@@ -36,6 +53,24 @@ const FIRST: Taken = Taken {
     checked: 1,
     ..SOUND
 };
+
+/// Two writes to each of two blocks, of which the later were found.
+const TWICE: Taken = Taken {
+    issued: 4,
+    completed: 4,
+    ..SOUND
+};
+
+/// Three writes to three blocks.
+const THREE: Taken = Taken {
+    issued: 3,
+    completed: 3,
+    checked: 3,
+    faults: 0,
+};
+
+/// One write, which was found on its disk.
+const ONE: Taken = Taken { issued: 1, ..FIRST };
 
 /// A write that isn't done.
 const NO_WRITE: Taken = Taken {
@@ -64,7 +99,7 @@ const ALONE: Story = Story {
     steps: &[],
 };
 
-static STORIES: [Story; 8] = [
+static STORIES: [Story; 11] = [
     // Its seat has applied two writes, their ends, and that the job has no more.
     Story {
         name: "two writes",
@@ -146,6 +181,44 @@ static STORIES: [Story; 8] = [
             Step::Trigger,
             Step::Takes(0, SOUND),
             Step::Takes(1, SOUND),
+        ],
+        ..ALONE
+    },
+    Story {
+        name: "two passes",
+        lets: Lets::All,
+        steps: &[
+            Step::Begin(TWO_PASSES),
+            Step::Works(Ended::Finished, 9),
+            Step::Trigger,
+            Step::Takes(0, TWICE),
+        ],
+        ..ALONE
+    },
+    Story {
+        name: "two jobs of unlike settings",
+        failing: &[NONE, NONE],
+        lets: Lets::All,
+        steps: &[
+            Step::Begin(UNLIKE_JOBS),
+            Step::Works(Ended::Finished, 12),
+            Step::Trigger,
+            Step::Takes(0, SOUND),
+            Step::Takes(1, THREE),
+        ],
+        ..ALONE
+    },
+    // The other worker has told it, so what this one tells is refused, and it goes on to no other.
+    Story {
+        name: "a write that another worker has told",
+        workers: Workers::Two,
+        lets: Lets::ToldBefore,
+        steps: &[
+            Step::Begin(TWO_WRITES),
+            Step::Works(Ended::Refused(21), 2),
+            Step::DoneWrites(1),
+            Step::Trigger,
+            Step::Takes(0, ONE),
         ],
         ..ALONE
     },

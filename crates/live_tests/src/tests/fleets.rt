@@ -1,9 +1,11 @@
 //! What no clause of a fleet shows: that its threads do their work.
 
+mod cut_off;
 mod gates;
 mod kinds;
 mod replay;
 mod story;
+mod texts;
 
 use fc_base::Fault;
 use fleet::{FleetFault, FleetLeft, OpenGate, run_and_leave};
@@ -14,12 +16,18 @@ use std::sync::Wait;
 use std::test::Fail;
 use std::thread::Threads;
 use story::{READING, Row, STORED, Story, WRITING, Wanted, goes_so};
+use texts::{READING_OTHER, READING_UNLIKE, WRITING_TWO, WRITING_UNLIKE};
 
-/// Two jobs; the second is read in larger blocks than it was written.
-const WRITING_TWO: &[u8] = b"[a]\nrw=write\nbs=512\nsize=1k\n[b]\nrw=write\nbs=512\nsize=2k\n";
-
-const READING_OTHER: &[u8] =
-    b"[global]\nrw=read\nverify_state_load=1\n[a]\nbs=512\nsize=1k\n[b]\nbs=1k\nsize=2k\n";
+/// What comes of jobs of unlike settings at two servers: with seed 9 the eight writes of the last go to the blocks
+/// 3, 0, 7, 3, 1, 2, 3 and 1, as another program told, which are five.
+const UNLIKE_ENDS: &[Row] = &[
+    (0, 0, Some(4)),
+    (0, 1, Some(4)),
+    (0, 2, Some(5)),
+    (1, 0, Some(4)),
+    (1, 1, Some(4)),
+    (1, 2, Some(5)),
+];
 
 /// The first write waits for the second.
 const REVERSED: &[(Write, Write)] = &[((0, 0), (0, 1))];
@@ -47,7 +55,7 @@ const EIGHT: &[Row] = &[
     (7, 0, Some(2)),
 ];
 
-static STORIES: [Story; 7] = [
+static STORIES: [Story; 8] = [
     STORED,
     // Two workers of one server: were there one, the first write would wait until its turns are spent.
     Story {
@@ -69,6 +77,13 @@ static STORIES: [Story; 7] = [
         name: "a job of another shape",
         texts: (WRITING_TWO, READING_OTHER),
         wanted: Wanted::Ends(&[(0, 0, Some(2)), (0, 1, None), (1, 0, Some(2)), (1, 1, None)]),
+        ..STORED
+    },
+    Story {
+        name: "jobs of unlike settings",
+        workers: 3,
+        texts: (WRITING_UNLIKE, READING_UNLIKE),
+        wanted: Wanted::Ends(UNLIKE_ENDS),
         ..STORED
     },
     // Whatever was completed by then is checked, and found.
@@ -219,6 +234,11 @@ fn what_is_left(rt: HostRuntime) {
 #[test]
 fn one_list_of_events(rt: HostRuntime) {
     assert!(rt; is_left(&rt, rt.alloc(), Claim::World));
+}
+
+#[test]
+fn what_a_fault_leaves_to_write_is_cut_off(rt: HostRuntime) {
+    assert!(rt; cut_off::ends_before_all_is_written(&rt, rt.alloc()));
 }
 
 #[test]

@@ -2,7 +2,7 @@
 
 ghost use Rattle.std.specs.Prelude.{◌<◌};
 
-use super::gates::{Holding, Lets};
+use super::gates::{Holding, Lets, Watching};
 use super::hands::{Ended, Hand};
 use super::step::{Taken, taken_of};
 use assembly::assemble;
@@ -132,10 +132,23 @@ impl Site {
         self.work_from(rt, Hand::new(Some(seat)))
     }
 
+    /// A gate that was told of a write before the server was, is none that a worker may have: then it has gone
+    /// astray.
     fn work_from<R: Wait>(&mut self, rt: &R, hand: Hand) -> Result<(Ended, u64), Fault> {
         let mut hand = hand;
-        hand.work(rt, self.alloc, &self.cell, &self.files, &self.gate);
-        end(&mut self.seats, &mut hand)
+        let other = Mutex::new(self.seats.pop());
+        let gate = Watching {
+            holding: &self.gate,
+            cell: &self.cell,
+            other: &other,
+        };
+        hand.work(rt, self.alloc, &self.cell, &self.files, &gate);
+        give_back(&mut self.seats, other.into_inner())?;
+        let ended = end(&mut self.seats, &mut hand)?;
+        if self.gate.was_told_early() {
+            return Ok((Ended::Astray, 0));
+        }
+        Ok(ended)
     }
 
     /// How two workers end, each in a thread of its own. The seats come back.
@@ -189,12 +202,16 @@ fn end_both(seats: &mut Vec<Seat>, hands: &mut [Hand; 2]) -> Result<[Ended; 2], 
 
 /// How a worker has ended, and how much its seat has applied. The seat comes back.
 fn end(seats: &mut Vec<Seat>, hand: &mut Hand) -> Result<(Ended, u64), Fault> {
-    if let Some(seat) = hand.give_back() {
-        if seats.push(seat).is_err() {
-            return Err(Fault::NoMemory);
-        }
-    }
+    give_back(seats, hand.give_back())?;
     Ok((hand.ended?, hand.applied))
+}
+
+/// A seat comes back, where there is one.
+fn give_back(seats: &mut Vec<Seat>, seat: Option<Seat>) -> Result<(), Fault> {
+    match seat {
+        Some(seat) => seats.push(seat).or(Err(Fault::NoMemory)),
+        None => Ok(()),
+    }
 }
 
 /// How many writes of this history are done.

@@ -4,7 +4,7 @@ use super::text_of_length;
 use commands::FleetSize;
 use fake_io::{Page, Source, failing, page_with, source_of};
 use fleet::Trigger;
-use live::{MAX_INPUT, run_live};
+use live::{FileTrigger, MAX_INPUT, run_live};
 use std::alloc::{AllocError, Global};
 use std::sync::Wait;
 use std::test::Fail;
@@ -198,6 +198,24 @@ fn pulled_from_the_start(rt: HostRuntime) {
     assert!(rt; answer == Some(0));
     let lines = str::from_utf8(page.text.as_slice());
     assert!(rt; lines.is_ok_and(tell_of_no_fault));
+}
+
+/// A path at which there is something wherever a test runs, and two at which there is nothing.
+static PATHS: [(&str, bool); 3] = [
+    (".", true),
+    ("no-trigger", false),
+    ("no-trigger/below", false),
+];
+
+#[test]
+fn file_triggers(rt: HostRuntime) -> Result<(), Fail> {
+    for (path, is_there) in &PATHS {
+        let mut trigger = FileTrigger { files: &rt, path };
+        if trigger.pulled() != *is_there {
+            return Err(Fail::new(*path));
+        }
+    }
+    Ok(())
 }
 
 /// Whether an input of so many bytes is refused as too long.
