@@ -1,0 +1,4 @@
+pub mod CommandLemmas
+pub mod WriteLemmas
+pub mod ClientLemmas
+pub mod ServerLemmas

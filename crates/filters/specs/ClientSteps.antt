@@ -1,0 +1,108 @@
+-- What comes of what is asked of the client, by the list of all that came to it, the newest first.
+use Rattle.std.specs.Prelude.{◌≡◌, ℕ, ◌+◌, Bool, true, false, List, [], ◌∷◌, ◌++◌, map, Option, Some, None, is_some, if◌then◌else◌, Result, Ok, Err}
+use Rattle.std.specs.List.{flat_map}
+use Rattle.std.specs.Int.{w64}
+use Rattle.fc_base.specs.Layouts.{bytes_of}
+use Rattle.fc_base.specs.Fault.{sort_of}
+use Rattle.fc_base.specs.declared.fault.Fault.{Fault}
+use Rattle.fc_base.specs.declared.fault.FaultSort.{FaultSort}
+use Rattle.fc_base.specs.declared.fault.FaultSort.TheVariants as sorts
+use Rattle.disk_model.specs.Notes.{Note}
+use Rattle.disk_model.specs.Steps.{LeavesNote}
+use Rattle.disk_model.specs.declared.left.Left.TheVariants.{NoSave}
+use Rattle.messages.specs.FrameBytes.{frame_spelling}
+use Rattle.messages.specs.Senses.{is_drop}
+use Rattle.client_core.specs.declared.input.Input.{Input}
+use Rattle.client_core.specs.declared.input.Input.TheVariants.{Begin, Verify}
+use Rattle.client_core.specs.declared.client.Client.{Client}
+use Rattle.client_core.specs.declared.noted.Noted.{Noted}
+use Rattle.client_core.specs.History.{Opening}
+use Rattle.client_core.specs.Note.{spelling}
+use Rattle.client_core.specs.Words.{words_noted}
+use Rattle.client_core.specs.Hearing.{FrameEntry, Met, packets_heard}
+use Rattle.client_core.specs.FrameAnswers.{sense, refusal, due, frames, answered_entry}
+use Rattle.client_core.specs.FrameEnds.{StandsFor}
+use Rattle.filters.specs.declared.client_filter.asks.Answered.{Answered}
+use Rattle.filters.specs.declared.kinds.Said.TheVariants.{Save, Send, Number}
+use Rattle.filters.specs.Kinds.{said_number}
+use Rattle.filters.specs.Records.{record_bytes, end_bytes}
+
+-- What the note says behind a list.
+abbrev pub noted : Opening → List FrameEntry → Noted
+noted o past = words_noted o (packets_heard o past)
+
+-- The list behind an input that is answered.
+abbrev pub after_answer : Opening → List FrameEntry → Input → List FrameEntry
+after_answer o past e = answered_entry o past e ∷ past
+
+-- The list behind an input that is refused: it isn't in it, but where it drops what has come of a
+-- piece's tag.
+abbrev pub after_refusal : Opening → List FrameEntry → Input → List FrameEntry
+after_refusal o past e = if is_drop (sense o past e) then Met e NoSave ∷ past else past
+
+-- The number that is given: of a run, or of an attempt.
+abbrev pub number_given : Opening → List FrameEntry → Input → Option ℕ
+number_given o past (Begin text) = Some ((noted o past).runs + 1)
+number_given o past (Verify run text) = Some ((noted o past).attempts + 1)
+number_given o past _ = None
+
+-- An input is answered as the list says, and what was due is noted.
+pub record IsAnswered {T : Type 0} (note : T → Note) (o : Opening) (past : List FrameEntry)
+    (e : Input) (old new : Client T) (a : Answered) : Type 0 where
+  pub free : refusal o past e ≡ None
+  pub saves : a.saves ≡ is_some (due o past e)
+  pub number : a.number ≡ number_given o past e
+  pub frames_are : a.frames ≡ map frame_spelling (frames o past (answered_entry o past e))
+  pub leaves : LeavesNote (due o past e) (spelling (noted o (after_answer o past e)))
+      (note old.core.notes) (note new.core.notes)
+  pub stands : StandsFor note new o (after_answer o past e)
+
+-- An input isn't answered, by the sort of the fault: for want of memory nothing has changed; or it
+-- is refused. No save fails by itself.
+abbrev pub NotAnswered : {T : Type 0} → (T → Note) → Opening → List FrameEntry → Input → FaultSort
+    → Fault → Client T → Type 0
+NotAnswered note o past e sorts.Memory fault new = StandsFor note new o past
+NotAnswered note o past e sorts.Save fault new = ⊥
+NotAnswered note o past e sorts.Refusal fault new =
+    (refusal o past e ≡ Some fault) × StandsFor note new o (after_refusal o past e)
+
+-- What comes of an input.
+abbrev pub InputEnds : {T : Type 0} → (T → Note) → Opening → List FrameEntry → Input → Client T
+    → Client T → Result Answered Fault → Type 0
+InputEnds note o past e old new (Ok a) = IsAnswered note o past e old new a
+InputEnds note o past e old new (Err fault) = NotAnswered note o past e (sort_of fault) fault new
+
+-- A body that can't be read leaves the client as it was, and so does want of memory.
+abbrev pub NotRead : {T : Type 0} → (T → Note) → Opening → List FrameEntry → Fault → Client T
+    → Result Answered Fault → Type 0
+NotRead note o past why new (Ok a) = ⊥
+NotRead note o past why new (Err fault) = (fault ≡ why) × StandsFor note new o past
+
+-- What comes of what a record says.
+abbrev pub BodyEnds : {T : Type 0} → (T → Note) → Opening → List FrameEntry → Result Input Fault
+    → Client T → Client T → Result Answered Fault → Type 0
+BodyEnds note o past (Ok e) old new result = InputEnds note o past e old new result
+BodyEnds note o past (Err why) old new result = NotRead note o past why new result
+
+-- The bytes of a save, where one is made, which leaves the note so.
+abbrev pub save_bytes : Bool → List ℕ → List ℕ
+save_bytes true note = record_bytes (said_number Save) note
+save_bytes false note = []
+
+-- The bytes of a number, where one is given.
+abbrev pub number_bytes : Option ℕ → List ℕ
+number_bytes (Some n) = record_bytes (said_number Number) (bytes_of w64 n)
+number_bytes None = []
+
+-- The bytes of frames to send.
+abbrev pub send_bytes : List (List ℕ) → List ℕ
+send_bytes frames = flat_map (record_bytes (said_number Send)) frames
+
+-- What is written for an answer over a note: the save first, then the number, then the frames.
+abbrev pub answer_bytes : List ℕ → Answered → List ℕ
+answer_bytes note a = save_bytes a.saves note ++ (number_bytes a.number ++ send_bytes a.frames)
+
+-- What is written where there is an answer, and where there is none.
+abbrev pub result_bytes : List ℕ → Result Answered Fault → List ℕ
+result_bytes note (Ok a) = answer_bytes note a ++ end_bytes (Ok tt)
+result_bytes note (Err fault) = end_bytes (Err fault)

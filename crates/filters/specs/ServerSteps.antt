@@ -1,0 +1,42 @@
+-- What comes of what comes to a server, by the list of all that came to it, the newest first.
+use Rattle.std.specs.Prelude.{◌≡◌, Bool, List, ◌++◌, Option, Some, None, is_some, Result, Ok, Err, ℕ}
+use Rattle.fc_base.specs.Fault.{sort_of}
+use Rattle.fc_base.specs.declared.fault.Fault.{Fault}
+use Rattle.fc_base.specs.declared.fault.FaultSort.{FaultSort}
+use Rattle.fc_base.specs.declared.fault.FaultSort.TheVariants as sorts
+use Rattle.disk_model.specs.Notes.{Note}
+use Rattle.disk_model.specs.Steps.{Answers, Lacks, Refuses}
+use Rattle.server_core.specs.declared.input.Input.{Input}
+use Rattle.server_core.specs.declared.server.Server.{Server}
+use Rattle.server_core.specs.History.{Opening}
+use Rattle.server_core.specs.Hearing.{FrameEntry}
+use Rattle.server_core.specs.FrameAnswers.{due}
+use Rattle.server_core.specs.FrameEnds.{steps}
+use Rattle.filters.specs.declared.server_filter.writes.Handed.{Handed}
+use Rattle.filters.specs.ClientSteps.{save_bytes}
+use Rattle.filters.specs.ServerTells.{outs_bytes}
+
+-- What comes is answered as the list says, and it is told whether something was due to be noted.
+pub record IsHanded {T : Type 0} (note : T → Note) (o : Opening) (past : List FrameEntry)
+    (e : Input) (old new : Server T) (h : Handed) : Type 0 where
+  pub answers : Answers (steps note o) past e old new h.outs
+  pub saves : h.saves ≡ is_some (due o past e)
+
+-- It isn't answered, by the sort of the fault: for want of memory, or it is refused. No save fails
+-- by itself.
+abbrev pub NotHanded : {T : Type 0} → (T → Note) → Opening → List FrameEntry → Input → FaultSort
+    → Fault → Server T → Server T → Type 0
+NotHanded note o past e sorts.Memory fault old new = Lacks (steps note o) past fault old new
+NotHanded note o past e sorts.Save fault old new = ⊥
+NotHanded note o past e sorts.Refusal fault old new = Refuses (steps note o) past e fault old new
+
+-- What comes of what comes.
+abbrev pub HandsOut : {T : Type 0} → (T → Note) → Opening → List FrameEntry → Input → Server T
+    → Server T → Result Handed Fault → Type 0
+HandsOut note o past e old new (Ok h) = IsHanded note o past e old new h
+HandsOut note o past e old new (Err fault) = NotHanded note o past e (sort_of fault) fault old new
+
+-- What is written for what is handed out over a note: the save first, then the frames, then the
+-- cut.
+abbrev pub handed_bytes : List ℕ → Handed → List ℕ
+handed_bytes note h = save_bytes h.saves note ++ outs_bytes h.outs

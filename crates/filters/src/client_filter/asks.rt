@@ -1,0 +1,155 @@
+//! What a record asks of the client, and what it answers.
+
+ghost use Rattle.std.specs.Prelude.{◌≡◌, List};
+ghost use Rattle.client_core.specs.declared.input.Input.TheVariants as inputs;
+ghost use Rattle.client_core.specs.History.{Opening};
+ghost use Rattle.client_core.specs.Hearing.{FrameEntry};
+ghost use Rattle.client_core.specs.FrameEnds.{StandsFor};
+ghost use Rattle.filters.specs.declared.kinds.Told.TheVariants as told;
+ghost use Rattle.filters.specs.Kept.{note_kept};
+ghost use Rattle.filters.specs.ClientAsks.{input_in};
+ghost use Rattle.filters.specs.ClientSteps.{InputEnds, BodyEnds};
+
+use super::ClientFilter;
+use crate::asking::{number_alone, trigger_in};
+use crate::kinds::Told;
+use fc_base::{Fault, RunNo, split_u64};
+use messages::{Act, Frame, Frames, decode_frame};
+
+/// What the client answers.
+#[derive(Drop)]
+pub(crate) struct Answered {
+    /// Whether it has saved its note.
+    pub saves: bool,
+    /// The number of a run or of an attempt that it gives.
+    pub number: Option<u64>,
+    /// The frames that it sends.
+    pub frames: Frames,
+}
+
+impl ClientFilter {
+    /// Asks the client what a record says.
+    pub(super) fn ask(&mut self, kind: Told, body: &[u8]) -> Result<Answered, Fault>
+        ensures { (o : Opening) (past : List FrameEntry) → StandsFor note_kept self.old.client o past →
+            BodyEnds note_kept o past (input_in kind body.now) self.old.client self.new.client result }
+    {
+        match kind {
+            Told::Frame => self.take(body),
+            Told::Begin => self.begin(body),
+            Told::Trigger => match trigger_in(body) {
+                Some(asked) => self.trigger(asked.run, asked.act),
+                None => Err(Fault::BadNotice),
+            },
+            Told::Stop => match number_alone(body) {
+                Some(run) => self.stop(RunNo(run)),
+                None => Err(Fault::BadNotice),
+            },
+            Told::Verify => self.verify_in(body),
+            Told::Tick => self.tick(),
+            _ => Err(Fault::BadNotice),
+        }
+    }
+
+    /// Takes the frame that these bytes are.
+    fn take(&mut self, bytes: &[u8]) -> Result<Answered, Fault>
+        ensures { (o : Opening) (past : List FrameEntry) → StandsFor note_kept self.old.client o past →
+            BodyEnds note_kept o past (input_in told.Frame bytes.now) self.old.client self.new.client
+            result }
+    {
+        match decode_frame(self.alloc, bytes) {
+            Ok(frame) => self.deliver(frame),
+            Err(fault) => Err(fault),
+        }
+    }
+
+    /// Verifies the run that stands in the first eight bytes, by the job file behind it.
+    fn verify_in(&mut self, body: &[u8]) -> Result<Answered, Fault>
+        ensures { (o : Opening) (past : List FrameEntry) → StandsFor note_kept self.old.client o past →
+            BodyEnds note_kept o past (input_in told.Verify body.now) self.old.client self.new.client
+            result }
+    {
+        if body.len() < 8 {
+            return Err(Fault::BadNotice);
+        }
+        let (run, text) = split_u64(body);
+        self.verify(RunNo(run), text)
+    }
+
+    fn begin(&mut self, text: &[u8]) -> Result<Answered, Fault>
+        ensures { (o : Opening) (past : List FrameEntry) → StandsFor note_kept self.old.client o past →
+            InputEnds note_kept o past (inputs.Begin text.now) self.old.client self.new.client result }
+    {
+        let saves = self.client.begin_would_save(text);
+        let (run, frames) = self.client.begin(text)?;
+        Ok(Answered {
+            saves,
+            number: Some(run.0),
+            frames,
+        })
+    }
+
+    fn trigger(&mut self, run: RunNo, act: Act) -> Result<Answered, Fault>
+        ensures { (o : Opening) (past : List FrameEntry) → StandsFor note_kept self.old.client o past →
+            InputEnds note_kept o past (inputs.Trigger run act) self.old.client self.new.client result }
+    {
+        let frames = self.client.trigger(run, act)?;
+        Ok(Answered {
+            saves: false,
+            number: None,
+            frames,
+        })
+    }
+
+    fn stop(&mut self, run: RunNo) -> Result<Answered, Fault>
+        ensures { (o : Opening) (past : List FrameEntry) → StandsFor note_kept self.old.client o past →
+            InputEnds note_kept o past (inputs.Stop run) self.old.client self.new.client result }
+    {
+        let frames = self.client.stop(run)?;
+        Ok(Answered {
+            saves: false,
+            number: None,
+            frames,
+        })
+    }
+
+    fn verify(&mut self, run: RunNo, text: &[u8]) -> Result<Answered, Fault>
+        ensures { (o : Opening) (past : List FrameEntry) → StandsFor note_kept self.old.client o past →
+            InputEnds note_kept o past (inputs.Verify run text.now) self.old.client self.new.client result }
+    {
+        let saves = self.client.verify_would_save(run, text);
+        let (attempt, frames) = self.client.verify(run, text)?;
+        Ok(Answered {
+            saves,
+            number: Some(attempt.0),
+            frames,
+        })
+    }
+
+    fn tick(&self) -> Result<Answered, Fault>
+        ensures { (o : Opening) (past : List FrameEntry) → StandsFor note_kept self.now.client o past →
+            InputEnds note_kept o past inputs.Tick self.now.client self.now.client result }
+    {
+        let frames = self.client.tick()?;
+        Ok(Answered {
+            saves: false,
+            number: None,
+            frames,
+        })
+    }
+
+    #[tactic(auto, using(crate::proofs::ClientLemmas::not_answered))]
+    fn deliver(&mut self, frame: Frame) -> Result<Answered, Fault>
+        ensures { (o : Opening) (past : List FrameEntry) → StandsFor note_kept self.old.client o past →
+            InputEnds note_kept o past (inputs.Deliver frame) self.old.client self.new.client result }
+    {
+        let Ok(saves) = self.client.would_save(&frame) else {
+            return Err(Fault::NoMemory);
+        };
+        let frames = self.client.deliver(frame)?;
+        Ok(Answered {
+            saves,
+            number: None,
+            frames,
+        })
+    }
+}

@@ -1,0 +1,31 @@
+//! Nodes as filters: a server or the client over a reader and a writer. What comes to it is read as records,
+//! and what it saves, answers, orders and sends is written as records, in that order.
+//!
+//! ```text
+//! let status = run_server(alloc, me, &mut reader, &mut writer)?;
+//! let status = run_client(alloc, servers, &mut reader, &mut writer)?;
+//! ```
+//!
+//! Begin with `specs/Records.antt`, which has the bytes, and with `specs/ClientLives.antt`, which says what a
+//! client writes.
+#![tactic(auto)]
+
+mod asking;
+mod checking;
+mod client_filter;
+mod command;
+mod kept_notes;
+mod kinds;
+mod names;
+mod reading;
+mod record;
+mod server_filter;
+mod telling;
+mod writing;
+
+pub use client_filter::run_client;
+pub use command::{Request, read_words};
+pub use kept_notes::KeptNotes;
+pub use kinds::{Said, Told};
+pub use record::MAX_BODY;
+pub use server_filter::run_server;

@@ -1,0 +1,102 @@
+//! Reading records.
+
+ghost use Rattle.std.specs.Prelude.{OnOk};
+ghost use Rattle.std.specs.Io.KnownBytes.{Keeps};
+
+use crate::kinds::Told;
+use crate::record::{HEAD, Head, MAX_BODY, Record, head_in, holds_record};
+use fc_base::Fault;
+use program_io::fill;
+use std::alloc::Global;
+use std::io;
+use std::io::{BufReader, Read, Write};
+
+/// The most calls of `read` for a head, and for a body: more than its bytes.
+const MAX_READS: u32 = 2_000_000;
+
+/// The next record; `None` where the input has ended. What was written is flushed before anything is waited
+/// for.
+///
+/// `EndOfInput`: the input ends within a record. `BadNotice`: its body is said to be longer than any that is
+/// read, and nothing of it is. `ReadError`. `NoMemory`. An error is that of a flush.
+pub(crate) fn next_record<R: Read, W: Write>(
+    alloc: Global,
+    reader: &mut BufReader<R>,
+    writer: &mut W,
+) -> io::Result<Result<Option<Record>, Fault>>
+    ensures written { OnOk result (Keeps (W.contents writer.old) (W.contents writer.new)) }
+{
+    if !holds_record(reader.buffer()) {
+        writer.flush()?;
+    }
+    Ok(read_record(alloc, reader))
+}
+
+/// The note, which is the first record.
+///
+/// `BadNotice`: the first record is another one. `EndOfInput`: there is none. Else as of any record.
+pub(crate) fn first_note<R: Read, W: Write>(
+    alloc: Global,
+    reader: &mut BufReader<R>,
+    writer: &mut W,
+) -> io::Result<Result<Vec<u8>, Fault>>
+    ensures written { OnOk result (Keeps (W.contents writer.old) (W.contents writer.new)) }
+{
+    match next_record(alloc, reader, writer)? {
+        Ok(Some(record)) => Ok(note_of(record)),
+        Ok(None) => Ok(Err(Fault::EndOfInput)),
+        Err(fault) => Ok(Err(fault)),
+    }
+}
+
+/// The note that a record is.
+fn note_of(record: Record) -> Result<Vec<u8>, Fault> {
+    let Record { kind, body } = record;
+    if kind == Told::Note.number() {
+        Ok(body)
+    } else {
+        Err(Fault::BadNotice)
+    }
+}
+
+/// The next record.
+fn read_record<R: Read>(alloc: Global, reader: &mut R) -> Result<Option<Record>, Fault> {
+    match read_head(reader) {
+        Ok(Some(head)) => match read_body(alloc, reader, head.length) {
+            Ok(body) => Ok(Some(Record {
+                kind: head.kind,
+                body,
+            })),
+            Err(fault) => Err(fault),
+        },
+        Ok(None) => Ok(None),
+        Err(fault) => Err(fault),
+    }
+}
+
+/// The next head.
+fn read_head<R: Read>(reader: &mut R) -> Result<Option<Head>, Fault> {
+    let mut bytes = [0; HEAD];
+    match fill(reader, &mut bytes, MAX_READS) {
+        Ok(0) => Ok(None),
+        Ok(HEAD) => Ok(Some(head_in(&bytes))),
+        Ok(_) => Err(Fault::EndOfInput),
+        Err(_) => Err(Fault::ReadError),
+    }
+}
+
+/// A body of so many bytes. Memory is asked for only where it isn't longer than any that is read.
+fn read_body<R: Read>(alloc: Global, reader: &mut R, told: u64) -> Result<Vec<u8>, Fault> {
+    if told > MAX_BODY {
+        return Err(Fault::BadNotice);
+    }
+    let length = told as usize;
+    let Ok(mut body) = vec![in alloc; 0u8; length] else {
+        return Err(Fault::NoMemory);
+    };
+    match fill(reader, &mut body, MAX_READS) {
+        Ok(filled) if filled == length => Ok(body),
+        Ok(_) => Err(Fault::EndOfInput),
+        Err(_) => Err(Fault::ReadError),
+    }
+}

@@ -1,0 +1,149 @@
+//! The frames that come to a server, and its writes.
+
+ghost use Rattle.std.specs.Prelude.{◌≡◌, List, length, OnOk};
+ghost use Rattle.std.specs.Io.KnownBytes.{Appends};
+ghost use Rattle.fc_base.specs.declared.limits.TheConstants.{MAX_BLOCK_SIZE};
+ghost use Rattle.server_core.specs.declared.input.Input.TheVariants.{Deliver, WriteDone};
+ghost use Rattle.server_core.specs.History.{Opening};
+ghost use Rattle.server_core.specs.Hearing.{FrameEntry};
+ghost use Rattle.server_core.specs.FrameEnds.{StandsFor};
+ghost use Rattle.filters.specs.Kept.{note_kept};
+ghost use Rattle.filters.specs.ServerTells.{order_name, outs_bytes};
+ghost use Rattle.filters.specs.ServerSteps.{HandsOut, handed_bytes};
+
+use super::ServerFilter;
+use crate::kinds::Said;
+use crate::names::WriteName;
+use crate::writing::{put_frames, put_head, put_record, put_save, put_u32, put_u64};
+use engine::{Issue, Ticket};
+use fc_base::{Fault, JobNo, JobRecord, MAX_DEPTH};
+use messages::{Act, Frame, decode_frame};
+use server_core::{Input, Outs, WriteEnd};
+use std::io;
+use std::io::Write;
+use write_order::fill_block;
+
+/// What a server answers.
+#[derive(Drop)]
+pub(crate) struct Handed {
+    /// Whether it has saved its note.
+    pub saves: bool,
+    /// The frames that it sends, and what it asks of its caller.
+    pub outs: Outs,
+}
+
+impl ServerFilter {
+    /// Takes the frame that these bytes are.
+    pub(super) fn deliver(&mut self, bytes: &[u8]) -> Result<Handed, Fault> {
+        match decode_frame(self.alloc, bytes) {
+            Ok(frame) => self.take(frame),
+            Err(fault) => Err(fault),
+        }
+    }
+
+    /// Takes a frame.
+    #[tactic(auto, using(crate::proofs::ServerLemmas::not_handed))]
+    fn take(&mut self, frame: Frame) -> Result<Handed, Fault>
+        ensures { (o : Opening) (past : List FrameEntry) → StandsFor note_kept self.old.server o past →
+            HandsOut note_kept o past (Deliver frame) self.old.server self.new.server result }
+    {
+        let saves = self.server.would_save(&frame);
+        let outs = self.server.step(Input::Deliver(frame))?;
+        Ok(Handed { saves, outs })
+    }
+
+    /// Takes the end of a write of the present run.
+    pub(super) fn end_write(
+        &mut self,
+        name: Option<WriteName>,
+        end: WriteEnd,
+    ) -> Result<Handed, Fault> {
+        let Some(WriteName { run, job, seq }) = name else {
+            return Err(Fault::BadNotice);
+        };
+        match self.server.open_write(job, seq) {
+            Some(ticket) => {
+                if ticket.key.run == run {
+                    self.end_open(ticket, end)
+                } else {
+                    Err(Fault::NotInFlight)
+                }
+            }
+            None => Err(Fault::NotInFlight),
+        }
+    }
+
+    /// Takes the end of an open write.
+    #[tactic(auto, using(crate::proofs::ServerLemmas::not_handed))]
+    fn end_open(&mut self, ticket: Ticket, end: WriteEnd) -> Result<Handed, Fault>
+        ensures { (o : Opening) (past : List FrameEntry) → StandsFor note_kept self.old.server o past →
+            HandsOut note_kept o past (WriteDone ticket end) self.old.server self.new.server result }
+    {
+        let outs = self.server.step(Input::WriteDone(ticket, end))?;
+        Ok(Handed { saves: false, outs })
+    }
+
+    /// Writes what is handed out: first what is saved.
+    pub(super) fn put_handed<W: Write>(&self, handed: &Handed, writer: &mut W) -> io::Result<()>
+        ensures { OnOk result (Appends (W.contents writer.old) (W.contents writer.new)
+            (handed_bytes (note_kept self.now.server.core.notes).bytes handed.now)) }
+    {
+        put_save(writer, handed.saves, self.server.notes().as_slice())?;
+        put_outs(writer, &handed.outs)
+    }
+
+    /// Orders the writes of a job until none can be.
+    pub(super) fn order_all<W: Write>(&mut self, job: JobNo, writer: &mut W) -> io::Result<()> {
+        for _ in 0..=MAX_DEPTH {
+            let Some(found) = self.server.run_job(job) else {
+                return Ok(());
+            };
+            let rec = found.rec;
+            match self.server.issue(job) {
+                Ok(Issue::Write(ticket)) => put_order(writer, &rec, &ticket, &mut self.memory)?,
+                _ => return Ok(()),
+            }
+        }
+        Ok(())
+    }
+}
+
+/// Writes the order of a write, by way of room for the bytes of a block.
+fn put_order<W: Write>(
+    writer: &mut W,
+    rec: &JobRecord,
+    ticket: &Ticket,
+    memory: &mut [u8],
+) -> io::Result<()>
+    requires { length memory.old ≡ MAX_BLOCK_SIZE }
+    ensures room { length memory.new ≡ MAX_BLOCK_SIZE }
+{
+    let bytes = &mut memory[..rec.bs() as usize];
+    fill_block(ticket.key, rec, ticket.seq, ticket.block, bytes);
+    put_head(writer, Said::Order, 24 + bytes.len() as u64)?;
+    put_order_name(writer, ticket)?;
+    writer.write_all(bytes)
+}
+
+/// Writes which write is ordered, and to which block.
+fn put_order_name<W: Write>(writer: &mut W, ticket: &Ticket) -> io::Result<()>
+    ensures { OnOk result (Appends (W.contents writer.old) (W.contents writer.new)
+        (order_name ticket.now.key ticket.now.seq ticket.now.block)) }
+{
+    put_u64(writer, ticket.key.run.0)?;
+    put_u32(writer, ticket.key.job.0)?;
+    put_u64(writer, ticket.seq.0)?;
+    put_u32(writer, ticket.block)
+}
+
+/// Writes the frames that are sent, and that the cut is asked for.
+pub(super) fn put_outs<W: Write>(writer: &mut W, outs: &Outs) -> io::Result<()>
+    ensures { OnOk result (Appends (W.contents writer.old) (W.contents writer.new)
+        (outs_bytes outs.now)) }
+{
+    put_frames(writer, &outs.frames)?;
+    match outs.act {
+        Act::Cut => put_record(writer, Said::Cut, &[]),
+        Act::None => Ok(()),
+    }
+}
