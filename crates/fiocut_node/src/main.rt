@@ -1,0 +1,64 @@
+//! The program `fiocut_node`: a server or the client as a filter over standard input and output. Whatever starts
+//! it makes its saves durable, carries its orders out, and carries its frames to the other nodes.
+#![tactic(auto)]
+
+ghost use Rattle.filters.specs.Command.{IsRequest};
+
+use filters::{Request, read_words, run_client, run_server};
+use program_io::{REFUSED, refuse_words};
+use std::io;
+use std::io::{BufReader, BufWriter, Write};
+use std::process::ExitCode;
+use std::rt::Env;
+
+/// How many bytes of input are read, and of output written, at once.
+const CAPACITY: usize = 262_144;
+
+fn main(rt: HostRuntime) -> ExitCode {
+    ExitCode::from(run(&rt))
+}
+
+/// Does what the command line asks for, and answers the exit status.
+fn run<R: Env + AllocGlobal + Input + Print>(rt: &R) -> u8 {
+    let words = words_of(rt).unwrap_or(Vec::new(rt.alloc()));
+    let answer = match read_words(rt.alloc(), words.as_slice()) {
+        Some(request) => answer_request(rt, request),
+        None => refuse_words(&mut io::writer(rt)),
+    };
+    answer.unwrap_or(REFUSED)
+}
+
+/// Answers standard input. What is written goes out in blocks.
+fn answer_request<R: AllocGlobal + Input + Print>(rt: &R, request: Request) -> io::Result<u8>
+    requires { IsRequest request }
+{
+    match BufWriter::with_capacity(rt.alloc(), CAPACITY, io::writer(rt)) {
+        Ok(mut writer) => answer_by(rt, request, &mut writer),
+        Err(_) => Ok(REFUSED),
+    }
+}
+
+/// Answers standard input by this writer.
+fn answer_by<R: AllocGlobal + Input, W: Write>(
+    rt: &R,
+    request: Request,
+    writer: &mut W,
+) -> io::Result<u8>
+    requires { IsRequest request }
+{
+    let alloc = rt.alloc();
+    let Ok(mut reader) = BufReader::with_capacity(alloc, CAPACITY, rt.reader()) else {
+        return Ok(REFUSED);
+    };
+    match request {
+        Request::Server(me) => run_server(alloc, me, &mut reader, writer),
+        Request::Client(servers) => run_client(alloc, servers, &mut reader, writer),
+    }
+}
+
+/// The words of this process's command line. `None` where they aren't UTF-8, or there is no memory
+/// for them.
+fn words_of<R: Env + AllocGlobal>(rt: &R) -> Option<Vec<String>> {
+    let words = std::env::args(rt).ok()?;
+    words.collect(rt.alloc()).ok()
+}
