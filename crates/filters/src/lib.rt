@@ -6,8 +6,8 @@
 //! let status = run_client(alloc, servers, &mut reader, &mut writer)?;
 //! ```
 //!
-//! Begin with `specs/Records.antt`, which has the bytes, and with `specs/ClientLives.antt`, which says what a
-//! client writes.
+//! Begin with `specs/Records.antt`, which has the bytes, and with `specs/ClientSteps.antt`, which says what comes of
+//! what the client is asked.
 #![tactic(auto)]
 
 mod asking;
