@@ -1,10 +1,19 @@
 -- How the calls of a worker leave its seat.
-use Rattle.std.specs.Prelude.{◌≡◌, Bool, true, false, Result, Ok, Err}
+use Rattle.std.specs.Prelude.{◌≡◌, ◌<◌, ℕ, Bool, true, false, List, Option, None, Some, Result, Ok, Err, IfSome}
+use Rattle.std.specs.Option.{option_map}
 use Rattle.fc_base.specs.declared.fault.Fault.{Fault}
+use Rattle.fc_base.specs.declared.fault.Fault.TheVariants.{OldBoot}
+use Rattle.fc_base.specs.declared.record.JobParts.{JobParts}
+use Rattle.job_file.specs.declared.job.Job.{Job}
 use Rattle.engine.specs.declared.issue.Issue.TheVariants.{Write}
 use Rattle.node_history.specs.declared.answer.Answer.{Answer}
 use Rattle.node_history.specs.declared.answer.Answer.TheVariants.{Issued}
+use Rattle.node_history.specs.declared.answer.Said.{Said}
+use Rattle.server_core.specs.Answers.{run_job, shown_entries}
+use Rattle.server_core.specs.Hearing.{FrameEntry, packets_heard}
+use Rattle.server_cell.specs.Cells.{ServerLog, IsReplay}
 use Rattle.server_cell.specs.Seated.{Seated}
+use Rattle.workers.specs.declared.ended.Ended.{Ended}
 use Rattle.workers.specs.declared.server.Asked.{Asked}
 use Rattle.workers.specs.declared.server.Asked.TheVariants as asks
 use Rattle.workers.specs.declared.turn.TurnEnd.{TurnEnd}
@@ -29,14 +38,50 @@ abbrev pub IsIssued : Asked → Answer → Type 0
 IsIssued (asks.Write ticket rec) answer = answer ≡ Issued (Write ticket)
 IsIssued _ answer = Unit {0}
 
+-- These are the settings of the job, in the run that the server is at.
+abbrev pub AreSettings : ServerLog → ℕ → JobParts → Type 0
+AreSettings cell job rec =
+    (past : List FrameEntry) × IsReplay cell past
+    × (option_map (λ (j : Job). j.rec)
+    (run_job cell.opening (shown_entries (packets_heard cell.opening past)) job)
+    ≡ Some rec)
+
+-- A write comes with the settings of its job.
+abbrev pub HasSettings : ServerLog → ℕ → Asked → Type 0
+HasSettings cell job (asks.Write ticket rec) = IfSome rec (AreSettings cell job)
+HasSettings cell job _ = Unit {0}
+
+-- How many events a worker has applied at least that is answered so: its question, unless that was
+-- refused; and where it had an end to tell, that one before. A server that is off may have answered
+-- the first of them so.
+abbrev pub events_of : Option Ended → Asked → ℕ
+events_of last asks.Off = 1
+events_of None (asks.Refused fault) = 0
+events_of None _ = 1
+events_of (Some ended) (asks.Refused fault) = 1
+events_of (Some ended) _ = 2
+
 -- How asking for a write leaves the seat.
 abbrev pub HasAsked : Seated → Seated → Result Asked Fault → Type 0
 HasAsked seat back (Ok answer) = WorkedIf (is_last_asked answer) seat back
 HasAsked seat back (Err fault) = IsSeatOf seat back
 
--- How telling the end of a write leaves it: where the server is off, that is its last answer.
+-- The server has taken the end of a write, or it is nothing to its boot.
+abbrev pub is_taken : Option (Result Said Fault) → Bool
+is_taken (Some (Ok said)) = true
+is_taken (Some (Err OldBoot)) = true
+is_taken _ = false
+
+-- The seat has applied one event more at least, and its last answer is that an end was taken.
+pub record IsTaken (seat back : Seated) : Type 0 where
+  pub same : IsSeatOf seat back
+  pub more : seat.applied < back.applied
+  pub taken : is_taken back.last ≡ true
+
+-- How telling the end of a write leaves it: it was taken; or the server is off, and that is its
+-- last answer.
 abbrev pub HasTold : Seated → Seated → Result Bool Fault → Type 0
-HasTold seat back (Ok true) = IsSeatOf seat back
+HasTold seat back (Ok true) = IsTaken seat back
 HasTold seat back (Ok false) = HasWorked seat back
 HasTold seat back (Err fault) = IsSeatOf seat back
 

@@ -1,20 +1,20 @@
 //! What a worker asks of its server, and tells it, each under the server's lock.
 
-ghost use Rattle.std.specs.Prelude.{◌≡◌, Result};
+ghost use Rattle.std.specs.Prelude.{◌≡◌, ◌≤◌, ◌+◌, Some, None, Result, IfOk, IfSome};
 ghost use Rattle.fc_base.specs.declared.fault.Fault.{Fault};
 ghost use Rattle.node_history.specs.declared.answer.CallerAnswer.{CallerAnswer};
 ghost use Rattle.server_cell.specs.declared.task.Task.TheVariants.{Issue as IssueTask, WriteDone};
 ghost use Rattle.server_cell.specs.Calls.{Applies};
 ghost use Rattle.workers.specs.Seats.{says_final};
-ghost use Rattle.workers.specs.Turns.{is_last_asked, IsIssued, WorkedIf, HasAsked, HasTold};
+ghost use Rattle.workers.specs.Turns.{is_last_asked, events_of, IsIssued, WorkedIf, HasAsked, HasTold, AreSettings, HasSettings};
 
+use crate::ended::Ended;
 use crate::gate::TURNS;
 use disk_model::Notes;
 use engine::{Issue, Ticket};
 use fc_base::{Fault, JobNo, JobRecord};
 use node_history::{Answer, CallerAnswer};
 use server_cell::{Seat, ServerCell, Task};
-use server_core::WriteEnd;
 use std::hint::spin_loop;
 use std::sync::{Mutex, MutexGuard, Wait};
 use std::thread;
@@ -32,13 +32,6 @@ pub(crate) enum Asked {
     Off,
     /// It is refused so.
     Refused(Fault),
-}
-
-/// How a write has ended that a worker carried out.
-#[derive(Clone, Copy, PartialEq, Eq)]
-pub(crate) struct Ended {
-    pub ticket: Ticket,
-    pub end: WriteEnd,
 }
 
 /// How often a worker looks whether the server's lock is free before it sleeps there. One that holds the lock
@@ -68,7 +61,9 @@ pub(crate) fn tell_and_ask<R: Wait, N: Notes + Drop>(
     last: Option<Ended>,
     job: JobNo,
 ) -> Result<Asked, Fault>
-    ensures { HasAsked seat.old seat.new result }
+    ensures asked { HasAsked seat.old seat.new result }
+    ensures all_told { IfOk result
+        (λ asked. seat.old.applied + events_of last asked ≤ seat.new.applied) }
 {
     let Some(ended) = last else {
         return Ok(issue(&mut lock(rt, cell), seat, job));
@@ -91,7 +86,9 @@ fn end_and_issue<N: Notes + Drop>(
     ended: &Ended,
     job: JobNo,
 ) -> Result<Asked, Fault>
-    ensures { HasAsked seat.old seat.new result }
+    ensures asked { HasAsked seat.old seat.new result }
+    ensures all_told { IfOk result
+        (λ asked. seat.old.applied + events_of (Some ended.now) asked ≤ seat.new.applied) }
 {
     if end_write(server, seat, ended)? {
         Ok(issue(server, seat, job))
@@ -105,6 +102,8 @@ fn issue<N: Notes + Drop>(server: &mut ServerCell<N>, seat: &mut Seat, job: JobN
     ensures asks { (answer : Result CallerAnswer Fault)
         × Applies server.old seat.old (IssueTask job) server.new seat.new answer }
     ensures seat { WorkedIf (is_last_asked result) seat.old seat.new }
+    ensures entered { seat.old.applied + events_of None result ≤ seat.new.applied }
+    ensures settings { HasSettings server.new job result }
 {
     match server.apply(seat, Task::Issue(job)) {
         Ok(told) => said(told, server, job),
@@ -117,6 +116,8 @@ fn issue<N: Notes + Drop>(server: &mut ServerCell<N>, seat: &mut Seat, job: JobN
 fn said<N: Notes + Drop>(told: CallerAnswer, server: &ServerCell<N>, job: JobNo) -> Asked
     ensures issued { IsIssued result told.answer }
     ensures last { is_last_asked result ≡ says_final told.answer }
+    ensures entered { events_of None result ≤ 1 }
+    ensures settings { HasSettings server.now job result }
 {
     match told.answer {
         Answer::Issued(Issue::Write(ticket)) => Asked::Write(ticket, record_of(server, job)),
@@ -126,7 +127,9 @@ fn said<N: Notes + Drop>(told: CallerAnswer, server: &ServerCell<N>, job: JobNo)
 }
 
 /// The settings of a job of the present run.
-fn record_of<N: Notes + Drop>(server: &ServerCell<N>, job: JobNo) -> Option<JobRecord> {
+fn record_of<N: Notes + Drop>(server: &ServerCell<N>, job: JobNo) -> Option<JobRecord>
+    ensures { IfSome result (AreSettings server.now job) }
+{
     match server.server()?.run_job(job) {
         Some(job) => Some(job.rec),
         None => None,
@@ -165,7 +168,7 @@ fn end_write<N: Notes + Drop>(
         (WriteDone ended.now.ticket ended.now.end) server.new seat.new answer }
     ensures seat { HasTold seat.old seat.new result }
 {
-    match server.apply(seat, Task::WriteDone(ended.ticket, ended.end)) {
+    match server.apply(seat, Task::WriteDone(*ended.ticket(), ended.end())) {
         Ok(_) | Err(Fault::OldBoot) => Ok(true),
         Err(Fault::NodeOff) => Ok(false),
         Err(fault) => Err(fault),

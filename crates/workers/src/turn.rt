@@ -5,12 +5,12 @@ ghost use Rattle.fc_base.specs.declared.limits.TheConstants.{MAX_BLOCK_SIZE as B
 ghost use Rattle.workers.specs.Turns.{HasTaken};
 
 use crate::block::carry_out;
+use crate::ended::Ended;
 use crate::gate::{Gate, lets_through};
-use crate::server::{Asked, Ended, tell, tell_and_ask};
+use crate::server::{Asked, tell, tell_and_ask};
 use disk_model::{Disk, Notes};
 use fc_base::{Fault, JobNo, MAX_BLOCK_SIZE};
 use server_cell::{Seat, ServerCell};
-use server_core::WriteEnd;
 use std::alloc::{AllocError, Global};
 use std::sync::{Mutex, Wait};
 
@@ -60,7 +60,7 @@ pub(crate) fn take<R: Wait, N: Notes + Drop, D: Disk, G: Gate>(
 {
     let asked = tell_and_ask(rt, cell, seat, desk.last, job)?;
     if let (Some(ended), false) = (desk.last.take(), asked == Asked::Off) {
-        gate.written(&ended.ticket);
+        gate.written(ended.ticket());
     }
     let (ticket, rec) = match asked {
         Asked::Write(ticket, rec) => (ticket, rec),
@@ -70,11 +70,9 @@ pub(crate) fn take<R: Wait, N: Notes + Drop, D: Disk, G: Gate>(
         Asked::Refused(fault) => return Err(fault),
     };
     if !lets_through(gate, &ticket) {
-        let end = WriteEnd::Failed;
-        tell(rt, cell, seat, &Ended { ticket, end })?;
+        tell(rt, cell, seat, &Ended::failed(&ticket))?;
         return Err(Fault::TurnsSpent);
     }
-    let end = carry_out(rt, file, &ticket, rec, &mut desk.memory);
-    desk.last = Some(Ended { ticket, end });
+    desk.last = Some(carry_out(rt, file, &ticket, rec, &mut desk.memory));
     Ok(TurnEnd::Wrote)
 }
