@@ -1,11 +1,11 @@
 # The usual four targets, over the scripts: ./build, ./test, and what they make.
 PREFIX = /usr/local
 TO = $(DESTDIR)$(PREFIX)
-PROGRAMS = crates/fiocut/out/fiocut crates/drive/out/drive \
-	harness/out/drive-target harness/out/drive-agent harness/out/drive-witness
+PROGRAMS = crates/fiocut/out/fiocut crates/drive/out/drive crates/fiocut_node/out/fiocut_node \
+	harness/out/drive-target harness/out/drive-agent harness/out/drive-witness harness/out/fleet-server
 
 build:
-	./build fiocut drive
+	./build fiocut drive fiocut_node
 
 test:
 	./test
@@ -16,6 +16,11 @@ install:
 	install -d $(TO)/bin $(TO)/share/doc/fiocut
 	install -m 755 $(PROGRAMS) $(TO)/bin
 	for it in from-fio draw every-cut; do install -m 755 examples/$$it $(TO)/bin/fiocut-$$it || exit 1; done
+	install -d $(TO)/lib/fiocut/harness/client $(TO)/lib/fiocut/examples
+	install -m 755 harness/fleet $(TO)/lib/fiocut/harness
+	install -m 644 harness/client/*.py $(TO)/lib/fiocut/harness/client
+	install -m 755 examples/from-fio $(TO)/lib/fiocut/examples
+	ln -sf ../lib/fiocut/harness/fleet $(TO)/bin/fleet
 	install -m 644 LICENSE-MIT LICENSE-APACHE CHANGELOG.md VERSION $(TO)/share/doc/fiocut
 
 clean:

@@ -105,7 +105,7 @@ static void make_pool(struct pool *pool, struct executor *executor) {
 }
 
 void carry_out_by_threads(struct executor *executor) {
-    static struct pool pool;
+    struct pool pool;
     pthread_t *threads = calloc(executor->depth, sizeof *threads);
     struct iovec *pieces = calloc(2 * executor->slots.count, sizeof *pieces);
     if (!threads || !pieces) give_up("memory", strerror(ENOMEM));

@@ -32,8 +32,10 @@ void carry_out(struct executor *executor) {
     unsigned calls = (unsigned)executor->depth + 2; /* a read and a flush */
     if (!executor->target->is_direct)
         carry_out_by_turns(executor);
-    else if (open_ring(&ring, calls, executor->slots.blocks, executor->slots.count * executor->region.block_size))
+    else if (open_ring(&ring, calls, executor->slots.blocks, executor->slots.count * executor->region.block_size)) {
         carry_out_by_ring(executor, &ring);
-    else
+        close_ring(&ring);
+    } else
         carry_out_by_threads(executor);
+    free_slots(&executor->slots);
 }

@@ -35,7 +35,7 @@ bool open_ring(struct ring *ring, unsigned entries, void *memory, size_t length)
     uint8_t *both = (params.features & wanted) == wanted ? map(fd, calls > ends ? calls : ends, IORING_OFF_SQ_RING) : NULL;
     struct io_uring_sqe *given = both ? map(fd, params.sq_entries * sizeof *given, IORING_OFF_SQES) : NULL;
     if (!given) return close(fd), false;
-    *ring = (struct ring){.fd = fd, .given = given};
+    *ring = (struct ring){.fd = fd, .given = given, .mapped = {{both, calls > ends ? calls : ends}, {given, params.sq_entries * sizeof *given}}};
     ring->given_tail = (unsigned *)(void *)(both + params.sq_off.tail);
     ring->given_mask = *(unsigned *)(void *)(both + params.sq_off.ring_mask);
     ring->given_places = (unsigned *)(void *)(both + params.sq_off.array);
@@ -46,6 +46,11 @@ bool open_ring(struct ring *ring, unsigned entries, void *memory, size_t length)
     struct iovec blocks = {memory, length};
     ring->has_memory = syscall(SYS_io_uring_register, fd, IORING_REGISTER_BUFFERS, &blocks, 1) == 0;
     return true;
+}
+
+void close_ring(struct ring *ring) {
+    for (int at = 0; at < 2; at++) munmap(ring->mapped[at].iov_base, ring->mapped[at].iov_len);
+    close(ring->fd);
 }
 
 /* Who opened the ring sees to it that there is room: it has as many entries as there are calls. */

@@ -19,11 +19,15 @@ struct ring {
     struct io_uring_cqe *ended; /* what became of it */
     unsigned waiting;           /* how many were put there and not yet given to the kernel */
     bool has_memory;            /* the kernel knows the memory of the blocks */
+    struct iovec mapped[2];     /* where the above lies */
 };
 
 /* Opens a ring for at most so many calls at once, which write from this memory. False where the
  * kernel has none, or gives none. What uses it has to be the thread that opened it. */
 bool open_ring(struct ring *ring, unsigned entries, void *memory, size_t length);
+
+/* Closes a ring all of whose calls have ended. */
+void close_ring(struct ring *ring);
 
 /* Puts a call there; `what` is told again once it has ended. */
 void put_read(struct ring *ring, uint64_t what, int fd, const struct iovec *pieces, int count);

@@ -28,6 +28,10 @@ void make_slots(struct slots *slots, uint64_t block_size, size_t count) {
     for (size_t slot = 0; slot < count; slot++) slots->spares[slot] = slot;
 }
 
+void free_slots(struct slots *slots) {
+    free(slots->blocks), free(slots->orders), free(slots->spares);
+}
+
 /* A piece of a slot from this byte of its order on, where there is any. */
 static int add_piece(struct iovec *piece, void *bytes, size_t length, size_t from) {
     if (from >= length) return 0;

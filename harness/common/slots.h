@@ -27,6 +27,8 @@ struct slots {
 /* Makes so many slots, all of them free. */
 void make_slots(struct slots *slots, uint64_t block_size, size_t count);
 
+void free_slots(struct slots *slots);
+
 /* Says where the next bytes go, in at most so many pieces, and returns in how many. */
 int next_room(const struct slots *slots, struct iovec *pieces, int most);
 

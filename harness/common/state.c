@@ -1,11 +1,11 @@
 #include "state.h"
 
 #include "bytes.h"
+#include "keeping.h"
 #include "say.h"
 
 #include <endian.h>
 #include <errno.h>
-#include <fcntl.h>
 #include <inttypes.h>
 #include <limits.h>
 #include <stdio.h>
@@ -27,11 +27,6 @@ uint64_t draw_number(void) {
     return number;
 }
 
-/* The path of a file beside the state's. */
-static void path_beside(char path[PATH_MAX], const char *state, const char *ending) {
-    if (snprintf(path, PATH_MAX, "%s%s", state, ending) >= PATH_MAX) give_up(state, strerror(ENAMETOOLONG));
-}
-
 void put_aside(const char *state) {
     char old[PATH_MAX];
     const char *const endings[][2] = {{".region", ".old.region"}, {"", ".old"}};
@@ -43,14 +38,6 @@ void put_aside(const char *state) {
         if (at == 0 && errno == ENOENT && access(now, F_OK) && unlink(old) && errno != ENOENT) give_up_by_errno(old);
     }
     if (sync_folder(state)) give_up_by_errno(state);
-}
-
-/* Keeps bytes in a file, whole. */
-static void keep_file(const char *path, const void *bytes, size_t length) {
-    char beside[PATH_MAX];
-    path_beside(beside, path, ".new");
-    int fd = open(beside, O_WRONLY | O_CREAT | O_TRUNC | O_CLOEXEC, 0644);
-    if (fd < 0 || write_all(fd, bytes, length) || fsync(fd) || close(fd) || rename(beside, path) || sync_folder(path)) give_up_by_errno(path);
 }
 
 void keep_state(const char *state, const void *bytes, size_t length, const struct region *region) {

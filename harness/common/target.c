@@ -92,10 +92,14 @@ static bool is_device(const struct target *target) {
     return fstat(target->fd, &is) == 0 && S_ISBLK(is.st_mode);
 }
 
+bool may_tear(const struct target *target, uint64_t block_size) {
+    return target->whole > 0 && block_size > target->whole;
+}
+
 /* Refuses blocks that may be torn by a cut, where that is known. */
 static void refuse_torn(const struct target *target, uint64_t block_size, bool torn) {
     if (target->whole == 0) say("nobody tells how many bytes %s writes whole", target->name);
-    if (target->whole > 0 && block_size > target->whole && !torn) {
+    if (may_tear(target, block_size) && !torn) {
         char why[160];
         snprintf(why, sizeof why, "a block of %" PRIu64 " bytes may be torn, as it writes %" PRIu64 " whole; --torn takes that", block_size, target->whole);
         give_up(target->name, why);
@@ -108,10 +112,16 @@ static void make_room(struct target *target, uint64_t bytes) {
     target->size = bytes;
 }
 
-struct target open_to_write(const struct opening *opening, const struct region *region) {
+struct target open_for_later(const struct opening *opening) {
     bool is_new;
     struct target target = open_target(opening, true, &is_new);
     if (!is_new && !opening->yes) refuse_other_bytes(&target);
+    if (is_new && sync_folder(target.name)) give_up_by_errno(target.name);
+    return target;
+}
+
+struct target open_to_write(const struct opening *opening, const struct region *region) {
+    struct target target = open_for_later(opening);
     if (is_device(&target) && target.size < end_of(region)) give_up(target.name, "it is shorter than the job's region");
     refuse_torn(&target, region->block_size, opening->torn);
     if (target.size < end_of(region)) make_room(&target, end_of(region));

@@ -34,6 +34,13 @@ struct target {
  * returned, no byte of what was there has changed. */
 struct target open_to_write(const struct opening *opening, const struct region *region);
 
+/* The same where the region isn't known yet: a file that is made is empty, and nothing is refused
+ * for its blocks or their number. */
+struct target open_for_later(const struct opening *opening);
+
+/* Whether a cut may tear a block of so many bytes, by what is told of its device. */
+bool may_tear(const struct target *target, uint64_t block_size);
+
 /* Opens a target for a check. */
 struct target open_to_read(const struct opening *opening);
 

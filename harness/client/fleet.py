@@ -1,0 +1,171 @@
+"""The client of a fleet: the proved node, its note, and the links to the servers."""
+import os
+import struct
+import subprocess
+import threading
+import time
+
+from links import Link
+from note import KeptNote, Refused
+from records import BEGIN, ENDED, FRAME, GOOD, LOOK, NONE, NOTE, NO_SAVED, NUMBER, OPEN, OUTCOME, REFUSALS, REPORT, REQUESTS, SAVE, SEND, SHOW, STOP, TICK, TRIGGER, VERIFY
+from records import Report, addressee, read_record, record
+
+# So often what isn't answered is asked for again.
+TICKS = 1
+
+
+class Fleet:
+    """Carries out what the node says, in its order: a save is on the disk before anything behind it
+    leaves this process."""
+
+    def __init__(self, note, commands, run=0):
+        """Starts the client on its note, or on a first one by which that run was begun."""
+        self.kept, self.commands = KeptNote(note), commands
+        opening = self.kept.read(run)
+        self.lock, self.changed = threading.Lock(), threading.Condition()
+        self.told, self.answered, self.answers = 0, 0, {}
+        self.number, self.outcomes, self.reports, self.full_passes, self.end = None, {}, [], set(), None
+        words = [os.environ.get("NODE", "fiocut_node"), "client", str(len(commands))]
+        try:
+            self.process = subprocess.Popen(words, stdin=subprocess.PIPE, stdout=subprocess.PIPE, start_new_session=True)
+        except OSError as error:
+            raise Refused(f"{words[0]}: {error.strerror}") from None
+        self.links = []
+        threading.Thread(target=self.run, daemon=True).start()
+        fault = self.ask(NOTE, opening)
+        if fault:
+            raise Refused(f"{note}: the node refuses it, {fault}")
+        self.links = [Link(it, self.hear) for it in commands]
+        threading.Thread(target=self.tick, daemon=True).start()
+
+    def hear(self, frame):
+        self.tell(FRAME, frame)
+
+    def tell(self, kind, body=b"", waits=False):
+        """Tells the node a record, and returns which it is."""
+        with self.lock:
+            self.told += 1
+            if waits:
+                self.answers[self.told] = None
+            try:
+                self.process.stdin.write(record(kind, body))
+                self.process.stdin.flush()
+            except OSError:
+                pass # it has ended, which `run` finds
+            return self.told
+
+    def ask(self, kind, body=b""):
+        """Tells the node a record, waits for the end of the answer, and returns its fault, or 0."""
+        turn = self.tell(kind, body, True)
+        with self.changed:
+            while self.answers[turn] is None and not self.end:
+                self.changed.wait(1)
+            if self.end:
+                raise Refused(self.end)
+            return self.answers.pop(turn)
+
+    def run(self):
+        """Where the note can't be kept, the node ends: nothing behind the save may be carried
+        out."""
+        end = "fiocut_node: it has ended"
+        try:
+            while said := read_record(self.process.stdout):
+                self.carry_out(*said)
+        except OSError as error:
+            end = f"{self.kept.path}: {error.strerror}"
+            self.process.kill()
+        with self.changed:
+            self.end = end
+            self.changed.notify_all()
+
+    def carry_out(self, kind, body):
+        if kind == SAVE:
+            self.kept.keep(body)
+        elif kind == SEND:
+            self.note_full_pass(body)
+            if self.links: # (the node may say some before there are any: they are lost)
+                self.links[addressee(body)].send(body)
+        else:
+            with self.changed:
+                self.note(kind, body)
+                self.changed.notify_all()
+
+    def note(self, kind, body):
+        if kind == NUMBER:
+            self.number = struct.unpack(">Q", body)[0]
+        elif kind == OUTCOME:
+            number, server, request, outcome = struct.unpack(">QIBB", body)
+            self.outcomes[request, number, server] = outcome
+        elif kind == REPORT:
+            self.reports.append(Report(body))
+        elif kind == ENDED:
+            self.answered += 1
+            if self.answered in self.answers:
+                self.answers[self.answered] = body[0]
+
+    def note_full_pass(self, frame):
+        """Where the client says that it has no such state, the job is checked without one."""
+        if frame[3] == NO_SAVED:
+            attempt, job = struct.unpack(">QI", frame[24:36])
+            self.full_passes.add((attempt, addressee(frame), job))
+
+    def tick(self):
+        while not self.end:
+            time.sleep(TICKS)
+            self.tell(TICK)
+
+    def number_for(self, kind, body, what):
+        """Asks for a run or an attempt, and returns its number."""
+        fault = self.ask(kind, body)
+        if fault:
+            raise Refused(f"{what}: refused {fault}")
+        return self.number
+
+    def begin(self, text):
+        return self.number_for(BEGIN, text, "begin")
+
+    def verify(self, run, text):
+        return self.number_for(VERIFY, struct.pack(">Q", run) + text, f"the check of run {run}")
+
+    def trigger(self, run, cuts):
+        return self.ask(TRIGGER, struct.pack(">QB", run, cuts))
+
+    def stop(self, run):
+        return self.ask(STOP, struct.pack(">Q", run))
+
+    def stand(self, request, number):
+        """Returns how a request stands, by server."""
+        for server in range(len(self.commands)):
+            self.ask(LOOK, struct.pack(">QIB", number, server, REQUESTS[request]))
+        return [self.outcomes.get((REQUESTS[request], number, it), NONE) for it in range(len(self.commands))]
+
+    def settle(self, request, number, seconds):
+        """Waits until a request has ended at each server, so long at most, and returns how it
+        stands."""
+        until = time.monotonic() + seconds
+        while True:
+            now = self.stand(request, number)
+            if not {NONE, OPEN} & set(now) or time.monotonic() > until:
+                return now
+            time.sleep(0.02)
+
+    def take_reports(self):
+        """Returns all reports that came in this life."""
+        had = -1
+        while len(self.reports) > had:
+            had = len(self.reports)
+            self.ask(SHOW, struct.pack(">Q", had))
+        return self.reports
+
+    def close(self):
+        for it in self.links:
+            it.close()
+        self.process.kill()
+        self.process.wait()
+        self.kept.close()
+
+
+def told(outcome):
+    """Returns an outcome in words."""
+    words = {NONE: "no answer", OPEN: "no answer", GOOD: "good"}
+    return words.get(outcome) or f"refused {outcome} {REFUSALS.get(outcome, '')}".strip()

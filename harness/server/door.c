@@ -1,0 +1,127 @@
+#include "door.h"
+
+#include "bytes.h"
+#include "say.h"
+
+#include <errno.h>
+#include <poll.h>
+#include <stdlib.h>
+#include <string.h>
+#include <sys/socket.h>
+#include <sys/time.h>
+#include <sys/un.h>
+#include <unistd.h>
+
+/* A frame has a head, in whose last four bytes stands how long the rest is; no frame is longer than
+ * this. A link that takes nothing for so many seconds is closed. */
+enum { FRAME_HEAD = 16, LENGTH_AT = 12, LONGEST = 64 << 20, SECONDS = 5 };
+
+static struct sockaddr_un address_of(const char *path) {
+    struct sockaddr_un address = {.sun_family = AF_UNIX};
+    if (strlen(path) >= sizeof address.sun_path) give_up(path, "no socket's path may be so long");
+    memcpy(address.sun_path, path, strlen(path) + 1);
+    return address;
+}
+
+/* One link: what reads it also closes it. */
+struct visit {
+    struct door *door;
+    int link;
+};
+
+/* Reads a frame. Returns its bytes, from malloc, or NULL where the link has ended. */
+static uint8_t *read_frame(int link, size_t *length) {
+    uint8_t head[FRAME_HEAD];
+    if (read_all(link, head, sizeof head) != sizeof head) return NULL;
+    uint32_t rest = get_32(head + LENGTH_AT);
+    if (rest > LONGEST) return say("what came over the link is no frame: it is closed"), NULL;
+    uint8_t *frame = malloc(FRAME_HEAD + rest);
+    if (!frame) give_up("memory", strerror(ENOMEM));
+    memcpy(frame, head, sizeof head);
+    *length = FRAME_HEAD + rest;
+    if (read_all(link, frame + FRAME_HEAD, rest) == (ssize_t)rest) return frame;
+    free(frame);
+    return NULL;
+}
+
+static void *hear(void *given) {
+    struct visit visit = *(struct visit *)given;
+    size_t length;
+    free(given);
+    for (uint8_t *frame; (frame = read_frame(visit.link, &length)); free(frame)) {
+        await_room(visit.door->node);
+        tell_node(visit.door->node, RECORD_FRAME, &(struct iovec){frame, length}, 1);
+    }
+    pthread_mutex_lock(&visit.door->lock);
+    if (visit.door->link == visit.link) visit.door->link = -1;
+    close(visit.link);
+    pthread_mutex_unlock(&visit.door->lock);
+    return NULL;
+}
+
+/* Takes a link in the place of the one before, which ends. */
+static void take_link(struct door *door, int link) {
+    struct visit *visit = malloc(sizeof *visit);
+    pthread_t thread;
+    if (!visit) give_up("memory", strerror(ENOMEM));
+    setsockopt(link, SOL_SOCKET, SO_SNDTIMEO, &(struct timeval){SECONDS, 0}, sizeof(struct timeval));
+    *visit = (struct visit){door, link};
+    pthread_mutex_lock(&door->lock);
+    if (door->link >= 0) shutdown(door->link, SHUT_RDWR);
+    door->link = link;
+    pthread_mutex_unlock(&door->lock);
+    int error = pthread_create(&thread, NULL, hear, visit);
+    if (error) give_up("threads", strerror(error));
+    pthread_detach(thread);
+}
+
+static void *stand(void *given) {
+    struct door *door = given;
+    for (;;) {
+        int link = accept4(door->listening, NULL, NULL, SOCK_CLOEXEC);
+        if (link >= 0) take_link(door, link);
+        else if (errno != EINTR && errno != ECONNABORTED) give_up_by_errno("the socket");
+    }
+}
+
+void open_door(struct door *door, struct node *node, const char *path) {
+    struct sockaddr_un address = address_of(path);
+    pthread_t thread;
+    *door = (struct door){.node = node, .lock = PTHREAD_MUTEX_INITIALIZER, .link = -1};
+    door->listening = socket(AF_UNIX, SOCK_STREAM | SOCK_CLOEXEC, 0);
+    unlink(path); /* (whoever left it there has ended: the note was locked) */
+    if (door->listening < 0 || bind(door->listening, (struct sockaddr *)&address, sizeof address) || listen(door->listening, 8)) give_up_by_errno(path);
+    int error = pthread_create(&thread, NULL, stand, door);
+    if (error) give_up("threads", strerror(error));
+    pthread_detach(thread);
+}
+
+void send_frame(struct door *door, const struct record *record) {
+    pthread_mutex_lock(&door->lock);
+    if (door->link >= 0 && write_all(door->link, record->body, record->length)) {
+        shutdown(door->link, SHUT_RDWR); /* (a part of a frame may have gone out: the rest is lost with it) */
+        door->link = -1;
+    }
+    pthread_mutex_unlock(&door->lock);
+}
+
+/* Carries over what is there. False at the end. */
+static bool carry(int from, int to) {
+    uint8_t bytes[65536];
+    ssize_t count = read(from, bytes, sizeof bytes);
+    if (count < 0 && (errno == EINTR || errno == EAGAIN)) return true;
+    return count > 0 && write_all(to, bytes, (size_t)count) == 0;
+}
+
+int tie_to(const char *path) {
+    struct sockaddr_un address = address_of(path);
+    int server = socket(AF_UNIX, SOCK_STREAM | SOCK_CLOEXEC, 0);
+    if (server < 0 || connect(server, (struct sockaddr *)&address, sizeof address)) give_up(path, "no server listens there");
+    struct pollfd ends[] = {{STDIN_FILENO, POLLIN, 0}, {server, POLLIN, 0}};
+    for (bool goes_on = true; goes_on;) {
+        if (poll(ends, 2, -1) < 0 && errno != EINTR) give_up_by_errno("the link");
+        if (ends[0].revents) goes_on = carry(STDIN_FILENO, server);
+        if (goes_on && ends[1].revents) goes_on = carry(server, STDOUT_FILENO);
+    }
+    return STATUS_SOUND;
+}

@@ -1,0 +1,122 @@
+#include "lane.h"
+
+#include "bytes.h"
+#include "executor.h"
+#include "say.h"
+
+#include <errno.h>
+#include <fcntl.h>
+#include <inttypes.h>
+#include <string.h>
+#include <unistd.h>
+
+/* The most blocks that a job has, and what a pipe of orders may hold. */
+enum { MOST_BLOCKS = 65536, PIPE_BYTES = 1 << 20 };
+
+/* The orders of one run, as an executor reads them. */
+struct stretch {
+    uint64_t run, block_size;
+    int orders;
+};
+
+/* Whose ends an executor tells. */
+struct teller {
+    struct lane *lane;
+    uint64_t run;
+};
+
+static void make_pipe(int ends[2]) {
+    if (pipe2(ends, O_CLOEXEC)) give_up_by_errno("pipe");
+    fcntl(ends[0], F_SETPIPE_SZ, PIPE_BYTES);
+}
+
+void tell_end(struct node *node, enum record_kind kind, uint64_t run, uint32_t job, uint64_t write) {
+    uint8_t name[WRITE_NAME];
+    put_64(name, run), put_32(name + 8, job), put_64(name + 12, write);
+    tell_node(node, kind, &(struct iovec){name, sizeof name}, 1);
+}
+
+static void tell_these(void *whose, const struct ending *endings, size_t count) {
+    const struct teller *teller = whose;
+    for (size_t at = 0; at < count; at++) {
+        teller->lane->done += endings[at].is_done;
+        tell_end(teller->lane->node, endings[at].is_done ? RECORD_DONE : RECORD_FAILED, teller->run, teller->lane->job, endings[at].write);
+    }
+}
+
+static void forget_last(void *whose, const void *bytes, size_t length) {
+    (void)whose, (void)bytes, (void)length;
+}
+
+static void *work(void *given) {
+    struct lane *lane = given;
+    struct stretch stretch;
+    while (read_all(lane->stretches[0], &stretch, sizeof stretch) == sizeof stretch) {
+        struct region region = {stretch.block_size, MOST_BLOCKS, lane->offset, lane->stride ? lane->stride : stretch.block_size};
+        struct teller teller = {lane, stretch.run};
+        struct executor executor = {.target = lane->target, .region = region, .depth = MOST_OUT, .flush = lane->flush, .orders = stretch.orders, .whose = &teller,
+                                    .tell = tell_these, .tell_last = forget_last};
+        carry_out(&executor);
+        close(stretch.orders);
+    }
+    return NULL;
+}
+
+void start_lane(struct lane *lane) {
+    pthread_t thread;
+    lane->orders = -1;
+    make_pipe(lane->stretches);
+    int error = pthread_create(&thread, NULL, work, lane);
+    if (error) give_up("threads", strerror(error));
+    pthread_detach(thread);
+}
+
+/* Whether blocks of this size can be written where the lane writes; else that is said, once a run. */
+static bool is_possible(const struct lane *lane) {
+    bool fits = lane->offset % lane->block_size == 0 && (lane->stride == 0 || (lane->stride % lane->block_size == 0 && lane->stride >= lane->block_size));
+    if (!fits) say("job %" PRIu32 ": blocks of %" PRIu64 " bytes don't lie at its offset and stride: its writes fail", lane->job, lane->block_size);
+    bool tears = may_tear(lane->target, lane->block_size) && !lane->torn;
+    if (tears) say("%s: a cut may tear a block of %" PRIu64 " bytes, as it writes %" PRIu64 " whole; --torn takes that: writes of job %" PRIu32 " fail", lane->target->name, lane->block_size, lane->target->whole, lane->job);
+    return fits && !tears;
+}
+
+/* Begins the orders of a run. Those of the one before end, and its writes. */
+static void begin_run(struct lane *lane, uint64_t run, uint64_t block_size) {
+    int ends[2];
+    flush_lane(lane);
+    if (lane->orders >= 0) close(lane->orders);
+    lane->orders = -1, lane->run = run, lane->block_size = block_size;
+    lane->is_refused = !is_possible(lane);
+    if (lane->is_refused) return;
+    make_pipe(ends);
+    lane->orders = ends[1];
+    struct stretch stretch = {run, block_size, ends[0]};
+    if (write_all(lane->stretches[1], &stretch, sizeof stretch)) give_up_by_errno("pipe");
+}
+
+void take_order(struct lane *lane, const struct record *record) {
+    if (record->length <= ORDER_HEAD) give_up("fiocut_node", "it says an order without a block");
+    uint64_t run = get_64(record->body), write = get_64(record->body + 12), block_size = record->length - ORDER_HEAD;
+    if (run != lane->run || block_size != lane->block_size) begin_run(lane, run, block_size);
+    if (lane->is_refused) {
+        tell_end(lane->node, RECORD_FAILED, run, lane->job, write);
+        return;
+    }
+    uint8_t *head = lane->heads[lane->count];
+    put_64(head, write), put_64(head + 8, get_32(record->body + 20));
+    lane->pieces[2 * lane->count] = (struct iovec){head, sizeof lane->heads[0]};
+    lane->pieces[2 * lane->count + 1] = (struct iovec){(void *)(uintptr_t)(record->body + ORDER_HEAD), block_size};
+    if (++lane->count == MOST_ORDERS) flush_lane(lane);
+}
+
+void flush_lane(struct lane *lane) {
+    struct iovec *piece = lane->pieces, *end = piece + 2 * lane->count;
+    lane->count = 0;
+    while (piece < end) {
+        ssize_t count = writev(lane->orders, piece, (int)(end - piece));
+        if (count < 0 && errno == EINTR) continue;
+        if (count < 0) give_up_by_errno("orders");
+        for (; piece < end && (size_t)count >= piece->iov_len; piece++) count -= (ssize_t)piece->iov_len;
+        if (piece < end) *piece = (struct iovec){(uint8_t *)piece->iov_base + count, piece->iov_len - (size_t)count};
+    }
+}

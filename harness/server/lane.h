@@ -1,0 +1,44 @@
+/* The way of one job to its target: a thread that carries out its orders, those of a run behind
+ * those of the run before. */
+#ifndef LANE_H
+#define LANE_H
+
+#include "node.h"
+#include "target.h"
+
+#include <stdatomic.h>
+
+/* So many writes of a job are out at once at most, and so many orders are handed over in one go. */
+enum { MOST_OUT = 64, MOST_ORDERS = 64 };
+
+struct lane {
+    struct node *node;
+    const struct target *target;
+    uint32_t job;
+    uint64_t offset, stride, flush; /* a stride of 0: one block */
+    bool torn;                      /* takes blocks that a cut may tear */
+    atomic_uint_fast64_t done;      /* writes, of all its runs */
+    /* The rest is its own. */
+    uint64_t run, block_size; /* those of the orders that came last */
+    bool is_refused;          /* those can't be carried out */
+    int orders;               /* where they go to */
+    int stretches[2];         /* a pipe: to the thread, what it is to carry out next */
+    size_t count;             /* orders that wait to be handed over */
+    struct iovec pieces[2 * MOST_ORDERS];
+    uint8_t heads[MOST_ORDERS][16];
+};
+
+/* Starts its thread. The rest of the fields is set by then. */
+void start_lane(struct lane *lane);
+
+/* Takes an order: a record of that kind, whose body has to stay until the lane is flushed. Where it
+ * can't be carried out it is told as failed. */
+void take_order(struct lane *lane, const struct record *record);
+
+/* Hands over what it took. */
+void flush_lane(struct lane *lane);
+
+/* Tells that a write has ended. */
+void tell_end(struct node *node, enum record_kind kind, uint64_t run, uint32_t job, uint64_t write);
+
+#endif

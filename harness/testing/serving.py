@@ -1,0 +1,73 @@
+"""What the tests of fleets share: job files, servers over files, and what a check printed."""
+import os
+import re
+import shlex
+import subprocess
+
+from trying import BLOCK, OUT, QUIET, await_file, run, write
+
+TOP = os.path.dirname(os.path.dirname(OUT))
+FLEET, SERVER = f"{TOP}/harness/fleet", f"{OUT}/fleet-server"
+LINE = re.compile(r"server (\d+) job (\d+): report checked (\d+) faults (\d+) end (\w+) first (.*)")
+
+
+def job_file(name, jobs=2, blocks=256, writes=4096, depth=8):
+    """Makes a job file of so many jobs."""
+    text = "".join(f"[j{at}]\nrw=randwrite\nbs={BLOCK}\nsize={blocks * BLOCK}\nio_size={writes * BLOCK}\niodepth={depth}\n" for at in range(jobs))
+    write(name, text)
+    return name
+
+
+class Servers:
+    """Servers of a fleet, each over a file for each job, and their links."""
+
+    places = None # the targets of all servers, where they aren't those files
+
+    def __init__(self, name, count, jobs=2, **more):
+        self.name, self.count, self.jobs, self.more = name, count, jobs, more
+        self.running = [None] * count
+        for server in range(count):
+            self.start(server)
+
+    def targets(self, server):
+        return [f"{self.name}-{server}-{at}" for at in range(self.jobs)]
+
+    def note(self, server):
+        return f"{self.name}-{server}.note"
+
+    def start(self, server, lie=None, options=(), wait=True):
+        if os.path.exists(f"{self.note(server)}.socket"):
+            os.remove(f"{self.note(server)}.socket")
+        words = [SERVER, str(server), *(self.places or self.targets(server)), "--note", self.note(server), *options]
+        self.running[server] = subprocess.Popen(words, env={**os.environ, **(lie or {})}, stdin=subprocess.DEVNULL, **QUIET)
+        if wait:
+            await_file(f"{self.note(server)}.socket")
+
+    def kill(self, server):
+        self.running[server].kill()
+        self.running[server].wait()
+
+    def cut(self):
+        for server in range(self.count):
+            self.kill(server)
+
+    def restart(self):
+        for server in range(self.count):
+            self.start(server)
+
+    def links(self, before="exec"):
+        """The options that lead to them; `before` stands before each command."""
+        commands = [f"{shlex.quote(SERVER)} link --note {self.note(server)} 2>/dev/null" for server in range(self.count)]
+        return [it for command in commands for it in ("--server", f"{before} {shlex.quote(command) if before != 'exec' else command}")]
+
+
+def fleet(*words, **more):
+    return run(*words, program=FLEET, **more)
+
+
+def reports(printed):
+    """What a check printed, by server and job: how many blocks were checked, and the faulty ones."""
+    found = {}
+    for server, job, checked, faults, end, first in LINE.findall(printed):
+        found[int(server), int(job)] = (int(checked), int(faults), end, [] if first == "-" else [int(it) for it in first.split()])
+    return found
