@@ -11,11 +11,10 @@
 #include <time.h>
 #include <unistd.h>
 
-/* As many bytes as a pipe may hold: many blocks at once. Where the system allows less, it stays as
- * it is. */
+/* As many bytes as a pipe may hold. Where the system allows less, it stays as it is. */
 enum { PIPE_BYTES = 1 << 20 };
 
-static void make_pipe(int ends[2]) {
+void make_pipe(int ends[2]) {
     if (pipe2(ends, O_CLOEXEC)) give_up_by_errno("pipe");
     fcntl(ends[0], F_SETPIPE_SZ, PIPE_BYTES);
 }

@@ -11,6 +11,9 @@ struct child {
     int from; /* its standard output; -1 where it has ours, or this was closed */
 };
 
+/* Makes a pipe that holds many blocks at once: its end to read from, and the one to write to. */
+void make_pipe(int ends[2]);
+
 /* Which of its ends are pipes; and whether it and what it starts are a group of processes of their
  * own, to which a terminal's signals don't go. */
 enum { CHILD_READS = 1, CHILD_WRITES = 2, CHILD_APART = 4 };

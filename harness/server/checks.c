@@ -4,7 +4,6 @@
 #include "say.h"
 
 #include <errno.h>
-#include <fcntl.h>
 #include <inttypes.h>
 #include <stdlib.h>
 #include <string.h>
@@ -71,7 +70,7 @@ static void *work(void *given) {
 
 void start_checks(struct checks *checks) {
     pthread_t thread;
-    if (pipe2(checks->wants, O_CLOEXEC)) give_up_by_errno("pipe");
+    make_pipe(checks->wants);
     int error = pthread_create(&thread, NULL, work, checks);
     if (error) give_up("threads", strerror(error));
     pthread_detach(thread);

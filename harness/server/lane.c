@@ -5,13 +5,12 @@
 #include "say.h"
 
 #include <errno.h>
-#include <fcntl.h>
 #include <inttypes.h>
 #include <string.h>
 #include <unistd.h>
 
-/* The most blocks that a job has, and what a pipe of orders may hold. */
-enum { MOST_BLOCKS = 65536, PIPE_BYTES = 1 << 20 };
+/* The most blocks that a job has. */
+enum { MOST_BLOCKS = 65536 };
 
 /* The orders of one run, as an executor reads them. */
 struct stretch {
@@ -24,11 +23,6 @@ struct teller {
     struct lane *lane;
     uint64_t run;
 };
-
-static void make_pipe(int ends[2]) {
-    if (pipe2(ends, O_CLOEXEC)) give_up_by_errno("pipe");
-    fcntl(ends[0], F_SETPIPE_SZ, PIPE_BYTES);
-}
 
 void tell_end(struct node *node, enum record_kind kind, uint64_t run, uint32_t job, uint64_t write) {
     uint8_t name[WRITE_NAME];
