@@ -112,16 +112,23 @@ static void make_room(struct target *target, uint64_t bytes) {
     target->size = bytes;
 }
 
+/* Opens it, and looks at what it holds. */
+static struct target open_guarded(const struct opening *opening, bool *is_new) {
+    struct target target = open_target(opening, true, is_new);
+    if (!*is_new && !opening->yes) refuse_other_bytes(&target);
+    return target;
+}
+
 struct target open_for_later(const struct opening *opening) {
     bool is_new;
-    struct target target = open_target(opening, true, &is_new);
-    if (!is_new && !opening->yes) refuse_other_bytes(&target);
-    if (is_new && sync_folder(target.name)) give_up_by_errno(target.name);
+    struct target target = open_guarded(opening, &is_new);
+    if (is_new) make_room(&target, 0);
     return target;
 }
 
 struct target open_to_write(const struct opening *opening, const struct region *region) {
-    struct target target = open_for_later(opening);
+    bool is_new;
+    struct target target = open_guarded(opening, &is_new);
     if (is_device(&target) && target.size < end_of(region)) give_up(target.name, "it is shorter than the job's region");
     refuse_torn(&target, region->block_size, opening->torn);
     if (target.size < end_of(region)) make_room(&target, end_of(region));
