@@ -62,7 +62,8 @@ void tell_node(struct node *node, enum record_kind kind, const struct iovec *pie
     *end = (uint8_t)kind;
     put_64(end + 1, length);
     end += RECORD_HEAD;
-    for (int at = 0; at < count; end += pieces[at++].iov_len) memcpy(end, pieces[at].iov_base, pieces[at].iov_len);
+    for (int at = 0; at < count; end += pieces[at++].iov_len)
+        if (pieces[at].iov_len) memcpy(end, pieces[at].iov_base, pieces[at].iov_len);
     pthread_cond_broadcast(&node->changed);
     pthread_mutex_unlock(&node->lock);
 }
@@ -88,7 +89,7 @@ bool has_record(const struct node *node) {
 
 /* Reads more of what it says. False at the end. */
 static bool hear_more(struct node *node) {
-    memmove(node->said, node->said + node->begin, node->end - node->begin);
+    if (node->begin < node->end) memmove(node->said, node->said + node->begin, node->end - node->begin);
     node->end -= node->begin, node->begin = 0;
     node->said = with_room(node->said, &node->room, length_of_next(node) + AT_ONCE);
     ssize_t count;
