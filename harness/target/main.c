@@ -13,7 +13,8 @@ int main(int count, char **words) {
     const struct options options = read_options(count, words);
     signal(SIGPIPE, SIG_IGN);
     if (options.cpu) stay_on(number_of("--cpu", options.cpu));
-    const struct job job = read_job(options.job_file, options.job);
+    struct job job = read_job(options.job_file, options.job);
+    job.unit = options.unit;
     switch (options.command) {
     case WRITE: return write_target(&options, &job);
     case CHECK: return check_target(&options, &job);

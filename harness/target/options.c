@@ -23,6 +23,8 @@ static const char USAGE[] =
     "  --torn            takes blocks that are larger than what the device writes whole\n"
     "check, map:\n"
     "  --run N           checks as run N, which a full pass has to say\n"
+    "map:\n"
+    "  --unit BYTES      the target writes so many bytes whole, and not a block\n"
     "all:\n"
     "  --offset BYTES    where the first block begins, 0 else; --stride BYTES: from one block's front to the next\n"
     "  --cached          without O_DIRECT and O_DSYNC\n"
@@ -49,6 +51,7 @@ struct options read_options(int count, char **words) {
         {"--yes", 0, 0, &read.opening.yes, WRITE},
         {"--torn", 0, 0, &read.opening.torn, WRITE},
         {"--run", 0, &read.run, 0, CHECK | MAP},
+        {"--unit", 0, &read.unit, 0, MAP},
         {"--offset", 0, &read.offset, 0, WRITE | CHECK | MAP},
         {"--stride", 0, &read.stride, 0, WRITE | CHECK | MAP},
         {"--cached", 0, 0, &read.opening.cached, WRITE | CHECK | MAP},

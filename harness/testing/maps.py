@@ -83,6 +83,7 @@ def maps():
         tell_has(f"and why, by {what}", said, "block 10 can't be read: Input/output error")
     pictures(due)
     unchecked()
+    units()
 
 
 def pictures(due):
@@ -117,3 +118,22 @@ def unchecked():
     row = json.loads(printed)
     tell("a cycle tells the kinds of its faults", (sum(row["kinds"].values()), row["kinds"].get("unwritten", 0) > 0), (row["faults"], True))
     tell_has("and keeps their lines", read("kinds/cycle-000001.report").decode(), " unwritten: wants write ")
+
+
+def units():
+    """A write in flight that is torn is no fault by its units, and one by larger ones; and units that don't fit."""
+    env = {"LD_PRELOAD": LIAR, "LIE_TARGET": "/units"}
+    words = ("write", job("unit.fio", blocks=8, writes=64, order="write", block_size=2 * BLOCK), "units", "us", "--torn", "--after", "20")
+    tell("a run to be mapped by units", run(*words, env=env)[0], 0)
+    issued, done = counted(read("us"))
+    number, flying = run_of("us"), next(it for it in range(issued) if it not in done and it - 8 in done)
+    block, data = flying % 8, bytearray(read("units"))
+    older, newer = (stamp(number, 0, it, block, 2 * BLOCK) for it in (flying - 8, flying))
+    data[2 * BLOCK * block : 2 * BLOCK * (block + 1)] = older[:BLOCK] + newer[BLOCK:]
+    write("units", bytes(data))
+    torn = f"block {block} torn: wants write {flying - 8} or {flying}; 0-7 write {flying - 8} of"
+    for unit, status in ((512, 0), (BLOCK, 0), (2 * BLOCK, 1)):
+        came, printed, _ = run("map", "unit.fio", "units", "us", "--unit", str(unit))
+        tell(f"a torn write in flight, by units of {unit}", (came, torn in printed), (status, status == 1))
+    for unit in (256, 1536, 4 * BLOCK):
+        tell(f"units of {unit} don't fit", run("map", "unit.fio", "units", "us", "--unit", str(unit))[:2], (2, "refused 9 OutOfLimits 0\n"))

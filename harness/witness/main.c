@@ -54,7 +54,8 @@ int main(int count, char **words) {
     speak_as("drive-witness");
     const struct options options = read_options(count, words);
     signal(SIGPIPE, SIG_IGN);
-    const struct job job = read_job(options.job_file, options.job);
+    struct job job = read_job(options.job_file, options.job);
+    job.unit = options.unit;
     switch (options.command) {
     case WRITE: return write_by_agent(&options, &job);
     case CHECK: return check_by_agent(&options, &job);

@@ -20,6 +20,8 @@ static const char USAGE[] =
     "  --quiet MS        silence so long, while writes are out, is the cut; in a cycle 10000 where nothing else is said\n"
     "write, cycle:\n"
     "  --local           the agent has a drive of its own, DRIVE there: for a link too slow for the blocks\n"
+    "map, cycle:\n"
+    "  --unit BYTES      the target writes so many bytes whole, and not a block\n"
     "write:\n"
     "  --after N         takes the state once N writes are done\n"
     "cycle:\n"
@@ -79,6 +81,7 @@ struct options read_options(int count, char **words) {
         {"--wait", 0, &read.wait, 0, all_commands},
         {"--quiet", 0, &read.quiet, 0, all_commands},
         {"--local", 0, 0, &read.local, WRITE | CYCLE},
+        {"--unit", 0, &read.unit, 0, MAP | CYCLE},
         {"--after", 0, &read.after, 0, WRITE},
         {"--off", &read.off, 0, 0, CYCLE},
         {"--on", &read.on, 0, 0, CYCLE},

@@ -19,6 +19,7 @@ struct options {
     uint64_t cycles;   /* 0: until it is stopped */
     uint64_t least, most; /* milliseconds from the first order to the cut */
     uint64_t seed;     /* 0: one is drawn */
+    uint64_t unit;     /* 0: a block */
     bool local; /* the orders are given by the agent's own `drive`, too */
     bool keep_going, resume, json;
 };

@@ -1,7 +1,8 @@
 -- The words of a command line, one by one.
-use Rattle.std.proofs.Common.{◌≡◌, ◌∙◌, ap, subst, ℕ, arith, List, [], ◌∷◌, length, get_or, map}
+use Rattle.std.proofs.Common.{◌≡◌, ◌∙◌, ap, subst, ℕ, arith, List, [], ◌∷◌, length, get_or, map, codes, take, drop, sym}
+use Rattle.std.proofs.lemmas.List.{drop-map, take-map}
 use Rattle.program_io.specs.Words.{IsNumber}
-use Rattle.targets.specs.Command.{AreWords}
+use Rattle.targets.specs.Command.{AreUnitWords, AreWords, IsUnit}
 
 -- a word that is known by its text
 at_place : {S : Type 0} (text : S → List ℕ) (P : List ℕ → Type 0) (x a : S) (word : List ℕ) → a ≡ x → word ≡ text a → P word → P (text x)
@@ -20,3 +21,22 @@ four_words text (w ∷ x ∷ y ∷ z ∷ []) a b d word first second command n m
   at_place text (λ said. IsNumber said job) z d second r u (h.0, h.1 ∙ i),
 )
 four_words text (w ∷ x ∷ y ∷ z ∷ v ∷ vs) a b d word first second command n m run job l p q r s t u e f g h i = absurd (omega arith)
+
+pub two_words : {S : Type 0} (text : S → List ℕ) (ws : List S) (a b : S) (word number : List ℕ) (n unit : ℕ) → length ws ≡ 2
+    → a ≡ get_or ws 0 a → b ≡ get_or ws 1 b → word ≡ text a → number ≡ text b → word ≡ codes "--unit" → IsNumber number n → n ≡ unit
+    → IsUnit (map text ws) unit
+two_words text [] a b word number n unit l p q r s e f g = absurd (omega arith)
+two_words text (w ∷ []) a b word number n unit l p q r s e f g = absurd (omega arith)
+two_words text (w ∷ x ∷ []) a b word number n unit l p q r s e f g = (
+  at_place text (λ said. said ≡ codes "--unit") w a word p r e,
+  at_place text (λ said. IsNumber said unit) x b number q s (f.0, f.1 ∙ g),
+)
+two_words text (w ∷ x ∷ y ∷ ys) a b word number n unit l p q r s e f g = absurd (omega arith)
+
+-- The words of a map, and behind them those of a unit.
+pub six_words : {S : Type 0} (text : S → List ℕ) (ws front back : List S) (run job unit : ℕ) → front ≡ take 4 ws → back ≡ drop 4 ws
+    → AreWords (map text front) (codes "map") run job → IsUnit (map text back) unit → AreUnitWords (map text ws) run job unit
+six_words text ws front back run job unit first second are is = (
+  subst (λ l. AreWords l (codes "map") run job) (ap (map text) first ∙ sym (take-map text 4 ws)) are,
+  subst (λ l. IsUnit l unit) (ap (map text) second ∙ sym (drop-map text 4 ws)) is,
+)

@@ -6,9 +6,9 @@ use Rattle.std.proofs.lemmas.List.{length-append}
 use Rattle.std.proofs.lemmas.List.Elements.{filter-append}
 use Rattle.diagnosis.specs.declared.holds.Holds.TheVariants as holds
 use Rattle.recheck.specs.Expected.{Expected}
-use Rattle.recheck.specs.Faults.{is_expected}
 use Rattle.targets.specs.declared.told.Told.{Told}
 use Rattle.targets.specs.declared.told.Told.TheVariants as tolds
+use Rattle.targets.specs.Units.{is_sound_by}
 use Rattle.targets.specs.MapKinds.{kinds_by, with_line}
 use Rattle.targets.specs.MapLines.{kind_word}
 use Rattle.targets.specs.Maps.{Cell, Tells, has_line, is_sound, kinds_of, lines_with}
@@ -22,24 +22,24 @@ is_line tolds.Unread = true
 is_line tolds.Sound = false
 is_line (tolds.Fault kind) = true
 
-sound_is : (e : Expected) (block : ℕ) (bytes : Option (List ℕ)) (told : Told) (held : List ℕ) → bytes ≡ Some held
-    → is_sound e (record { block = block; bytes = bytes; told = told }) ≡ is_expected e block held
-sound_is e block bytes told held is = ap (λ (bs : Option (List ℕ)). is_sound e (record { block = block; bytes = bs; told = told })) is
+sound_is : (unit : Option ℕ) (e : Expected) (block : ℕ) (bytes : Option (List ℕ)) (told : Told) (held : List ℕ) → bytes ≡ Some held
+    → is_sound unit e (record { block = block; bytes = bytes; told = told }) ≡ is_sound_by unit e block held
+sound_is unit e block bytes told held is = ap (λ (bs : Option (List ℕ)). is_sound unit e (record { block = block; bytes = bs; told = told })) is
 
-pub line_is : (e : Expected) (block : ℕ) (bytes : Option (List ℕ)) (told : Told) → Tells e block bytes told
-    → has_line e (record { block = block; bytes = bytes; told = told }) ≡ is_line told
+pub line_is : (unit : Option ℕ) (e : Expected) (block : ℕ) (bytes : Option (List ℕ)) (told : Told) → Tells unit e block bytes told
+    → has_line unit e (record { block = block; bytes = bytes; told = told }) ≡ is_line told
 unfolding is_line
-line_is e block bytes tolds.Unchecked tells =
-    ap (λ b. b && not (is_sound e (record { block = block; bytes = bytes; told = tolds.Unchecked }))) tells
-line_is e block bytes tolds.Unread (checked, none) =
-    ap (λ b. b && not (is_sound e (record { block = block; bytes = bytes; told = tolds.Unread }))) checked
-    ∙ ap (λ (bs : Option (List ℕ)). not (is_sound e (record { block = block; bytes = bs; told = tolds.Unread }))) none
-line_is e block bytes tolds.Sound (checked, (held, is, expected)) =
-    ap (λ b. b && not (is_sound e (record { block = block; bytes = bytes; told = tolds.Sound }))) checked
-    ∙ ap not (sound_is e block bytes tolds.Sound held is ∙ expected)
-line_is e block bytes (tolds.Fault kind) (checked, (held, is, unexpected, holds)) =
-    ap (λ b. b && not (is_sound e (record { block = block; bytes = bytes; told = tolds.Fault kind }))) checked
-    ∙ ap not (sound_is e block bytes (tolds.Fault kind) held is ∙ unexpected)
+line_is unit e block bytes tolds.Unchecked tells =
+    ap (λ b. b && not (is_sound unit e (record { block = block; bytes = bytes; told = tolds.Unchecked }))) tells
+line_is unit e block bytes tolds.Unread (checked, none) =
+    ap (λ b. b && not (is_sound unit e (record { block = block; bytes = bytes; told = tolds.Unread }))) checked
+    ∙ ap (λ (bs : Option (List ℕ)). not (is_sound unit e (record { block = block; bytes = bs; told = tolds.Unread }))) none
+line_is unit e block bytes tolds.Sound (checked, (held, is, expected)) =
+    ap (λ b. b && not (is_sound unit e (record { block = block; bytes = bytes; told = tolds.Sound }))) checked
+    ∙ ap not (sound_is unit e block bytes tolds.Sound held is ∙ expected)
+line_is unit e block bytes (tolds.Fault kind) (checked, (held, is, unexpected, holds)) =
+    ap (λ b. b && not (is_sound unit e (record { block = block; bytes = bytes; told = tolds.Fault kind }))) checked
+    ∙ ap not (sound_is unit e block bytes (tolds.Fault kind) held is ∙ unexpected)
 
 -- ---- one more
 
@@ -84,11 +84,11 @@ told_more f (tolds.Fault (holds.Misdirected write)) = refl
 told_more f (tolds.Fault holds.Torn) = refl
 told_more f (tolds.Fault (holds.Corrupt sectors)) = refl
 
-pub kinds_more : (e : Expected) (cells : List Cell) (block : ℕ) (bytes : Option (List ℕ)) (told : Told) → Tells e block bytes told
-    → kinds_of e (cells ++ record { block = block; bytes = bytes; told = told } ∷ []) ≡ with_line (kinds_of e cells) told
-kinds_more e cells block bytes told tells =
+pub kinds_more : (unit : Option ℕ) (e : Expected) (cells : List Cell) (block : ℕ) (bytes : Option (List ℕ)) (told : Told) → Tells unit e block bytes told
+    → kinds_of unit e (cells ++ record { block = block; bytes = bytes; told = told } ∷ []) ≡ with_line (kinds_of unit e cells) told
+kinds_more unit e cells block bytes told tells =
     let cell : Cell = record { block = block; bytes = bytes; told = told } in
-    kinds_alike (lines_with e (cells ++ cell ∷ [])) (λ word. one_if (is_line told && bytes_eq (kind_word told) word) (lines_with e cells word))
-    (λ word. length_more (λ (c : Cell). has_line e c && bytes_eq (kind_word c.told) word) cells cell (is_line told && bytes_eq (kind_word told) word)
-    (ap (λ b. b && bytes_eq (kind_word told) word) (line_is e block bytes told tells)))
-    ∙ told_more (lines_with e cells) told
+    kinds_alike (lines_with unit e (cells ++ cell ∷ [])) (λ word. one_if (is_line told && bytes_eq (kind_word told) word) (lines_with unit e cells word))
+    (λ word. length_more (λ (c : Cell). has_line unit e c && bytes_eq (kind_word c.told) word) cells cell (is_line told && bytes_eq (kind_word told) word)
+    (ap (λ b. b && bytes_eq (kind_word told) word) (line_is unit e block bytes told tells)))
+    ∙ told_more (lines_with unit e cells) told

@@ -8,6 +8,7 @@ pub mod JobLemmas
 pub mod FrontLemmas
 pub mod FrontBytes
 pub mod LossLemmas
+pub mod UnitLemmas
 pub mod KindLemmas
 pub mod MapLemmas
 pub mod MapJobLemmas

@@ -19,7 +19,8 @@ use Rattle.targets.specs.Checks.{Checks}
 use Rattle.targets.specs.Jobs.{key_of, ReadsJob, Refuses}
 use Rattle.targets.specs.Reports.{CannotCheck, IsStateIn}
 use Rattle.targets.specs.MapInput.{BlockComes, Comes, FillsOrEnds}
-use Rattle.targets.specs.MapJobs.{MapsJob, StartsMap}
+use Rattle.targets.specs.MapJobs.{MapsJob, StartsMap, misfit}
+use Rattle.targets.specs.Units.{unit_fits}
 use Rattle.targets.specs.Maps.{MapsTarget}
 use Rattle.targets.specs.Mapping.{IsReady}
 use Rattle.targets.proofs.JobLemmas.{begins_with, checked, not_checked, state_leaves}
@@ -70,10 +71,10 @@ no_start run number first rest target asked state key fault refusal reads is sam
 
 pub started : (run number : ℕ) (first rest target : Option (List ℕ)) (asked : Asked) (state : Option State) (key : Key) (check : Check) (made : Map)
     → ReadsJob number first rest asked → IsStateIn rest target state → key ≡ key_of run number
-    → Starts (Ok check) key asked.rec state false → made.check ≡ check → length made.bytes.items ≡ asked.rec.bs → made.unread ≡ false
+    → Starts (Ok check) key asked.rec state false → made.check ≡ check → length made.bytes.items ≡ asked.rec.bs → length made.wanted.items ≡ asked.rec.bs → made.unread ≡ false
     → IfSome first (λ input. StartsMap run number input target made)
-started run number None rest target asked state key check made reads is same starts holds room none = tt
-started run number (Some input) rest target asked state key check made reads is same starts holds room none =
+started run number None rest target asked state key check made reads is same starts holds room wanted none = tt
+started run number (Some input) rest target asked state key check made reads is same starts holds room wanted none =
     let at = begins_with number input rest asked reads in
     let of_it : IsStateIn (Some at.behind) target state = subst (λ r. IsStateIn r target state) at.leaves is in
     let left = state_leaves at.behind target state of_it in
@@ -92,41 +93,66 @@ started run number (Some input) rest target asked state key check made reads is 
       };
       check = holds ∙ mine.1;
       room = room ∙ ap (λ (j : JobParts). j.bs) at.rec;
+      wanted = wanted ∙ ap (λ (j : JobParts). j.bs) at.rec;
       none = none;
     }
 
 pub is_ready : (key : Key) (job : JobParts) (state : Option State) (check : Check) (made : Map) → Starts (Ok check) key job state false
-    → made.check ≡ check → length made.bytes.items ≡ job.bs → made.unread ≡ false → IsReady made
-is_ready key job state check made starts holds room none =
+    → made.check ≡ check → length made.bytes.items ≡ job.bs → length made.wanted.items ≡ job.bs → made.unread ≡ false → IsReady made
+is_ready key job state check made starts holds room wanted none =
     let is : made.check ≡ start (expected_by key job state) false = holds ∙ starts.1 in
     record {
       starts = is ∙ ap (λ (k : Check). start k.expected false) (sym is);
       room = room ∙ ap (λ (k : Check). k.expected.job.bs) (sym is);
+      wanted = wanted ∙ ap (λ (k : Check). k.expected.job.bs) (sym is);
       none = none;
     }
 
 -- ---- a map is answered
 
-pub answered : {E : Type 0} (run number : ℕ) (first left : Option (List ℕ)) (made : Map) (status : Result ℕ E) (old new : Option (List ℕ))
+pub answered : {E : Type 0} (run number : ℕ) (unit : Option ℕ) (first left : Option (List ℕ)) (made : Map) (size : ℕ) (status : Result ℕ E)
+    (old new : Option (List ℕ)) → size ≡ made.check.expected.job.bs → unit_fits unit size ≡ true
     → IfSome first (λ input. StartsMap run number input left made)
-    → IfSome left (λ target. IfOk status (MapsTarget made.check.expected target old new))
-    → IfSome first (λ input. IfOk status (MapsJob run number input old new))
-answered run number None left made status old new starts maps = tt
-answered run number (Some input) left made (Err e) old new starts maps = tt
-answered run number (Some input) left made (Ok s) old new starts maps =
-    let known : MapsTarget made.check.expected starts.target old new s =
-    subst (λ l. IfSome l (λ target. MapsTarget made.check.expected target old new s)) starts.leaves maps in
+    → IfSome left (λ target. IfOk status (MapsTarget unit made.check.expected target old new))
+    → IfSome first (λ input. IfOk status (MapsJob run number unit input old new))
+answered run number unit None left made size status old new is fits starts maps = tt
+answered run number unit (Some input) left made size (Err e) old new is fits starts maps = tt
+answered run number unit (Some input) left made size (Ok s) old new is fits starts maps =
+    let known : MapsTarget unit made.check.expected starts.target old new s =
+    subst (λ l. IfSome l (λ target. MapsTarget unit made.check.expected target old new s)) starts.leaves maps in
     inl (record {
       job = starts.job;
       state = starts.state;
       target = starts.target;
       begins = starts.begins;
-      maps = subst (λ (k : Check). MapsTarget k.expected starts.target old new s) starts.check known;
+      fits = sym (ap (unit_fits unit) (is ∙ ap (λ (k : Check). k.expected.job.bs) starts.check)) ∙ fits;
+      maps = subst (λ (k : Check). MapsTarget unit k.expected starts.target old new s) starts.check known;
     })
 
-pub refused : {E : Type 0} (run number : ℕ) (first : Option (List ℕ)) (refusal : PrintedRefusal) (status : Result ℕ E) (old new : Option (List ℕ))
-    → IfSome first (λ input. CannotCheck run number input refusal) → IfOk status (Refuses refusal old new)
-    → IfSome first (λ input. IfOk status (MapsJob run number input old new))
-refused run number None refusal status old new cannot refuses = tt
-refused run number (Some input) refusal (Err e) old new cannot refuses = tt
-refused run number (Some input) refusal (Ok s) old new cannot refuses = inr (refusal, cannot, refuses)
+pub refused : {E : Type 0} (run number : ℕ) (unit : Option ℕ) (first : Option (List ℕ)) (refusal : PrintedRefusal) (status : Result ℕ E)
+    (old new : Option (List ℕ)) → IfSome first (λ input. CannotCheck run number input refusal) → IfOk status (Refuses refusal old new)
+    → IfSome first (λ input. IfOk status (MapsJob run number unit input old new))
+refused run number unit None refusal status old new cannot refuses = tt
+refused run number unit (Some input) refusal (Err e) old new cannot refuses = tt
+refused run number unit (Some input) refusal (Ok s) old new cannot refuses = inr (refusal, inl cannot, refuses)
+
+-- The unit doesn't fit.
+pub misfits : {E : Type 0} (run number : ℕ) (unit : Option ℕ) (first left : Option (List ℕ)) (made : Map) (size : ℕ) (refusal : PrintedRefusal)
+    (status : Result ℕ E) (old new : Option (List ℕ)) → size ≡ made.check.expected.job.bs → unit_fits unit size ≡ false → refusal ≡ misfit number
+    → IfSome first (λ input. StartsMap run number input left made) → IfOk status (Refuses refusal old new)
+    → IfSome first (λ input. IfOk status (MapsJob run number unit input old new))
+misfits run number unit None left made size refusal status old new is unfit says starts refuses = tt
+misfits run number unit (Some input) left made size refusal (Err e) old new is unfit says starts refuses = tt
+misfits run number unit (Some input) left made size refusal (Ok s) old new is unfit says starts refuses =
+    inr (
+      refusal,
+      inr (
+        starts.job,
+        starts.state,
+        starts.target,
+        starts.begins,
+        sym (ap (unit_fits unit) (is ∙ ap (λ (k : Check). k.expected.job.bs) starts.check)) ∙ unfit,
+        says,
+      ),
+      refuses,
+    )

@@ -28,30 +28,31 @@ use Rattle.targets.specs.MapInput.{block_code, EndsInBlock, IsPart, NoBlock}
 use Rattle.targets.specs.MapKinds.{no_lines, with_line}
 use Rattle.targets.specs.MapLines.{line_if_any, line_words, unchecked_line}
 use Rattle.targets.specs.Maps.{AreOf, AreTold, Cell, HasCome, MapsTarget, Reports, Tells, bytes_in, has_line, is_unread, kinds_of, last_line, lines_of, read_blocks}
-use Rattle.targets.specs.Mapping.{GoesOn, IsReady, HasTaken, TakesBlock}
+use Rattle.targets.specs.Mapping.{GoesOn, IsReady, HasTaken, TakesBlock, fed_bytes}
 use Rattle.targets.specs.MapJobs.{status_with}
 use Rattle.targets.proofs.CheckLemmas.{known_rest}
 use Rattle.targets.proofs.KindLemmas.{is_line, kinds_more, line_is}
+use Rattle.targets.proofs.UnitLemmas.{report_alike}
 
 -- So many blocks have come since the input was this, and their lines were written.
-pub record HasMapped (e : Expected) (check : Check) (unread : Bool) (sums : Kinds) (count : ℕ) (first now first_text text : Option (List ℕ)) : Type 0 where
+pub record HasMapped (unit : Option ℕ) (e : Expected) (check : Check) (unread : Bool) (sums : Kinds) (count : ℕ) (first now first_text text : Option (List ℕ)) : Type 0 where
   pub cells : List Cell
-  pub come : HasCome e count cells
+  pub come : HasCome unit e count cells
   pub came : Consumes first now (flat_map (λ c. block_code c.bytes) cells)
-  pub written : Appends first_text text (lines_of e cells)
-  pub seen : (held : ℕ → List ℕ) → AreOf held cells → HasSeen check held (read_blocks cells)
+  pub written : Appends first_text text (lines_of unit e cells)
+  pub seen : (held : ℕ → List ℕ) → AreOf held cells → HasSeen check (λ n. fed_bytes unit e n (held n)) (read_blocks cells)
   pub any : unread ≡ list_any (is_unread e) cells
-  pub kinds : sums ≡ kinds_of e cells
+  pub kinds : sums ≡ kinds_of unit e cells
 
 -- None has come yet.
-pub none_mapped : (e : Expected) (check : Check) (unread : Bool) (sums : Kinds) (input text : Option (List ℕ)) → check ≡ start e false → unread ≡ false
-    → sums ≡ no_lines → HasMapped e check unread sums 0 input input text text
-none_mapped e check unread sums input text is none zeros = record {
+pub none_mapped : (unit : Option ℕ) (e : Expected) (check : Check) (unread : Bool) (sums : Kinds) (input text : Option (List ℕ)) → check ≡ start e false → unread ≡ false
+    → sums ≡ no_lines → HasMapped unit e check unread sums 0 input input text text
+none_mapped unit e check unread sums input text is none zeros = record {
   cells = [];
   come = record { blocks = refl; told = tt };
   came = Consumes-nil input;
   written = Appends-nil text;
-  seen = λ held are. subst (λ k. HasSeen k held []) (sym is) (record { uncut = refl; found = refl });
+  seen = λ held are. subst (λ k. HasSeen k (λ n. fed_bytes unit e n (held n)) []) (sym is) (record { uncut = refl; found = refl });
   any = none;
   kinds = zeros;
 }
@@ -62,60 +63,65 @@ of_more : (held : ℕ → List ℕ) (cells : List Cell) (cell : Cell) → AreOf 
 of_more held [] cell are = (tt, are.0)
 of_more held (c ∷ cs) cell are = let rest = of_more held cs cell are.1 in ((are.0, rest.0), rest.1)
 
-told_more : (e : Expected) (cells : List Cell) (cell : Cell) → AreTold e cells
-    → Tells e cell.block cell.bytes cell.told → IfSome cell.bytes (λ bytes. length bytes ≡ e.job.bs) → AreTold e (cells ++ cell ∷ [])
-told_more e [] cell are tells whole = ((tells, whole), tt)
-told_more e (c ∷ cs) cell are tells whole = (are.0, told_more e cs cell are.1 tells whole)
+told_more : (unit : Option ℕ) (e : Expected) (cells : List Cell) (cell : Cell) → AreTold unit e cells
+    → Tells unit e cell.block cell.bytes cell.told → IfSome cell.bytes (λ bytes. length bytes ≡ e.job.bs) → AreTold unit e (cells ++ cell ∷ [])
+told_more unit e [] cell are tells whole = ((tells, whole), tt)
+told_more unit e (c ∷ cs) cell are tells whole = (are.0, told_more unit e cs cell are.1 tells whole)
 
 -- The line of one block.
 one_line : {X : Type 0} (p : X → Bool) (f : X → List ℕ) (x : X) (b : Bool) → p x ≡ b → flat_map f (filter p (x ∷ [])) ≡ (if b then f x else [])
 one_line p f x true is = rw (is) (append-nil (f x))
 one_line p f x false is = rw (is) refl
 
-line_if : (e : Expected) (block : ℕ) (bytes : Option (List ℕ)) (told : Told) (buffer : List ℕ) → Tells e block bytes told
+line_if : (unit : Option ℕ) (e : Expected) (block : ℕ) (bytes : Option (List ℕ)) (told : Told) (buffer : List ℕ) → Tells unit e block bytes told
     → IfSome bytes (λ l. buffer ≡ l)
-    → flat_map (λ (c : Cell). line_words e c.block (bytes_in c.bytes) c.told) (filter (has_line e) (record { block = block; bytes = bytes; told = told } ∷ []))
+    → flat_map (λ (c : Cell). line_words e c.block (bytes_in c.bytes) c.told) (filter (has_line unit e) (record { block = block; bytes = bytes; told = told } ∷ []))
     ≡ line_if_any e block buffer told
 unfolding is_line
-line_if e block bytes tolds.Unchecked buffer tells here =
-    one_line (has_line e) (λ (c : Cell). line_words e c.block (bytes_in c.bytes) c.told) (record { block = block; bytes = bytes; told = tolds.Unchecked }) false (line_is e block bytes tolds.Unchecked tells)
-line_if e block bytes tolds.Unread buffer tells here =
-    one_line (has_line e) (λ (c : Cell). line_words e c.block (bytes_in c.bytes) c.told) (record { block = block; bytes = bytes; told = tolds.Unread }) true (line_is e block bytes tolds.Unread tells)
-line_if e block bytes tolds.Sound buffer tells here =
-    one_line (has_line e) (λ (c : Cell). line_words e c.block (bytes_in c.bytes) c.told) (record { block = block; bytes = bytes; told = tolds.Sound }) false (line_is e block bytes tolds.Sound tells)
-line_if e block bytes (tolds.Fault kind) buffer (checked, (held, is, unexpected, holds)) here =
+line_if unit e block bytes tolds.Unchecked buffer tells here =
+    one_line (has_line unit e) (λ (c : Cell). line_words e c.block (bytes_in c.bytes) c.told) (record { block = block; bytes = bytes; told = tolds.Unchecked }) false (line_is unit e block bytes tolds.Unchecked tells)
+line_if unit e block bytes tolds.Unread buffer tells here =
+    one_line (has_line unit e) (λ (c : Cell). line_words e c.block (bytes_in c.bytes) c.told) (record { block = block; bytes = bytes; told = tolds.Unread }) true (line_is unit e block bytes tolds.Unread tells)
+line_if unit e block bytes tolds.Sound buffer tells here =
+    one_line (has_line unit e) (λ (c : Cell). line_words e c.block (bytes_in c.bytes) c.told) (record { block = block; bytes = bytes; told = tolds.Sound }) false (line_is unit e block bytes tolds.Sound tells)
+line_if unit e block bytes (tolds.Fault kind) buffer (checked, (held, is, unexpected, holds)) here =
     let same : buffer ≡ held = subst (λ (bs : Option (List ℕ)). IfSome bs (λ l. buffer ≡ l)) is here in
-    one_line (has_line e) (λ (c : Cell). line_words e c.block (bytes_in c.bytes) c.told) (record { block = block; bytes = bytes; told = tolds.Fault kind }) true (line_is e block bytes (tolds.Fault kind) (checked, (held, is, unexpected, holds)))
+    one_line (has_line unit e) (λ (c : Cell). line_words e c.block (bytes_in c.bytes) c.told) (record { block = block; bytes = bytes; told = tolds.Fault kind }) true (line_is unit e block bytes (tolds.Fault kind) (checked, (held, is, unexpected, holds)))
     ∙ ap (λ (bs : Option (List ℕ)). line_words e block (bytes_in bs) (tolds.Fault kind)) is
     ∙ ap (λ l. line_words e block l (tolds.Fault kind)) (sym same)
 
-lines_more : (e : Expected) (cells : List Cell) (block : ℕ) (bytes : Option (List ℕ)) (told : Told) (buffer : List ℕ) → Tells e block bytes told
+lines_more : (unit : Option ℕ) (e : Expected) (cells : List Cell) (block : ℕ) (bytes : Option (List ℕ)) (told : Told) (buffer : List ℕ) → Tells unit e block bytes told
     → IfSome bytes (λ l. buffer ≡ l)
-    → lines_of e (cells ++ record { block = block; bytes = bytes; told = told } ∷ []) ≡ lines_of e cells ++ line_if_any e block buffer told
-lines_more e cells block bytes told buffer tells here =
+    → lines_of unit e (cells ++ record { block = block; bytes = bytes; told = told } ∷ []) ≡ lines_of unit e cells ++ line_if_any e block buffer told
+lines_more unit e cells block bytes told buffer tells here =
     let f : Cell → List ℕ = λ c. line_words e c.block (bytes_in c.bytes) c.told in
     let cell : Cell = record { block = block; bytes = bytes; told = told } in
-    ap (flat_map f) (filter-append (has_line e) cells (cell ∷ []))
-    ∙ flat_map-append f (filter (has_line e) cells) (filter (has_line e) (cell ∷ []))
-    ∙ ap (λ l. lines_of e cells ++ l) (line_if e block bytes told buffer tells here)
+    ap (flat_map f) (filter-append (has_line unit e) cells (cell ∷ []))
+    ∙ flat_map-append f (filter (has_line unit e) cells) (filter (has_line unit e) (cell ∷ []))
+    ∙ ap (λ l. lines_of unit e cells ++ l) (line_if unit e block bytes told buffer tells here)
 
 -- The check has seen one block more, where it was read.
-seen_more : (old new : Check) (cells : List Cell) (block : ℕ) (bytes : Option (List ℕ)) (told : Told) (held : ℕ → List ℕ)
-    → HasSeen old held (read_blocks cells) → HasTaken old new block bytes → IfSome bytes (λ l. held block ≡ l)
-    → HasSeen new held (read_blocks (cells ++ record { block = block; bytes = bytes; told = told } ∷ []))
-seen_more old new cells block None told held seen taken holds =
+seen_more : (unit : Option ℕ) (e : Expected) (old new : Check) (cells : List Cell) (block : ℕ) (bytes : Option (List ℕ)) (told : Told) (held : ℕ → List ℕ)
+    → old.expected ≡ e → HasSeen old (λ n. fed_bytes unit e n (held n)) (read_blocks cells) → HasTaken unit old new block bytes
+    → IfSome bytes (λ l. held block ≡ l)
+    → HasSeen new (λ n. fed_bytes unit e n (held n)) (read_blocks (cells ++ record { block = block; bytes = bytes; told = told } ∷ []))
+seen_more unit e old new cells block None told held same_e seen taken holds =
     let p : Cell → Bool = λ c. is_some c.bytes in
     let f : Cell → ℕ = λ c. c.block in
+    let fed : ℕ → List ℕ = λ n. fed_bytes unit e n (held n) in
     let same : read_blocks (cells ++ record { block = block; bytes = None; told = told } ∷ []) ≡ read_blocks cells =
     ap (map f) (filter-append p cells (record { block = block; bytes = None; told = told } ∷ []) ∙ append-nil (filter p cells)) in
-    subst (λ k. HasSeen k held (read_blocks (cells ++ record { block = block; bytes = None; told = told } ∷ []))) (sym taken) (subst (HasSeen old held) (sym same) seen)
-seen_more old new cells block (Some bytes) told held seen taken holds =
+    subst (λ k. HasSeen k fed (read_blocks (cells ++ record { block = block; bytes = None; told = told } ∷ []))) (sym taken) (subst (HasSeen old fed) (sym same) seen)
+seen_more unit e old new cells block (Some bytes) told held same_e seen taken holds =
     let p : Cell → Bool = λ c. is_some c.bytes in
     let f : Cell → ℕ = λ c. c.block in
+    let fed : ℕ → List ℕ = λ n. fed_bytes unit e n (held n) in
     let more : read_blocks (cells ++ record { block = block; bytes = Some bytes; told = told } ∷ []) ≡ read_blocks cells ++ block ∷ [] =
     ap (map f) (filter-append p cells (record { block = block; bytes = Some bytes; told = told } ∷ []))
     ∙ map-append f (filter p cells) (record { block = block; bytes = Some bytes; told = told } ∷ []) in
-    subst (HasSeen new held) (sym more) (taken held (read_blocks cells) holds seen)
+    let given : fed block ≡ fed_bytes unit old.expected block bytes =
+    ap (fed_bytes unit e block) holds ∙ ap (λ (x : Expected). fed_bytes unit x block bytes) (sym same_e) in
+    subst (HasSeen new fed) (sym more) (taken fed (read_blocks cells) given seen)
 
 or_false : (b : Bool) → (b || false) ≡ b
 or_false true = refl
@@ -128,37 +134,40 @@ unread_kept false true = refl
 unread_kept false false = refl
 
 -- One block more.
-pub map_more : (e : Expected) (old new : Map) (sums new_sums : Kinds) (count : ℕ) (first input left first_text text new_text : Option (List ℕ)) (told : Told)
-    → HasMapped e old.check old.unread sums count first input first_text text → TakesBlock e old new count input left told
+pub map_more : (unit : Option ℕ) (e : Expected) (old new : Map) (sums new_sums : Kinds) (count : ℕ) (first input left first_text text new_text : Option (List ℕ)) (told : Told)
+    → HasMapped unit e old.check old.unread sums count first input first_text text → old.check.expected ≡ e → TakesBlock unit e old new count input left told
     → Appends text new_text (line_if_any e count new.bytes.items told) → new_sums ≡ with_line sums told
-    → HasMapped e new.check new.unread new_sums (count + 1) first left first_text new_text
-map_more e old new sums new_sums count first input left first_text text new_text told so_far takes wrote summed =
+    → HasMapped unit e new.check new.unread new_sums (count + 1) first left first_text new_text
+map_more unit e old new sums new_sums count first input left first_text text new_text told so_far same takes wrote summed =
     let cell : Cell = record { block = count; bytes = takes.bytes; told = told } in
     let f : Cell → List ℕ = λ c. block_code c.bytes in
     record {
       cells = so_far.cells ++ cell ∷ [];
       come = record {
         blocks = map-append (λ (c : Cell). c.block) so_far.cells (cell ∷ []) ∙ ap (λ l. l ++ count ∷ []) so_far.come.blocks ∙ sym (range_more count);
-        told = told_more e so_far.cells cell so_far.come.told takes.tells takes.whole;
+        told = told_more unit e so_far.cells cell so_far.come.told takes.tells takes.whole;
       };
       came = subst (Consumes first left)
           (sym (flat_map-append f so_far.cells (cell ∷ []) ∙ ap (λ l. flat_map f so_far.cells ++ l) (append-nil (block_code takes.bytes))))
           (Consumes-trans first input left (flat_map f so_far.cells) (block_code takes.bytes) so_far.came takes.came);
-      written = subst (Appends first_text new_text) (sym (lines_more e so_far.cells count takes.bytes told new.bytes.items takes.tells takes.here))
-          (Appends-trans first_text text new_text (lines_of e so_far.cells) (line_if_any e count new.bytes.items told) so_far.written wrote);
+      written = subst (Appends first_text new_text) (sym (lines_more unit e so_far.cells count takes.bytes told new.bytes.items takes.tells takes.here))
+          (Appends-trans first_text text new_text (lines_of unit e so_far.cells) (line_if_any e count new.bytes.items told) so_far.written wrote);
       seen = λ held are.
           let parts = of_more held so_far.cells cell are in
-          seen_more old.check new.check so_far.cells count takes.bytes told held (so_far.seen held parts.0) takes.taken parts.1;
+          seen_more unit e old.check new.check so_far.cells count takes.bytes told held same (so_far.seen held parts.0) takes.taken parts.1;
       any = takes.unread ∙ ap (λ b. b || is_unread e cell) so_far.any
           ∙ sym (list_any-append (is_unread e) so_far.cells (cell ∷ []) ∙ ap (λ b. list_any (is_unread e) so_far.cells || b) (or_false (is_unread e cell)));
-      kinds = summed ∙ ap (λ (k : Kinds). with_line k told) so_far.kinds ∙ sym (kinds_more e so_far.cells count takes.bytes told takes.tells);
+      kinds = summed ∙ ap (λ (k : Kinds). with_line k told) so_far.kinds ∙ sym (kinds_more unit e so_far.cells count takes.bytes told takes.tells);
     }
 
 -- The report of the blocks that were read.
-reports : (e : Expected) (check : Check) (cells : List Cell) → check.expected ≡ e → check.fatal ≡ false
-    → ((held : ℕ → List ℕ) → AreOf held cells → HasSeen check held (read_blocks cells)) → Reports e cells (report_with check.found Whole)
-reports e check cells same whole seen held are =
-    ap (λ t. report_with t Whole) ((seen held are).found ∙ ap (λ (x : Expected). tally x held (read_blocks cells)) same)
+reports : (unit : Option ℕ) (e : Expected) (check : Check) (cells : List Cell) → check.expected ≡ e → check.fatal ≡ false
+    → ((held : ℕ → List ℕ) → AreOf held cells → HasSeen check (λ n. fed_bytes unit e n (held n)) (read_blocks cells))
+    → Reports unit e cells (report_with check.found Whole)
+reports unit e check cells same whole seen held are =
+    ap (λ t. report_with t Whole)
+    ((seen held are).found ∙ ap (λ (x : Expected). tally x (λ n. fed_bytes unit e n (held n)) (read_blocks cells)) same)
+    ∙ report_alike unit e held (read_blocks cells)
 
 -- A status and what was written.
 pub both : {E : Type 0} (r : Result ℕ E) (A : Type 0) (Q P : ℕ → Type 0) → OnOk r A → IfOk r Q → (A → (s : ℕ) → Q s → P s) → IfOk r P
@@ -170,13 +179,13 @@ cut_status true = refl
 cut_status false = refl
 
 -- All blocks have come.
-pub mapped_whole : {E : Type 0} (e : Expected) (check : Check) (unread : Bool) (sums : Kinds) (target : List ℕ)
+pub mapped_whole : {E : Type 0} (unit : Option ℕ) (e : Expected) (check : Check) (unread : Bool) (sums : Kinds) (target : List ℕ)
     (input first_text text mid_text new_text : Option (List ℕ)) (r : ReportParts) (status : Result ℕ E)
-    → HasMapped e check unread sums e.job.blocks (Some target) input first_text text → check.expected ≡ e
+    → HasMapped unit e check unread sums e.job.blocks (Some target) input first_text text → check.expected ≡ e
     → check.fatal ≡ false → r ≡ report_of check.fatal check.found
     → Appends text mid_text (unchecked_line e) → OnOk status (Appends mid_text new_text (last_line r sums)) → IfOk status (λ s. s ≡ status_with unread r)
-    → IfOk status (MapsTarget e target first_text new_text)
-mapped_whole e check unread sums target input first_text text mid_text new_text r status so_far same whole is told line says =
+    → IfOk status (MapsTarget unit e target first_text new_text)
+mapped_whole unit e check unread sums target input first_text text mid_text new_text r status so_far same whole is told line says =
     let known = known_rest target (Some target) input _ refl so_far.came in
     let mine : r ≡ report_with check.found Whole = is ∙ ap (λ f. report_of f check.found) whole in
     both status _ _ _ line says (λ wrote s is_status. inl (record {
@@ -185,10 +194,10 @@ mapped_whole e check unread sums target input first_text text mid_text new_text 
       rest = known.0;
       input = known.2;
       report = report_with check.found Whole;
-      reports = reports e check so_far.cells same whole so_far.seen;
+      reports = reports unit e check so_far.cells same whole so_far.seen;
       finishes = (
-        Appends-trans first_text text new_text (lines_of e so_far.cells) _ so_far.written
-            (Appends-trans text mid_text new_text (unchecked_line e) (last_line (report_with check.found Whole) (kinds_of e so_far.cells)) told
+        Appends-trans first_text text new_text (lines_of unit e so_far.cells) _ so_far.written
+            (Appends-trans text mid_text new_text (unchecked_line e) (last_line (report_with check.found Whole) (kinds_of unit e so_far.cells)) told
             (subst (λ (k : Kinds). Appends mid_text new_text (last_line (report_with check.found Whole) k)) so_far.kinds
             (subst (λ (p : ReportParts). Appends mid_text new_text (last_line p sums)) mine wrote))),
         is_status ∙ ap (status_with unread) mine ∙ ap (λ b. if b then 2 else report_status (report_with check.found Whole)) so_far.any,
@@ -202,14 +211,14 @@ part_left size rest (Some xs) (part, read, is, end) =
     subst (IsPart size) (sym (read ∙ ap (λ l. part ++ l) end ∙ append-nil part)) is
 
 -- The input ends in the next block.
-pub mapped_cut : {E : Type 0} (e : Expected) (check new_check : Check) (unread new_unread : Bool) (sums : Kinds) (count : ℕ) (target : List ℕ)
+pub mapped_cut : {E : Type 0} (unit : Option ℕ) (e : Expected) (check new_check : Check) (unread new_unread : Bool) (sums : Kinds) (count : ℕ) (target : List ℕ)
     (input left first_text text mid_text new_text : Option (List ℕ)) (r : ReportParts) (status : Result ℕ E)
-    → HasMapped e check unread sums count (Some target) input first_text text → check.expected ≡ e
+    → HasMapped unit e check unread sums count (Some target) input first_text text → check.expected ≡ e
     → check.fatal ≡ false → count < e.job.blocks → EndsInBlock e.job.bs input left → new_check ≡ check → new_unread ≡ unread
     → r ≡ report_with new_check.found (ReadFault count)
     → Appends text mid_text (unchecked_line e) → OnOk status (Appends mid_text new_text (last_line r sums)) → IfOk status (λ s. s ≡ status_with new_unread r)
-    → IfOk status (MapsTarget e target first_text new_text)
-mapped_cut e check new_check unread new_unread sums count target input left first_text text mid_text new_text r status so_far same whole within ends kept kept_unread is told line says =
+    → IfOk status (MapsTarget unit e target first_text new_text)
+mapped_cut unit e check new_check unread new_unread sums count target input left first_text text mid_text new_text r status so_far same whole within ends kept kept_unread is told line says =
     let known = known_rest target (Some target) input _ refl so_far.came in
     let mine : r ≡ report_with check.found (ReadFault count) = is ∙ ap (λ (k : Check). report_with k.found (ReadFault count)) kept in
     both status _ _ _ line says (λ wrote s is_status. inr (inl (record {
@@ -221,10 +230,10 @@ mapped_cut e check new_check unread new_unread sums count target input left firs
       input = known.2;
       ends = part_left e.job.bs known.0 left (subst (λ i. EndsInBlock e.job.bs i left) known.1 ends);
       report = report_with check.found Whole;
-      reports = reports e check so_far.cells same whole so_far.seen;
+      reports = reports unit e check so_far.cells same whole so_far.seen;
       finishes = (
-        Appends-trans first_text text new_text (lines_of e so_far.cells) _ so_far.written
-            (Appends-trans text mid_text new_text (unchecked_line e) (last_line (report_with check.found (ReadFault count)) (kinds_of e so_far.cells)) told
+        Appends-trans first_text text new_text (lines_of unit e so_far.cells) _ so_far.written
+            (Appends-trans text mid_text new_text (unchecked_line e) (last_line (report_with check.found (ReadFault count)) (kinds_of unit e so_far.cells)) told
             (subst (λ (k : Kinds). Appends mid_text new_text (last_line (report_with check.found (ReadFault count)) k)) so_far.kinds
             (subst (λ (p : ReportParts). Appends mid_text new_text (last_line p sums)) mine wrote))),
         is_status ∙ ap (status_with new_unread) mine ∙ cut_status new_unread,
@@ -232,12 +241,12 @@ mapped_cut e check new_check unread new_unread sums count target input left firs
     })))
 
 -- No block comes.
-pub mapped_refused : {E : Type 0} (e : Expected) (check : Check) (unread : Bool) (sums : Kinds) (count : ℕ) (target : List ℕ)
+pub mapped_refused : {E : Type 0} (unit : Option ℕ) (e : Expected) (check : Check) (unread : Bool) (sums : Kinds) (count : ℕ) (target : List ℕ)
     (input left first_text text new_text : Option (List ℕ)) (fault : Fault) (status : Result ℕ E)
-    → HasMapped e check unread sums count (Some target) input first_text text → count < e.job.blocks → NoBlock fault input left
-    → IfOk status (Refuses (plain fault) text new_text) → IfOk status (MapsTarget e target first_text new_text)
-mapped_refused e check unread sums count target input left first_text text new_text fault (Err x) so_far within none refuses = tt
-mapped_refused e check unread sums count target input left first_text text new_text fault (Ok s) so_far within none refuses =
+    → HasMapped unit e check unread sums count (Some target) input first_text text → count < e.job.blocks → NoBlock fault input left
+    → IfOk status (Refuses (plain fault) text new_text) → IfOk status (MapsTarget unit e target first_text new_text)
+mapped_refused unit e check unread sums count target input left first_text text new_text fault (Err x) so_far within none refuses = tt
+mapped_refused unit e check unread sums count target input left first_text text new_text fault (Ok s) so_far within none refuses =
     let known = known_rest target (Some target) input _ refl so_far.came in
     inr (inr (record {
       cells = so_far.cells;
@@ -250,7 +259,7 @@ mapped_refused e check unread sums count target input left first_text text new_t
       left = left;
       none = subst (λ i. NoBlock fault i left) known.1 none;
       finishes = (
-        Appends-trans first_text text new_text (lines_of e so_far.cells) (with_line_feed (refusal_line (plain fault))) so_far.written refuses.0,
+        Appends-trans first_text text new_text (lines_of unit e so_far.cells) (with_line_feed (refusal_line (plain fault))) so_far.written refuses.0,
         refuses.1,
       );
     }))
@@ -262,4 +271,5 @@ ready_goes m ready = record {
   fatal = ap (λ (k : Check). k.fatal) ready.starts;
   next = omega (arith, ap (λ (k : Check). k.next) ready.starts);
   room = ready.room;
+  wanted = ready.wanted;
 }

@@ -11,6 +11,7 @@ pub mod Jobs
 pub mod Reports
 pub mod Command
 pub mod MapInput
+pub mod Units
 pub mod MapSectors
 pub mod MapDifferences
 pub mod MapKinds

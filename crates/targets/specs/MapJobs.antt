@@ -1,5 +1,6 @@
 -- What `drive` answers where a target is to be mapped.
-use Rattle.std.specs.Prelude.{◌≡◌, ◌⊎◌, ℕ, Bool, false, List, length, Option, Some, Ok, if◌then◌else◌}
+use Rattle.std.specs.Prelude.{◌≡◌, ◌⊎◌, ℕ, Bool, false, IsTrue, List, length, Option, Some, Ok, if◌then◌else◌}
+use Rattle.fc_base.specs.declared.fault.Fault.TheVariants.{OutOfLimits}
 use Rattle.fc_base.specs.declared.report.ReportParts.{ReportParts}
 use Rattle.job_file.specs.declared.job.Job.{Job}
 use Rattle.verify_state.specs.State.{State}
@@ -10,6 +11,7 @@ use Rattle.targets.specs.declared.map.Map.{Map}
 use Rattle.targets.specs.Jobs.{key_of, BeginsWithJob, Refuses}
 use Rattle.targets.specs.Reports.{CannotCheck, IsStateIn, report_status}
 use Rattle.targets.specs.Maps.{MapsTarget}
+use Rattle.targets.specs.Units.{unit_fits}
 
 -- An input begins with a job file that has the job of this number, and a state that fits it, or
 -- none; and the blocks of the target stand behind.
@@ -20,20 +22,33 @@ pub record BeginsMap (run number : ℕ) (input target : List ℕ) (job : Job)
   pub is_state : IsStateIn (Some behind) (Some target) state
   pub fits : FitsIfAny state (key_of run number) job.rec (Ok tt)
 
--- The target of an input is mapped by its job and its state.
-pub record MapsInput (run number : ℕ) (input : List ℕ) (old new : Option (List ℕ))
-    (status : ℕ) : Type 0 where
+-- The target of an input is mapped by its job and its state, and by a unit that fits its blocks.
+pub record MapsInput (run number : ℕ) (unit : Option ℕ) (input : List ℕ)
+    (old new : Option (List ℕ)) (status : ℕ) : Type 0 where
   pub job : Job
   pub state : Option State
   pub target : List ℕ
   pub begins : BeginsMap run number input target job state
-  pub maps : MapsTarget (expected_by (key_of run number) job.rec state) target old new status
+  pub fits : IsTrue (unit_fits unit job.rec.bs)
+  pub maps : MapsTarget unit (expected_by (key_of run number) job.rec state) target old new status
 
--- What is answered where a target is to be mapped. What refuses a check refuses a map.
-abbrev pub MapsJob : ℕ → ℕ → List ℕ → Option (List ℕ) → Option (List ℕ) → ℕ → Type 0
-MapsJob run number input old new status =
-    MapsInput run number input old new status
-    ⊎ ((refusal : PrintedRefusal) × CannotCheck run number input refusal
+-- The blocks of the job are past a limit: the unit doesn't fit them.
+abbrev pub misfit : ℕ → PrintedRefusal
+misfit number = record { fault = OutOfLimits; line_or_job = Some number }
+
+-- Why a target isn't mapped: what refuses a check refuses a map; or the unit doesn't fit.
+abbrev pub CannotMap : ℕ → ℕ → Option ℕ → List ℕ → PrintedRefusal → Type 0
+CannotMap run number unit input refusal =
+    CannotCheck run number input refusal
+    ⊎ ((job : Job) × (state : Option State) × (target : List ℕ)
+    × BeginsMap run number input target job state × (unit_fits unit job.rec.bs ≡ false)
+    × (refusal ≡ misfit number))
+
+-- What is answered where a target is to be mapped.
+abbrev pub MapsJob : ℕ → ℕ → Option ℕ → List ℕ → Option (List ℕ) → Option (List ℕ) → ℕ → Type 0
+MapsJob run number unit input old new status =
+    MapsInput run number unit input old new status
+    ⊎ ((refusal : PrintedRefusal) × CannotMap run number unit input refusal
     × Refuses refusal old new status)
 
 -- A map is started by the front of an input, and this is left.
@@ -46,6 +61,7 @@ pub record StartsMap (run number : ℕ) (input : List ℕ) (left : Option (List 
   pub begins : BeginsMap run number input target job state
   pub check : map.check ≡ start (expected_by (key_of run number) job.rec state) false
   pub room : length map.bytes.items ≡ job.rec.bs
+  pub wanted : length map.wanted.items ≡ job.rec.bs
   pub none : map.unread ≡ false
 
 -- The status of a report, where a checked block could not be read or none such.

@@ -1,7 +1,7 @@
 //! The command line of `drive`.
 
 ghost use Rattle.std.specs.Prelude.{◌≤◌, ◌<◌, IfSome, IsTrue, map};
-ghost use Rattle.targets.specs.Command.{IsRequest, Asks, AreWords};
+ghost use Rattle.targets.specs.Command.{IsRequest, IsUnit, Asks, AreUnitWords, AreWords};
 
 use clap::{Arg, ArgMatches, Command, Error};
 use fc_base::{JobNo, MAX_JOBS, RunNo};
@@ -13,16 +13,28 @@ use std::convert::AsStr;
 #[derive(Clone, Copy, PartialEq, Eq)]
 pub enum Request {
     /// `drive write RUN JOB`: write the job of this number.
-    Write { run: RunNo, job: JobNo },
+    Write {
+        run: RunNo,
+        job: JobNo,
+    },
     /// `drive check RUN JOB`: check its target.
-    Check { run: RunNo, job: JobNo },
-    /// `drive map RUN JOB`: tell what each faulty block of its target holds.
-    Map { run: RunNo, job: JobNo },
+    Check {
+        run: RunNo,
+        job: JobNo,
+    },
+    /// `drive map RUN JOB`, or `drive map RUN JOB --unit BYTES`: tell what each faulty block of its
+    /// target holds, by a unit or without one.
+    Map {
+        run: RunNo,
+        job: JobNo,
+        unit: Option<u32>,
+    },
 }
 
 /// Reads the words of a command line, of which the first is the program's own name. `None` is a bad command: no
 /// command or an unknown one, a word too few or too many, a run that isn't 1 to 18,446,744,073,709,551,615, a job that
-/// isn't 0 to 15, or no memory to read the words with. There are no options.
+/// isn't 0 to 15, a unit that isn't 0 to 4,294,967,295, or no memory to read the words with. There is no other option,
+/// and none before the job.
 pub fn read_words<S: AsStr>(alloc: Global, words: &[S]) -> Option<Request>
     ensures allowed { IfSome result IsRequest }
     ensures asked { IfSome result (Asks (map S.text words.now)) }
@@ -42,10 +54,36 @@ pub fn read_words<S: AsStr>(alloc: Global, words: &[S]) -> Option<Request>
         }
         ("map", values) => {
             let (run, job) = numbers_of(values)?;
-            are_words(words, "map", run, job).then_some(Request::Map { run, job })
+            let unit = values.get_one::<u32>("unit");
+            are_map_words(words, run, job, unit).then_some(Request::Map { run, job, unit })
         }
         _ => None,
     }
+}
+
+/// Whether these are the words of a map, by a unit or without one.
+fn are_map_words<S: AsStr>(words: &[S], run: RunNo, job: JobNo, unit: Option<u32>) -> bool
+    ensures { IsTrue result → Asks (map S.text words.now) (Request.Map run job unit) }
+{
+    match unit {
+        None => are_words(words, "map", run, job),
+        Some(unit) => are_unit_words(words, run, job, unit),
+    }
+}
+
+/// Whether these are the words of a map by this unit.
+fn are_unit_words<S: AsStr>(words: &[S], run: RunNo, job: JobNo, unit: u32) -> bool
+    ensures { IsTrue result → AreUnitWords (map S.text words.now) run job unit }
+{
+    words.len() == 6 && (are_words(&words[..4], "map", run, job) && is_unit(&words[4..], unit))
+}
+
+/// Whether these are the option and its value.
+fn is_unit<S: AsStr>(words: &[S], unit: u32) -> bool
+    ensures { IsTrue result → IsUnit (map S.text words.now) unit }
+{
+    words.len() == 2
+        && (words[0].as_str() == "--unit" && is_number(words[1].as_str(), u64::from(unit)))
 }
 
 /// Whether these are the words of a command with its run and its job.
@@ -63,7 +101,7 @@ fn matches_of<'a, S: AsStr>(alloc: Global, words: &'a [S]) -> Result<ArgMatches<
     command.try_get_matches_from(words)
 }
 
-/// What a command line may have: one of three subcommands, and no options.
+/// What a command line may have: one of three subcommands, and of the last one an option.
 fn command_of<'a>(alloc: Global) -> Result<Command<'a>, AllocError> {
     let mut command = Command::new(alloc, "drive")
         .disable_help_flag(true)
@@ -80,6 +118,9 @@ fn subcommand<'a>(alloc: Global, name: &'a str) -> Result<Command<'a>, AllocErro
     let mut command = Command::new(alloc, name).disable_help_flag(true);
     for number in ["run", "job"] {
         command = command.arg(Arg::new(alloc, number).required(true))?;
+    }
+    if name == "map" {
+        command = command.arg(Arg::new(alloc, "unit").long("unit"))?;
     }
     Ok(command)
 }

@@ -4,13 +4,14 @@
 ghost use Rattle.std.specs.Prelude.{◌≡◌, [], ◌∷◌, true, false};
 ghost use Rattle.targets.specs.Fronts.{HistoriesAreOne, FrontsAreBehind, HistoriesGoOn, IsBehind, OrdersGoOn, OrderedAreIssued, ToldAreCounted, OrderedAreOpen};
 ghost use Rattle.targets.specs.Losses.{is_fault_after, SurvivorsAreNoFaults, LossesAreFaults};
+ghost use Rattle.targets.specs.Units.{BlocksAreUnits, SoundBlocksHaveSoundUnits};
 ghost use Rattle.targets.specs.Examples.{three_writes, one_told, two_told, holds_write};
 
 use crate::notice::Notice;
 use engine::{overlap_law, taken_law};
 use recheck::faults_are_losses;
 use window::sets_law;
-use write_order::writes_stay_in_the_region;
+use write_order::{writes_fill_their_blocks, writes_stay_in_the_region};
 
 /// A run that is told of each write only once another run of its job was orders nothing that the
 /// other one's state doesn't know: each of its writes is counted there, or in flight. So the run
@@ -57,3 +58,13 @@ pub fn examples()
     ensures lost { is_fault_after three_writes two_told (holds_write 0) 0 ≡ true }
     ensures told_less { is_fault_after three_writes one_told (holds_write 2) 0 ≡ true }
 {}
+
+/// A block that holds a write that it may hold is sound by any unit, and by one that is as long as
+/// itself only such a block is: so a map without a unit tells what one with the block as its unit
+/// does, and a smaller unit takes faults away and adds none.
+pub fn unit_law()
+    ensures sound { SoundBlocksHaveSoundUnits }
+    ensures whole { BlocksAreUnits }
+{
+    writes_fill_their_blocks();
+}

@@ -1,27 +1,29 @@
 //! `drive map`: what each faulty block of a target holds.
 
-ghost use Rattle.std.specs.Prelude.{◌≡◌, ◌≤◌, ◌<◌, ◌+◌, ◌||◌, false, true, length, IfOk, IfErr, IfSome, OnOk, Some, None};
+ghost use Rattle.std.specs.Prelude.{◌≡◌, ◌≤◌, ◌<◌, ◌+◌, ◌||◌, false, true, length, IfOk, IfErr, IfSome, OnOk, IsTrue, Some, None};
 ghost use Rattle.std.specs.Io.KnownBytes.{Appends};
 ghost use Rattle.recheck.specs.Report.{report_of, report_with};
 ghost use Rattle.recheck.specs.Check.{start};
 ghost use Rattle.targets.specs.Reports.{CannotCheck, report_status};
-ghost use Rattle.targets.specs.MapJobs.{MapsJob, StartsMap, status_with};
+ghost use Rattle.targets.specs.MapJobs.{MapsJob, StartsMap, misfit, status_with};
 ghost use Rattle.targets.specs.Maps.{MapsTarget, last_line};
 ghost use Rattle.targets.specs.MapKinds.{all_lines};
-ghost use Rattle.targets.specs.Mapping.{GoesOn, IsReady, Takes, TellsBytes, TellsUnread};
+ghost use Rattle.targets.specs.Mapping.{GoesOn, IsReady, Takes, TellsUnread};
+ghost use Rattle.targets.specs.Units.{unit_fits};
 
 use crate::asked::{key_of, read_job};
 use crate::drive_check::{read_state, status_of};
 use crate::drive_write::refuse;
 use crate::kinds::{Kinds, no_lines, with_line, write_kinds};
+use crate::map_bytes::tell_bytes;
 use crate::map_input::{Came, next_block};
 use crate::map_lines::write_told;
 use crate::map_unchecked::write_unchecked;
 use crate::told::Told;
-use diagnosis::diagnose;
+use crate::units::unit_fits;
 use fc_base::{CheckReport, Fault, JobNo, RunNo};
 use program_io::{PrintedRefusal, write_report_words};
-use recheck::{Recheck, Verdict};
+use recheck::Recheck;
 use std::alloc::Global;
 use std::io;
 use std::io::{Read, Write};
@@ -34,6 +36,8 @@ const UNREAD: u8 = 2;
 struct Map {
     check: Recheck,
     bytes: Vec<u8>,
+    /// Room for what a write puts into a block.
+    wanted: Vec<u8>,
     /// Whether a checked block could not be read.
     unread: bool,
 }
@@ -46,6 +50,12 @@ struct Map {
 /// stands how many lines there are of each kind, as `report checked 9 faults 1 end whole first 5
 /// lost 1`. It goes over the whole region, also where the job's faults are fatal.
 ///
+/// Without a unit a checked block is at fault where it holds none of the writes that it may hold,
+/// whole. With one, of so many bytes, it is where some unit of it is that of none of them: so a
+/// target may be mapped that writes less than a block whole. A unit is a multiple of 512 bytes
+/// that divides a block, or else the map is refused as a job past a limit
+/// ([`Fault::OutOfLimits`]).
+///
 /// The status is 0; 1 where the report has faults; and 2 where a checked block could not be read,
 /// where the input ends before the region, which the report says as `end read B`, and for every
 /// refusal. These are those of `check_job`, and [`Fault::BadNotice`] where the byte before a block
@@ -55,15 +65,31 @@ pub fn map_job<R: Read, W: Write>(
     alloc: Global,
     run: RunNo,
     job: JobNo,
+    unit: Option<u32>,
     reader: &mut R,
     writer: &mut W,
 ) -> io::Result<u8>
     ensures { IfSome (R.remaining reader.old) (λ input. IfOk result
-        (MapsJob run job input (W.contents writer.old) (W.contents writer.new))) }
+        (MapsJob run job unit input (W.contents writer.old) (W.contents writer.new))) }
 {
-    match start(alloc, run, job, reader) {
-        Ok(map) => go_over(map, reader, writer),
-        Err(refusal) => refuse(writer, refusal),
+    let map = match start(alloc, run, job, reader) {
+        Ok(map) => map,
+        Err(refusal) => return refuse(writer, refusal),
+    };
+    if unit_fits(unit, map.check.expected().rec().bs()) {
+        go_over(map, unit, reader, writer)
+    } else {
+        refuse(writer, misfit(job))
+    }
+}
+
+/// The refusal of a job whose blocks the unit doesn't fit.
+fn misfit(job: JobNo) -> PrintedRefusal
+    ensures { result ≡ misfit job }
+{
+    PrintedRefusal {
+        fault: Fault::OutOfLimits,
+        line_or_job: Some(job.0),
     }
 }
 
@@ -87,22 +113,32 @@ fn start<R: Read>(
     let Ok(bytes) = vec![in alloc; 0u8; asked.rec.bs() as usize] else {
         return Err(PrintedRefusal::from(Fault::NoMemory));
     };
+    let Ok(wanted) = vec![in alloc; 0u8; asked.rec.bs() as usize] else {
+        return Err(PrintedRefusal::from(Fault::NoMemory));
+    };
     Ok(Map {
         check,
         bytes,
+        wanted,
         unread: false,
     })
 }
 
 /// Goes over the blocks.
-fn go_over<R: Read, W: Write>(mut map: Map, reader: &mut R, writer: &mut W) -> io::Result<u8>
-    requires { IsReady map }
+fn go_over<R: Read, W: Write>(
+    mut map: Map,
+    unit: Option<u32>,
+    reader: &mut R,
+    writer: &mut W,
+) -> io::Result<u8>
+    requires ready { IsReady map }
+    requires fits { IsTrue (unit_fits unit map.check.expected.job.bs) }
     ensures { IfSome (R.remaining reader.old) (λ target. IfOk result
-        (MapsTarget map.check.expected target (W.contents writer.old) (W.contents writer.new))) }
+        (MapsTarget unit map.check.expected target (W.contents writer.old) (W.contents writer.new))) }
 {
     let mut kinds = no_lines();
     for block in 0..map.check.expected().rec().blocks() {
-        match take_block(&mut map, block, reader) {
+        match take_block(&mut map, unit, block, reader) {
             Ok(Some(told)) => {
                 write_told(writer, map.check.expected(), block, &map.bytes, &told)?;
                 kinds = with_line(kinds, &told);
@@ -112,6 +148,7 @@ fn go_over<R: Read, W: Write>(mut map: Map, reader: &mut R, writer: &mut W) -> i
                 let Map {
                     check,
                     bytes: _,
+                    wanted: _,
                     unread,
                 } = map;
                 return write_report(writer, &check.finish_at(block), &kinds, unread);
@@ -123,38 +160,33 @@ fn go_over<R: Read, W: Write>(mut map: Map, reader: &mut R, writer: &mut W) -> i
     let Map {
         check,
         bytes: _,
+        wanted: _,
         unread,
     } = map;
     write_report(writer, &check.finish(), &kinds, unread)
 }
 
 /// Reads the next block, and tells what it holds. `None` where the input ends in it.
-fn take_block<R: Read>(map: &mut Map, block: u32, reader: &mut R) -> Result<Option<Told>, Fault>
+fn take_block<R: Read>(
+    map: &mut Map,
+    unit: Option<u32>,
+    block: u32,
+    reader: &mut R,
+) -> Result<Option<Told>, Fault>
     requires goes_on { GoesOn map.old.check.expected map.old block }
     requires block { block < map.old.check.expected.job.blocks }
+    requires fits { IsTrue (unit_fits unit map.old.check.expected.job.bs) }
     ensures goes_on { GoesOn map.old.check.expected map.new (block + 1) }
-    ensures takes { Takes map.old.check.expected map.old map.new block (R.remaining reader.old)
-        (R.remaining reader.new) result }
+    ensures takes { Takes unit map.old.check.expected map.old map.new block
+        (R.remaining reader.old) (R.remaining reader.new) result }
 {
     match next_block(reader, &mut map.bytes)? {
-        Came::Bytes => Ok(Some(tell_bytes(&mut map.check, block, &map.bytes))),
+        Came::Bytes => {
+            let told = tell_bytes(&mut map.check, unit, block, &map.bytes, &mut map.wanted);
+            Ok(Some(told))
+        }
         Came::Unread => Ok(Some(tell_unread(map, block))),
         Came::End => Ok(None),
-    }
-}
-
-/// What is told of a block with these bytes.
-fn tell_bytes(check: &mut Recheck, block: u32, bytes: &[u8]) -> Told
-    requires block { block < check.old.expected.job.blocks }
-    requires next { check.old.next ≤ block }
-    requires bytes { length bytes.now ≡ check.old.expected.job.bs }
-    requires fatal { check.old.fatal ≡ false }
-    ensures { TellsBytes check.old check.new block bytes.now result }
-{
-    match check.feed(block, bytes) {
-        Verdict::Skipped => Told::Unchecked,
-        Verdict::Good => Told::Sound,
-        Verdict::Fault => Told::Fault(diagnose(check.expected(), block, bytes)),
     }
 }
 

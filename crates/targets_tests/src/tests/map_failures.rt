@@ -26,6 +26,7 @@ fn fails_at_byte(alloc: Global, input: &[u8], room: usize) -> bool {
         alloc,
         RunNo(RUN),
         JobNo(0),
+        None,
         &mut source_of(input),
         &mut page,
     );
@@ -61,6 +62,7 @@ fn stands_want(alloc: Global) -> bool {
         alloc,
         RunNo(RUN),
         JobNo(0),
+        None,
         &mut source_of(&input),
         &mut page,
     );

@@ -152,16 +152,17 @@ pub(super) fn map_input(
     Some(input)
 }
 
-/// Whether a source is answered by this status and these lines.
+/// Whether a source is answered by this status and these lines, by a unit or without one.
 pub(super) fn answers(
     alloc: Global,
     run: u64,
+    unit: Option<u32>,
     mut source: Source<'_>,
     status: u8,
     lines: &str,
 ) -> bool {
     let mut page = page_with(alloc, usize::MAX);
-    let answer = map_job(alloc, RunNo(run), JobNo(0), &mut source, &mut page).ok();
+    let answer = map_job(alloc, RunNo(run), JobNo(0), unit, &mut source, &mut page).ok();
     answer == Some(status) && page.text.as_slice() == lines.as_bytes()
 }
 
@@ -176,19 +177,19 @@ pub(super) type Row = (
 );
 
 /// Whether a row is answered as it says, whole and in steps.
-pub(super) fn agrees(alloc: Global, row: &Row) -> Option<bool> {
+pub(super) fn agrees(alloc: Global, unit: Option<u32>, row: &Row) -> Option<bool> {
     let (text, told, target, status, lines) = row;
     let input = map_input(alloc, text, told, target)?;
     Some(
-        answers(alloc, RUN, source_of(&input), *status, lines)
-            && answers(alloc, RUN, in_steps(&input, 100), *status, lines),
+        answers(alloc, RUN, unit, source_of(&input), *status, lines)
+            && answers(alloc, RUN, unit, in_steps(&input, 100), *status, lines),
     )
 }
 
 /// Whether each row is answered as it says, or the number of the first that isn't.
 pub(super) fn all_agree(alloc: Global, rows: &[Row]) -> Result<(), Fail> {
     for (number, row) in rows.iter().enumerate() {
-        if agrees(alloc, row) != Some(true) {
+        if agrees(alloc, None, row) != Some(true) {
             return Err(Fail::new(number));
         }
     }

@@ -139,7 +139,14 @@ fn ends_and_unchecked_blocks(rt: HostRuntime) -> Result<(), Fail> {
 /// Whether a map by the state of another run is refused.
 fn refuses_another_run(alloc: Global) -> Option<bool> {
     let input = map_input(alloc, TWO_BLOCKS, TWO_DONE, &[])?;
-    Some(answers(alloc, 8, source_of(&input), 2, "refused 36 OtherKey\n"))
+    Some(answers(
+        alloc,
+        8,
+        None,
+        source_of(&input),
+        2,
+        "refused 36 OtherKey\n",
+    ))
 }
 
 #[test]
@@ -155,7 +162,7 @@ fn fails_at_read(alloc: Global, number: u32, lines: &str) -> Option<bool> {
     let target = [Byte(1), Bytes(Filled(0)), Byte(1), Bytes(Filled(0))];
     let input = map_input(alloc, TWO_BLOCKS, &[], &target)?;
     let source = failing_at(&input, usize::MAX, number);
-    Some(answers(alloc, RUN, source, 2, lines))
+    Some(answers(alloc, RUN, None, source, 2, lines))
 }
 
 #[test]

@@ -6,7 +6,8 @@ use std::test::Fail;
 use targets::{Request, read_words};
 
 /// The words of a command line, and the run and the job that they ask for.
-static GOOD: [(&[&str], u64, u32); 5] = [
+static GOOD: [(&[&str], u64, u32); 6] = [
+    (&["drive", "map", "7", "3", "--unit", "4096"], 7, 3),
     (&["drive", "map", "1", "15"], 1, 15),
     (&["drive", "write", "1", "0"], 1, 0),
     (
@@ -18,7 +19,7 @@ static GOOD: [(&[&str], u64, u32); 5] = [
     (&["drive", "check", "7", "3"], 7, 3),
 ];
 
-static BAD: [&[&str]; 12] = [
+static BAD: [&[&str]; 18] = [
     &[],
     &["drive"],
     &["drive", "read", "1", "0"],
@@ -31,6 +32,12 @@ static BAD: [&[&str]; 12] = [
     &["drive", "write", "-1", "0"],
     &["drive", "check", "1", "--help"],
     &["drive", "check", "1", "--", "0"],
+    &["drive", "check", "1", "0", "--unit", "4096"],
+    &["drive", "map", "1", "0", "--unit"],
+    &["drive", "map", "1", "0", "--unit", "4294967296"],
+    &["drive", "map", "1", "0", "--unit=4096"],
+    &["drive", "map", "--unit", "4096", "1", "0"],
+    &["drive", "map", "1", "0", "--unit", "4096", "0"],
 ];
 
 /// What the words ask for by their second.
@@ -39,7 +46,11 @@ fn asked(words: &[&str], run: u64, job: u32) -> Option<Request> {
     match *words.get(1)? {
         "write" => Some(Request::Write { run, job }),
         "check" => Some(Request::Check { run, job }),
-        "map" => Some(Request::Map { run, job }),
+        "map" => Some(Request::Map {
+            run,
+            job,
+            unit: words.get(5).map(|_| 4096),
+        }),
         _ => None,
     }
 }

@@ -8,6 +8,6 @@ abbrev pub invariant-loop-block : goal.invariant-loop-block
 invariant-loop-block g l = record {
   goes_on : GoesOn l.fn.map.check.expected l.map l.block;
   few : all_lines l.kinds ≤ l.block;
-  mapped : HasMapped l.fn.map.check.expected l.map.check l.map.unread l.kinds l.block (g.R.Read.remaining l.fn.reader) (g.R.Read.remaining l.reader)
+  mapped : HasMapped l.unit l.fn.map.check.expected l.map.check l.map.unread l.kinds l.block (g.R.Read.remaining l.fn.reader) (g.R.Read.remaining l.reader)
       (g.W.Write.contents l.fn.writer) (g.W.Write.contents l.writer);
 }

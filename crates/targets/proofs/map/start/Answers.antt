@@ -27,10 +27,12 @@ returns-clause-map g c =
     (g.R.Read.remaining c.read_state.new.reader) c.in_ok-asked.asked c.in_ok-state.state c.key_of-key.result c.in_ok-check.check _
     c.in_ok-asked.ensures.job c.in_ok-state.ensures.state c.key_of-key.ensures
     (subst (λ s. Starts (Ok c.in_ok-check.check) c.key_of-key.result c.in_ok-asked.asked.rec s false) c.as_ref.ensures.value
-    c.in_ok-check.ensures) refl (omega (arith, c.in-Ok.ensures.len, c.bs.ensures.value)) refl
+    c.in_ok-check.ensures) refl (omega (arith, c.in-Ok.ensures.len, c.bs.ensures.value))
+    (omega (arith, c.in-Ok-vec.ensures.len, c.bs-2.ensures.value)) refl
 
 pub returns-clause-ready : goal.returns-clause-ready
 returns-clause-ready g c =
     is_ready c.key_of-key.result c.in_ok-asked.asked.rec c.in_ok-state.state c.in_ok-check.check _
     (subst (λ s. Starts (Ok c.in_ok-check.check) c.key_of-key.result c.in_ok-asked.asked.rec s false) c.as_ref.ensures.value
-    c.in_ok-check.ensures) refl (omega (arith, c.in-Ok.ensures.len, c.bs.ensures.value)) refl
+    c.in_ok-check.ensures) refl (omega (arith, c.in-Ok.ensures.len, c.bs.ensures.value))
+    (omega (arith, c.in-Ok-vec.ensures.len, c.bs-2.ensures.value)) refl
