@@ -84,10 +84,14 @@ static void *stand(void *given) {
     }
 }
 
+struct door shut_door(void) {
+    return (struct door){.lock = PTHREAD_MUTEX_INITIALIZER, .listening = -1, .link = -1};
+}
+
 void open_door(struct door *door, struct node *node, const char *path) {
     struct sockaddr_un address = address_of(path);
     pthread_t thread;
-    *door = (struct door){.node = node, .lock = PTHREAD_MUTEX_INITIALIZER, .link = -1};
+    door->node = node;
     door->listening = socket(AF_UNIX, SOCK_STREAM | SOCK_CLOEXEC, 0);
     unlink(path); /* (whoever left it there has ended: the note was locked) */
     if (door->listening < 0 || bind(door->listening, (struct sockaddr *)&address, sizeof address) || listen(door->listening, 8)) give_up_by_errno(path);

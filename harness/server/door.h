@@ -12,6 +12,9 @@ struct door {
     int link; /* the last one that was opened, or -1 */
 };
 
+/* A door that nobody comes through: what is sent is lost. */
+struct door shut_door(void);
+
 /* Listens at this path. What another server has left there is taken away. */
 void open_door(struct door *door, struct node *node, const char *path);
 

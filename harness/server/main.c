@@ -92,13 +92,13 @@ static void start_all(struct server *server) {
     size_t length;
     pthread_t thread;
     uint8_t *note = read_note(server->options.note, (uint32_t)server->options.me, &length);
+    server->door = shut_door();
     start_node(&server->node, server->options.me);
     tell_node(&server->node, RECORD_NOTE, &(struct iovec){note, length}, 1);
     free(note);
     for (size_t at = 0; at < server->options.place_count; at++) start_lane(&server->lanes[at]);
     server->checks = (struct checks){.node = &server->node, .lanes = server->lanes, .lane_count = server->options.place_count};
     start_checks(&server->checks);
-    open_door(&server->door, &server->node, server->options.socket);
     if (pthread_create(&thread, NULL, tell_progress, server) == 0) pthread_detach(thread);
 }
 
@@ -161,6 +161,7 @@ int main(int count, char **words) {
     warn_of_one_drive(&server);
     start_all(&server);
     await_opening(&server);
+    open_door(&server.door, &server.node, server.options.socket);
     while (next_record(&server.node, &record)) carry_out_record(&server, &record);
     return wait_for(&server.node.child) == 0 ? STATUS_SOUND : STATUS_FAILED;
 }
