@@ -7,7 +7,7 @@ mod meeting;
 
 use super::jobs::{KEY, ONE_WRITE};
 use disk_model::{FaultDisk, MemDisk};
-use fc_base::{CheckReport, Fault, JobParts, JobRecord, ReportEnd, Seq};
+use fc_base::{CheckReport, Fault, JobParts, JobRecord, ReportEnd, RunNo, Seq};
 use meeting::Meeting;
 use parallel_checks::{CheckTask, check_jobs};
 use std::alloc::Global;
@@ -166,6 +166,61 @@ fn reports_stand_in_the_order_of_the_tasks(rt: HostRuntime) {
             given => given,
         };
         assert!(rt; given == Ok(true), "{workers}: {given:?}");
+    }
+}
+
+/// Checks, of which some are refused so, and the refusal that is told.
+const REFUSALS: [([Option<Fault>; 3], Fault); 3] = [
+    ([None, None, Some(Fault::OtherKey)], Fault::OtherKey),
+    (
+        [None, Some(Fault::OtherKey), Some(Fault::Off)],
+        Fault::OtherKey,
+    ),
+    ([Some(Fault::Off), Some(Fault::OtherKey), None], Fault::Off),
+];
+
+/// A check that is refused so: of a disk that is off, or by the state of another run.
+fn refused(alloc: Global, fault: Option<Fault>) -> Result<CheckTask<MemDisk>, Fault> {
+    let disk = match fault {
+        Some(Fault::Off) => MemDisk::new(alloc),
+        _ => landed(alloc)?,
+    };
+    let mut task = task(alloc, false, disk)?;
+    if fault == Some(Fault::OtherKey) {
+        task.key.run = RunNo(9);
+    }
+    Ok(task)
+}
+
+/// What so many workers tell of the checks.
+fn told<R: Threads + Sync>(
+    rt: &R,
+    alloc: Global,
+    checks: &[Option<Fault>],
+    workers: u32,
+) -> Result<usize, Fault>
+    requires some { 1 ≤ workers }
+    requires few { workers ≤ 16 }
+{
+    let mut tasks = Vec::new(alloc);
+    for fault in checks {
+        if tasks.push(refused(alloc, *fault)?).is_err() {
+            return Err(Fault::NoMemory);
+        }
+    }
+    Ok(check_jobs(rt, alloc, tasks, workers)?.len())
+}
+
+#[test]
+fn the_first_refusal_is_told(rt: HostRuntime) {
+    for workers in [1, 2, 3] {
+        for (checks, wanted) in &REFUSALS {
+            let given = match told(&rt, rt.alloc(), checks, workers) {
+                Err(Fault::NoMemory) => told(&rt, rt.alloc(), checks, workers),
+                given => given,
+            };
+            assert!(rt; given == Err(*wanted), "{workers}: {given:?}");
+        }
     }
 }
 
