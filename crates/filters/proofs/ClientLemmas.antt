@@ -15,7 +15,7 @@ use Rattle.client_core.specs.Hearing.{FrameEntry, Met}
 use Rattle.client_core.specs.FrameAnswers.{sense, due}
 use Rattle.client_core.specs.FrameEnds.{StandsFor, steps}
 use Rattle.filters.specs.declared.client_filter.asks.Answered.{Answered}
-use Rattle.filters.specs.ClientSteps.{IsAnswered, NotAnswered, number_given, after_refusal}
+use Rattle.filters.specs.ClientSteps.{IsAnswered, NotAnswered, number_given}
 
 -- What a refused input leaves.
 stood : {T : Type 0} (note : T → Note) (o : Opening) (past : List FrameEntry) (e : Input) (new : Client T) (b : Bool)
@@ -28,10 +28,10 @@ stood note o past e new false is stands unchanged = unchanged is
 -- An input that isn't answered, where no save fails.
 pub not_answered : {T : Type 0} (note : T → Note) (o : Opening) (past : List FrameEntry) (e : Input) (sort : FaultSort) (fault : Fault) (old new : Client T)
     → (note old.core.notes).failures ≡ (note new.core.notes).failures
-    → Faults (steps note o) past e sort fault old new → NotAnswered note o past e sort fault new
-not_answered note o past e sorts.Memory fault old new same l = l.unchanged
+    → Faults (steps note o) past e sort fault old new → NotAnswered note o past e sort fault old new
+not_answered note o past e sorts.Memory fault old new same l = (l.same_note, l.unchanged)
 not_answered note o past e sorts.Save fault old new same f = absurd (omega (arith, f.cause, same))
-not_answered note o past e sorts.Refusal fault old new same r = (r.why, stood note o past e new (is_drop (sense o past e)) refl r.stands r.unchanged)
+not_answered note o past e sorts.Refusal fault old new same r = (r.why, (r.same_note, stood note o past e new (is_drop (sense o past e)) refl r.stands r.unchanged))
 
 -- An input that is answered.
 pub answered_so : {T : Type 0} (note : T → Note) (o : Opening) (past : List FrameEntry) (e : Input) (old new : Client T) (outs : List (List ℕ)) (a : Answered)

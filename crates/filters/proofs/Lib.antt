@@ -1,4 +1,11 @@
 pub mod CommandLemmas
 pub mod WriteLemmas
+pub mod ReadLemmas
+pub mod NoteLemmas
+pub mod RunLemmas
 pub mod ClientLemmas
+pub mod TakeLemmas
+pub mod OpenLemmas
+pub mod BeginLemmas
+pub mod CutLemmas
 pub mod ServerLemmas

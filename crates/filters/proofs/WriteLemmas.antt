@@ -1,6 +1,6 @@
 -- Records that are written one behind the other.
-use Rattle.std.proofs.Common.{◌≡◌, ◌∙◌, ℕ, List, ◌∷◌, arith, zero, suc, ◌+◌, ◌++◌, [], take, ap, sym, subst, true≢false, append-nil, Option, Some}
-use Rattle.std.specs.Prelude.{is_some, unwrap_or, slice_get}
+use Rattle.std.proofs.Common.{◌≡◌, ◌∙◌, ℕ, List, ◌∷◌, arith, zero, suc, ◌+◌, ◌++◌, [], take, ap, sym, subst, true≢false, append-nil, Option, Some, Result, Ok, Err}
+use Rattle.std.specs.Prelude.{OnOk, is_some, unwrap_or, slice_get}
 use Rattle.std.specs.List.{flat_map}
 use Rattle.std.specs.Io.KnownBytes.{Appends}
 use Rattle.std.proofs.KnownBytes.{Appends-trans}
@@ -22,3 +22,8 @@ one_more a b c f xs i y h before now =
     ∙ (ap (flat_map f) (take_suc xs i y h)
     ∙ (flat_map-append f (take i xs) (y ∷ []) ∙ ap (λ l. flat_map f (take i xs) ++ l) (append-nil (f y)))) in
     subst (Appends a c) (sym is) (Appends-trans a b c _ _ before now)
+
+-- What follows from what a call ensures where it ends well.
+pub on_ok : {X E P Q : Type 0} (r : Result X E) → OnOk r P → (P → Q) → OnOk r Q
+on_ok (Ok x) p then = then p
+on_ok (Err e) p then = tt

@@ -57,32 +57,39 @@ pub record IsAnswered {T : Type 0} (note : T → Note) (o : Opening) (past : Lis
       (note old.core.notes) (note new.core.notes)
   pub stands : StandsFor note new o (after_answer o past e)
 
+-- The note is as it was, and the client stands for this list.
+abbrev pub Stands : {T : Type 0} → (T → Note) → Opening → List FrameEntry → Client T → Client T
+    → Type 0
+Stands note o past old new =
+    (note new.core.notes ≡ note old.core.notes) × StandsFor note new o past
+
 -- An input isn't answered, by the sort of the fault: for want of memory nothing has changed; or it
 -- is refused. No save fails by itself.
 abbrev pub NotAnswered : {T : Type 0} → (T → Note) → Opening → List FrameEntry → Input → FaultSort
-    → Fault → Client T → Type 0
-NotAnswered note o past e sorts.Memory fault new = StandsFor note new o past
-NotAnswered note o past e sorts.Save fault new = ⊥
-NotAnswered note o past e sorts.Refusal fault new =
-    (refusal o past e ≡ Some fault) × StandsFor note new o (after_refusal o past e)
+    → Fault → Client T → Client T → Type 0
+NotAnswered note o past e sorts.Memory fault old new = Stands note o past old new
+NotAnswered note o past e sorts.Save fault old new = ⊥
+NotAnswered note o past e sorts.Refusal fault old new =
+    (refusal o past e ≡ Some fault) × Stands note o (after_refusal o past e) old new
 
 -- What comes of an input.
 abbrev pub InputEnds : {T : Type 0} → (T → Note) → Opening → List FrameEntry → Input → Client T
     → Client T → Result Answered Fault → Type 0
 InputEnds note o past e old new (Ok a) = IsAnswered note o past e old new a
-InputEnds note o past e old new (Err fault) = NotAnswered note o past e (sort_of fault) fault new
+InputEnds note o past e old new (Err fault) =
+    NotAnswered note o past e (sort_of fault) fault old new
 
 -- A body that can't be read leaves the client as it was, and so does want of memory.
 abbrev pub NotRead : {T : Type 0} → (T → Note) → Opening → List FrameEntry → Fault → Client T
-    → Result Answered Fault → Type 0
-NotRead note o past why new (Ok a) = ⊥
-NotRead note o past why new (Err fault) = (fault ≡ why) × StandsFor note new o past
+    → Client T → Result Answered Fault → Type 0
+NotRead note o past why old new (Ok a) = ⊥
+NotRead note o past why old new (Err fault) = (fault ≡ why) × Stands note o past old new
 
 -- What comes of what a record says.
 abbrev pub BodyEnds : {T : Type 0} → (T → Note) → Opening → List FrameEntry → Result Input Fault
     → Client T → Client T → Result Answered Fault → Type 0
 BodyEnds note o past (Ok e) old new result = InputEnds note o past e old new result
-BodyEnds note o past (Err why) old new result = NotRead note o past why new result
+BodyEnds note o past (Err why) old new result = NotRead note o past why old new result
 
 -- The bytes of a save, where one is made, which leaves the note so.
 abbrev pub save_bytes : Bool → List ℕ → List ℕ

@@ -2,7 +2,12 @@ pub mod Command
 pub mod Kinds
 pub mod Records
 pub mod Kept
+pub mod Lives
+pub mod Cuts
+pub mod Steps
 pub mod ClientAsks
 pub mod ClientSteps
+pub mod ClientLives
+pub mod ClientCuts
 pub mod ServerTells
 pub mod ServerSteps

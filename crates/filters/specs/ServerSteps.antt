@@ -1,5 +1,5 @@
 -- What comes of what comes to a server, by the list of all that came to it, the newest first.
-use Rattle.std.specs.Prelude.{◌≡◌, Bool, List, ◌++◌, Option, Some, None, is_some, Result, Ok, Err, ℕ}
+use Rattle.std.specs.Prelude.{◌≡◌, List, ◌++◌, is_some, Result, Ok, Err, ℕ}
 use Rattle.fc_base.specs.Fault.{sort_of}
 use Rattle.fc_base.specs.declared.fault.Fault.{Fault}
 use Rattle.fc_base.specs.declared.fault.FaultSort.{FaultSort}

@@ -1,7 +1,12 @@
 //! The client as a filter.
 
-ghost use Rattle.std.specs.Prelude.{◌≤◌};
+ghost use Rattle.std.specs.Prelude.{◌≤◌, [], Some, OnOk, IfOk, IfSome};
+ghost use Rattle.std.specs.Io.Buffered.{reader_remaining};
 ghost use Rattle.fc_base.specs.declared.limits.TheConstants.{MAX_SERVERS};
+ghost use Rattle.filters.specs.Kept.{note_kept};
+ghost use Rattle.filters.specs.Lives.{HasRun, RunsOver, Runs};
+ghost use Rattle.filters.specs.Steps.{AnswersBy, AnswersRecord, StepsBy, parts_of};
+ghost use Rattle.filters.specs.ClientLives.{IsAt, ClientTakes, TakesKind, client_filter};
 
 mod asks;
 mod tells;
@@ -30,11 +35,29 @@ pub fn run_client<R: Read, W: Write>(
 ) -> io::Result<u8>
     requires some { 1 ≤ servers }
     requires few { servers ≤ MAX_SERVERS }
+    ensures { IfSome (reader_remaining R.remaining reader.old) (λ input. IfOk result
+        (Runs (client_filter servers) input (W.contents writer.old) (W.contents writer.new))) }
 {
-    let note = match first_note(alloc, reader, writer)? {
-        Ok(note) => note,
-        Err(fault) => return refuse(writer, fault),
-    };
+    match first_note(alloc, reader, writer)? {
+        Ok(note) => run_over(alloc, servers, note, reader, writer),
+        Err(fault) => refuse(writer, fault),
+    }
+}
+
+/// Serves over this note.
+fn run_over<R: Read, W: Write>(
+    alloc: Global,
+    servers: u32,
+    note: Vec<u8>,
+    reader: &mut BufReader<R>,
+    writer: &mut W,
+) -> io::Result<u8>
+    requires some { 1 ≤ servers }
+    requires few { servers ≤ MAX_SERVERS }
+    ensures { IfSome (reader_remaining R.remaining reader.old) (λ behind. IfOk result
+        (RunsOver (client_filter servers) note.items behind (W.contents writer.old)
+        (W.contents writer.new))) }
+{
     let client = match Client::restart(alloc, servers, false, KeptNotes::new(note)) {
         Ok(client) => client,
         Err((_, fault)) => return refuse(writer, fault),
@@ -57,7 +80,11 @@ impl ClientFilter {
         &mut self,
         reader: &mut BufReader<R>,
         writer: &mut W,
-    ) -> io::Result<u8> {
+    ) -> io::Result<u8>
+        ensures { IfSome (reader_remaining R.remaining reader.old) (λ input. IfOk result
+            (HasRun ClientTakes (IsAt note_kept self.old.client) [] input
+            (W.contents writer.old) (W.contents writer.new))) }
+    {
         for _ in 0..u64::MAX {
             if let Some(status) = self.step(reader, writer)? {
                 return Ok(status);
@@ -71,10 +98,16 @@ impl ClientFilter {
         &mut self,
         reader: &mut BufReader<R>,
         writer: &mut W,
-    ) -> io::Result<Option<u8>> {
+    ) -> io::Result<Option<u8>>
+        ensures { IfOk result
+            (StepsBy ClientTakes (IsAt note_kept self.old.client)
+            (IsAt note_kept self.new.client)
+            (reader_remaining R.remaining reader.old) (reader_remaining R.remaining reader.new)
+            (W.contents writer.old) (W.contents writer.new)) }
+    {
         match next_record(self.alloc, reader, writer)? {
-            Ok(Some(record)) => {
-                self.answer(&record, writer)?;
+            Ok(Some(came)) => {
+                self.answer(&came, writer)?;
                 Ok(None)
             }
             Ok(None) => {
@@ -89,16 +122,30 @@ impl ClientFilter {
     }
 
     /// Answers a record.
-    fn answer<W: Write>(&mut self, came: &Record, writer: &mut W) -> io::Result<()> {
+    fn answer<W: Write>(&mut self, came: &Record, writer: &mut W) -> io::Result<()>
+        ensures { OnOk result
+            (AnswersRecord ClientTakes (IsAt note_kept self.old.client)
+            (IsAt note_kept self.new.client) (parts_of came.now)
+            (W.contents writer.old) (W.contents writer.new)) }
+    {
         let body = came.body.as_slice();
         match Told::numbered(came.kind) {
-            Some(Told::Look) => self.look(body, writer),
-            Some(Told::Show) => self.show(body, writer),
-            Some(kind) => {
-                let answer = self.ask(kind, body);
-                self.write_answer(answer, writer)
-            }
+            Some(kind) => self.answer_kind(kind, body, writer),
             None => put_end(writer, Err(Fault::BadNotice)),
+        }
+    }
+
+    /// Answers a record of this kind.
+    fn answer_kind<W: Write>(&mut self, kind: Told, body: &[u8], writer: &mut W) -> io::Result<()>
+        ensures { OnOk result
+            (AnswersBy (λ o at now answer. TakesKind o at (Some kind) body.now now answer)
+            (IsAt note_kept self.old.client) (IsAt note_kept self.new.client)
+            (W.contents writer.old) (W.contents writer.new)) }
+    {
+        match kind {
+            Told::Look => self.look(body, writer),
+            Told::Show => self.show(body, writer),
+            _ => self.answer_body(kind, body, writer),
         }
     }
 }

@@ -1,7 +1,9 @@
 //! Reading records.
 
-ghost use Rattle.std.specs.Prelude.{OnOk};
+ghost use Rattle.std.specs.Prelude.{OnOk, IfOk};
 ghost use Rattle.std.specs.Io.KnownBytes.{Keeps};
+ghost use Rattle.std.specs.Io.Buffered.{reader_remaining};
+ghost use Rattle.filters.specs.Steps.{ReadsHead, ReadsBody, ReadsRecord, IsNoteOf, ReadsNote};
 
 use crate::kinds::Told;
 use crate::record::{HEAD, Head, MAX_BODY, Record, head_in, holds_record};
@@ -25,6 +27,8 @@ pub(crate) fn next_record<R: Read, W: Write>(
     writer: &mut W,
 ) -> io::Result<Result<Option<Record>, Fault>>
     ensures written { OnOk result (Keeps (W.contents writer.old) (W.contents writer.new)) }
+    ensures read { IfOk result (ReadsRecord (reader_remaining R.remaining reader.old)
+        (reader_remaining R.remaining reader.new)) }
 {
     if !holds_record(reader.buffer()) {
         writer.flush()?;
@@ -41,17 +45,21 @@ pub(crate) fn first_note<R: Read, W: Write>(
     writer: &mut W,
 ) -> io::Result<Result<Vec<u8>, Fault>>
     ensures written { OnOk result (Keeps (W.contents writer.old) (W.contents writer.new)) }
+    ensures read { IfOk result (ReadsNote (reader_remaining R.remaining reader.old)
+        (reader_remaining R.remaining reader.new)) }
 {
     match next_record(alloc, reader, writer)? {
-        Ok(Some(record)) => Ok(note_of(record)),
+        Ok(Some(came)) => Ok(note_of(came)),
         Ok(None) => Ok(Err(Fault::EndOfInput)),
         Err(fault) => Ok(Err(fault)),
     }
 }
 
 /// The note that a record is.
-fn note_of(record: Record) -> Result<Vec<u8>, Fault> {
-    let Record { kind, body } = record;
+fn note_of(came: Record) -> Result<Vec<u8>, Fault>
+    ensures { IsNoteOf came result }
+{
+    let Record { kind, body } = came;
     if kind == Told::Note.number() {
         Ok(body)
     } else {
@@ -60,7 +68,9 @@ fn note_of(record: Record) -> Result<Vec<u8>, Fault> {
 }
 
 /// The next record.
-fn read_record<R: Read>(alloc: Global, reader: &mut R) -> Result<Option<Record>, Fault> {
+fn read_record<R: Read>(alloc: Global, reader: &mut R) -> Result<Option<Record>, Fault>
+    ensures { ReadsRecord (R.remaining reader.old) (R.remaining reader.new) result }
+{
     match read_head(reader) {
         Ok(Some(head)) => match read_body(alloc, reader, head.length) {
             Ok(body) => Ok(Some(Record {
@@ -75,18 +85,26 @@ fn read_record<R: Read>(alloc: Global, reader: &mut R) -> Result<Option<Record>,
 }
 
 /// The next head.
-fn read_head<R: Read>(reader: &mut R) -> Result<Option<Head>, Fault> {
+fn read_head<R: Read>(reader: &mut R) -> Result<Option<Head>, Fault>
+    ensures { ReadsHead (R.remaining reader.old) (R.remaining reader.new) result }
+{
     let mut bytes = [0; HEAD];
-    match fill(reader, &mut bytes, MAX_READS) {
-        Ok(0) => Ok(None),
-        Ok(HEAD) => Ok(Some(head_in(&bytes))),
-        Ok(_) => Err(Fault::EndOfInput),
-        Err(_) => Err(Fault::ReadError),
+    let Ok(filled) = fill(reader, &mut bytes, MAX_READS) else {
+        return Err(Fault::ReadError);
+    };
+    if filled == 0 {
+        return Ok(None);
     }
+    if filled < HEAD {
+        return Err(Fault::EndOfInput);
+    }
+    Ok(Some(head_in(&bytes)))
 }
 
 /// A body of so many bytes. Memory is asked for only where it isn't longer than any that is read.
-fn read_body<R: Read>(alloc: Global, reader: &mut R, told: u64) -> Result<Vec<u8>, Fault> {
+fn read_body<R: Read>(alloc: Global, reader: &mut R, told: u64) -> Result<Vec<u8>, Fault>
+    ensures { ReadsBody told (R.remaining reader.old) (R.remaining reader.new) result }
+{
     if told > MAX_BODY {
         return Err(Fault::BadNotice);
     }
@@ -94,9 +112,11 @@ fn read_body<R: Read>(alloc: Global, reader: &mut R, told: u64) -> Result<Vec<u8
     let Ok(mut body) = vec![in alloc; 0u8; length] else {
         return Err(Fault::NoMemory);
     };
-    match fill(reader, &mut body, MAX_READS) {
-        Ok(filled) if filled == length => Ok(body),
-        Ok(_) => Err(Fault::EndOfInput),
-        Err(_) => Err(Fault::ReadError),
+    let Ok(filled) = fill(reader, &mut body, MAX_READS) else {
+        return Err(Fault::ReadError);
+    };
+    if filled < length {
+        return Err(Fault::EndOfInput);
     }
+    Ok(body)
 }

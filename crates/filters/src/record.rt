@@ -1,6 +1,7 @@
 //! A record that was read, and what stands before its body.
 
 ghost use Rattle.std.specs.Prelude.{◌≡◌, length};
+ghost use Rattle.filters.specs.Records.{head_bytes};
 
 use fc_base::{split_u8, split_u64};
 
@@ -28,6 +29,7 @@ pub(crate) struct Head {
 /// The head that these nine bytes are.
 pub(crate) fn head_in(bytes: &[u8]) -> Head
     requires { length bytes.now ≡ HEAD }
+    ensures { bytes.now ≡ head_bytes result.kind result.length }
 {
     let (kind, rest) = split_u8(bytes);
     let (length, _) = split_u64(rest);

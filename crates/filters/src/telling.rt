@@ -4,6 +4,7 @@ ghost use Rattle.std.specs.Prelude.{◌≡◌, OnOk};
 ghost use Rattle.std.specs.Io.KnownBytes.{Appends};
 ghost use Rattle.fc_base.specs.Layouts.{spelled_blocks};
 ghost use Rattle.filters.specs.ClientAsks.{outcome_number, report_names, report_counts, end_numbers};
+ghost use Rattle.filters.specs.ClientLives.{report_bytes};
 
 use crate::kinds::Said;
 use crate::writing::{put_head, put_u32, put_u64};
@@ -25,7 +26,10 @@ pub(crate) fn outcome_number(outcome: Outcome) -> u8
 }
 
 /// Writes a report that has come.
-pub(crate) fn put_report<W: Write>(writer: &mut W, received: &Received) -> io::Result<()> {
+pub(crate) fn put_report<W: Write>(writer: &mut W, received: &Received) -> io::Result<()>
+    ensures { OnOk result (Appends (W.contents writer.old) (W.contents writer.new)
+        (report_bytes received.now)) }
+{
     let report = &received.report;
     let blocks = report.first();
     put_head(writer, Said::Report, 40 + 4 * blocks.len() as u64)?;

@@ -1,23 +1,45 @@
 //! What is written of the client's answers, and of what it shows.
 
-ghost use Rattle.std.specs.Prelude.{OnOk};
+ghost use Rattle.std.specs.Prelude.{◌≡◌, OnOk, Some, slice_get};
+ghost use Rattle.std.specs.Option.{option_copied};
 ghost use Rattle.std.specs.Io.KnownBytes.{Appends};
+ghost use Rattle.filters.specs.declared.kinds.Told.TheVariants as told;
 ghost use Rattle.filters.specs.Kept.{note_kept};
+ghost use Rattle.filters.specs.ClientAsks.{input_in};
 ghost use Rattle.filters.specs.ClientSteps.{answer_bytes, result_bytes, number_bytes};
+ghost use Rattle.filters.specs.ClientLives.{IsAt, TakesBody, TakesKind, report_if};
+ghost use Rattle.filters.specs.Steps.{AnswersBy};
 
 use super::ClientFilter;
 use super::asks::Answered;
 use crate::asking::{look_in, number_alone};
-use crate::kinds::Said;
+use crate::kinds::{Said, Told};
 use crate::telling::{outcome_number, put_report};
 use crate::writing::{put_end, put_frames, put_record, put_save, put_with};
+use client_core::Received;
 use fc_base::Fault;
 use std::io;
 use std::io::Write;
 
 impl ClientFilter {
+    /// Asks the client what the body of a record says, and writes the answer.
+    pub(super) fn answer_body<W: Write>(
+        &mut self,
+        kind: Told,
+        body: &[u8],
+        writer: &mut W,
+    ) -> io::Result<()>
+        ensures { OnOk result
+            (AnswersBy (λ o at now answer. TakesBody o at (input_in kind body.now) now answer)
+            (IsAt note_kept self.old.client) (IsAt note_kept self.new.client)
+            (W.contents writer.old) (W.contents writer.new)) }
+    {
+        let answer = self.ask(kind, body);
+        self.write_answer(answer, writer)
+    }
+
     /// Writes an answer, or why there is none.
-    pub(super) fn write_answer<W: Write>(
+    fn write_answer<W: Write>(
         &self,
         answer: Result<Answered, Fault>,
         writer: &mut W,
@@ -36,7 +58,12 @@ impl ClientFilter {
     }
 
     /// Writes how a request stands at a server.
-    pub(super) fn look<W: Write>(&self, body: &[u8], writer: &mut W) -> io::Result<()> {
+    pub(super) fn look<W: Write>(&self, body: &[u8], writer: &mut W) -> io::Result<()>
+        ensures { OnOk result
+            (AnswersBy (λ o at now answer. TakesKind o at (Some told.Look) body.now now answer)
+            (IsAt note_kept self.now.client) (IsAt note_kept self.now.client)
+            (W.contents writer.old) (W.contents writer.new)) }
+    {
         match look_in(body) {
             Some(asked) => {
                 let outcome = self.client.outcome(asked.kind, asked.number, asked.server);
@@ -48,16 +75,37 @@ impl ClientFilter {
     }
 
     /// Writes the report of this place among those that came, if there is one.
-    pub(super) fn show<W: Write>(&self, body: &[u8], writer: &mut W) -> io::Result<()> {
+    pub(super) fn show<W: Write>(&self, body: &[u8], writer: &mut W) -> io::Result<()>
+        ensures { OnOk result
+            (AnswersBy (λ o at now answer. TakesKind o at (Some told.Show) body.now now answer)
+            (IsAt note_kept self.now.client) (IsAt note_kept self.now.client)
+            (W.contents writer.old) (W.contents writer.new)) }
+    {
         match number_alone(body) {
             Some(place) => {
-                if let Some(received) = self.client.reports().get(place as usize) {
-                    put_report(writer, received)?;
-                }
+                put_if_any(writer, report_at(self.client.reports(), place))?;
                 put_end(writer, Ok(()))
             }
             None => put_end(writer, Err(Fault::BadNotice)),
         }
+    }
+}
+
+/// The report of this place.
+fn report_at(reports: &[Received], place: u64) -> Option<&Received>
+    ensures { option_copied result ≡ slice_get reports.now place }
+{
+    reports.get(place as usize)
+}
+
+/// Writes a report, if there is one.
+fn put_if_any<W: Write>(writer: &mut W, received: Option<&Received>) -> io::Result<()>
+    ensures { OnOk result (Appends (W.contents writer.old) (W.contents writer.new)
+        (report_if (option_copied received.entry))) }
+{
+    match received {
+        Some(received) => put_report(writer, received),
+        None => Ok(()),
     }
 }
 

@@ -33,11 +33,11 @@ unread : {T : Type 0} (note : T → Note) (o : Opening) (past : List FrameEntry)
     → ((fault ≡ FrameNoMemory) × (faults ≡ [])) ⊎ (slice_get faults 0 ≡ Some fault) → (faults ≡ [] → at ≡ None → ⊥) → StandsFor note client o past
     → BodyEnds note o past (frame_or faults at) client client (Err fault)
 unread note o past client fault [] (Some frame) (inl (is, none)) some stands =
-    subst (λ (f : Fault). NotAnswered note o past (Deliver frame) (sort_of f) f client) (sym is) stands
+    subst (λ (f : Fault). NotAnswered note o past (Deliver frame) (sort_of f) f client client) (sym is) (refl, stands)
 unread note o past client fault [] None (inl (is, none)) some stands = absurd (some refl refl)
 unread note o past client fault [] at (inr first) some stands = absurd (true≢false (sym (ap is_some first)))
 unread note o past client fault (f ∷ fs) at (inl (is, none)) some stands = absurd (omega (arith, ap length none))
-unread note o past client fault (f ∷ fs) at (inr first) some stands = (sym (ap (λ (a : Option Fault). unwrap_or a f) first), stands)
+unread note o past client fault (f ∷ fs) at (inr first) some stands = (sym (ap (λ (a : Option Fault). unwrap_or a f) first), (refl, stands))
 
 pub returns-in-Err : goal.returns-in-Err
 returns-in-Err c o past stands =

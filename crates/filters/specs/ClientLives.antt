@@ -1,0 +1,157 @@
+-- What the client's filter makes of each record, by the list of all that came to its client, and
+-- how it runs.
+use Rattle.std.specs.Prelude.{◌≡◌, ◌⊎◌, ⊤, ℕ, false, List, [], ◌∷◌, ◌++◌, map, is_some, slice_get, Option, Some, None, Result, Ok, Err}
+use Rattle.fc_base.specs.Layouts.{spelled_blocks}
+use Rattle.fc_base.specs.Fault.{sort_of}
+use Rattle.fc_base.specs.declared.fault.Fault.{Fault}
+use Rattle.fc_base.specs.declared.fault.Fault.TheVariants.{BadNotice, BadNote, NoMemory}
+use Rattle.fc_base.specs.declared.fault.FaultSort.TheVariants.{Memory}
+use Rattle.disk_model.specs.Notes.{Note}
+use Rattle.messages.specs.FrameBytes.{frame_spelling}
+use Rattle.client_core.specs.declared.client.Client.{Client}
+use Rattle.client_core.specs.declared.input.Input.{Input}
+use Rattle.client_core.specs.declared.noted.Noted.{Noted}
+use Rattle.client_core.specs.declared.received.Received.{Received}
+use Rattle.client_core.specs.History.{Opening}
+use Rattle.client_core.specs.Note.{Says, spelling}
+use Rattle.client_core.specs.Words.{shown_entries}
+use Rattle.client_core.specs.Life.{life}
+use Rattle.client_core.specs.Outcomes.{outcome}
+use Rattle.client_core.specs.Reports.{reports}
+use Rattle.client_core.specs.Stands.{IsBadNote}
+use Rattle.client_core.specs.Hearing.{FrameEntry, Restart, packets_heard}
+use Rattle.client_core.specs.FrameAnswers.{refusal, due, frames, answered_entry}
+use Rattle.client_core.specs.FrameEnds.{StandsFor}
+use Rattle.filters.specs.declared.asking.LookAsked.{LookAsked}
+use Rattle.filters.specs.declared.kinds.Told.{Told}
+use Rattle.filters.specs.declared.kinds.Told.TheVariants as told
+use Rattle.filters.specs.declared.kinds.Said.TheVariants.{Outcome, Report}
+use Rattle.filters.specs.Kept.{note_with}
+use Rattle.filters.specs.Kinds.{told_numbered, said_number}
+use Rattle.filters.specs.Records.{record_bytes, end_bytes}
+use Rattle.filters.specs.ClientAsks.{number_alone, look_in, input_in, outcome_number, report_names, report_counts}
+use Rattle.filters.specs.ClientSteps.{noted, after_answer, after_refusal, number_given, save_bytes, number_bytes, send_bytes}
+use Rattle.filters.specs.Lives.{RecordParts, Filter}
+
+-- A client at some moment: the list of all that came to it, the newest first, and its note.
+pub record ClientAt : Type 0 where
+  pub list : List FrameEntry
+  pub note : List ℕ
+
+-- A client is at this moment.
+abbrev pub IsAt : {T : Type 0} → (T → Note) → Client T → Opening → ClientAt → Type 0
+IsAt note client o at =
+    StandsFor note client o at.list × ((note client.core.notes).bytes ≡ at.note)
+
+-- The note as an input that is taken leaves it, if it is to be saved.
+abbrev pub new_note : Opening → List FrameEntry → Input → List ℕ
+new_note o past e = spelling (noted o (after_answer o past e))
+
+-- What is answered to an input that is taken: the note, where something is due to be saved; the
+-- number that is given; the frames; and the end.
+abbrev pub taken_bytes : Opening → List FrameEntry → Input → List ℕ
+taken_bytes o past e =
+    (save_bytes (is_some (due o past e)) (new_note o past e)
+    ++ (number_bytes (number_given o past e)
+    ++ send_bytes (map frame_spelling (frames o past (answered_entry o past e)))))
+    ++ end_bytes (Ok tt)
+
+-- What is answered to an input, by why it is refused, if it is.
+abbrev pub reply_by : Option Fault → Opening → List FrameEntry → Input → List ℕ
+reply_by None o past e = taken_bytes o past e
+reply_by (Some fault) o past e = end_bytes (Err fault)
+
+-- The client behind an input.
+abbrev pub at_by : Option Fault → Opening → ClientAt → Input → ClientAt
+at_by None o at e = record {
+  list = after_answer o at.list e;
+  note = note_with (due o at.list e) (new_note o at.list e) at.note;
+}
+at_by (Some fault) o at e = record at { list = after_refusal o at.list e }
+
+-- This is answered, and the client is left so.
+abbrev pub Leaves : ClientAt → List ℕ → ClientAt → List ℕ → Type 0
+Leaves at reply now answer = (now ≡ at) × (answer ≡ reply)
+
+-- For want of memory just that is answered, and nothing changes.
+abbrev pub WantsMemory : ClientAt → ClientAt → List ℕ → Type 0
+WantsMemory at now answer =
+    (fault : Fault) × (sort_of fault ≡ Memory) × Leaves at (end_bytes (Err fault)) now answer
+
+-- What is made of an input: what the list says of it; or memory is wanting.
+abbrev pub TakesInput : Opening → ClientAt → Input → ClientAt → List ℕ → Type 0
+TakesInput o at e now answer =
+    Leaves (at_by (refusal o at.list e) o at e) (reply_by (refusal o at.list e) o at.list e) now
+    answer
+    ⊎ WantsMemory at now answer
+
+-- What is made of a body: a bad one changes nothing.
+abbrev pub TakesBody : Opening → ClientAt → Result Input Fault → ClientAt → List ℕ → Type 0
+TakesBody o at (Ok e) now answer = TakesInput o at e now answer
+TakesBody o at (Err why) now answer = Leaves at (end_bytes (Err why)) now answer
+
+-- How a request stands is told behind what was asked.
+abbrev pub look_bytes : Opening → List FrameEntry → List ℕ → LookAsked → List ℕ
+look_bytes o past body asked =
+    record_bytes (said_number Outcome) (body
+    ++ outcome_number (outcome o (shown_entries (packets_heard o past)) asked.kind asked.number
+    asked.server)
+    ∷ [])
+
+-- A report is shown with whose it is, its counts, and the first faulty blocks.
+abbrev pub report_bytes : Received → List ℕ
+report_bytes r =
+    record_bytes (said_number Report)
+    (report_names r ++ (report_counts r.report ++ spelled_blocks r.report.first))
+
+-- A report is shown, if there is one.
+abbrev pub report_if : Option Received → List ℕ
+report_if (Some r) = report_bytes r
+report_if None = []
+
+-- The report of this place among those that came.
+abbrev pub show_bytes : Opening → List FrameEntry → ℕ → List ℕ
+show_bytes o past place =
+    report_if (slice_get (reports (life o (shown_entries (packets_heard o past)))) place)
+
+-- What is answered to what was asked, and the end behind it; or that nothing was.
+abbrev pub shown_or_bad : {A : Type 0} → (A → List ℕ) → Option A → List ℕ
+shown_or_bad show (Some asked) = show asked ++ end_bytes (Ok tt)
+shown_or_bad show None = end_bytes (Err BadNotice)
+
+-- What is made of a record of this kind, if it is one. To look and to show changes nothing.
+abbrev pub TakesKind : Opening → ClientAt → Option Told → List ℕ → ClientAt → List ℕ → Type 0
+TakesKind o at (Some told.Look) body now answer =
+    Leaves at (shown_or_bad (look_bytes o at.list body) (look_in body)) now answer
+TakesKind o at (Some told.Show) body now answer =
+    Leaves at (shown_or_bad (show_bytes o at.list) (number_alone body)) now answer
+TakesKind o at (Some kind) body now answer = TakesBody o at (input_in kind body) now answer
+TakesKind o at None body now answer = Leaves at (end_bytes (Err BadNotice)) now answer
+
+-- What the client makes of a record and answers; and its note says what its list does.
+abbrev pub ClientTakes : Opening → ClientAt → RecordParts → ClientAt → List ℕ → Type 0
+ClientTakes o at r now answer =
+    TakesKind o at (told_numbered r.kind) r.body now answer × Says now.note (noted o now.list)
+
+-- The client begins over its note, with a restart behind any list of which that says what it says.
+pub record BeginsBehind (servers : ℕ) (note : List ℕ) (o : Opening) (first : ClientAt) : Type 0 where
+  pub past : List FrameEntry
+  pub servers_are : o.servers ≡ servers
+  pub says : Says note (noted o past)
+  pub begins : first ≡ record { list = Restart false ∷ past; note = note }
+
+-- The client isn't opened: the bytes are no note, or memory is wanting.
+abbrev pub RefusesNote : List ℕ → Fault → Type 0
+RefusesNote note BadNote = IsBadNote false note
+RefusesNote note NoMemory = ⊤
+RefusesNote note fault = ⊥
+
+-- The client of so many servers as a filter. That it is opened is answered before all else.
+abbrev pub client_filter : ℕ → Filter Opening ClientAt Noted
+client_filter servers = record {
+  Says = Says;
+  Begins = λ note said. BeginsBehind servers note;
+  opening = λ said. end_bytes (Ok tt);
+  Refuses = RefusesNote;
+  Takes = ClientTakes;
+}

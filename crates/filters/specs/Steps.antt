@@ -1,0 +1,89 @@
+-- The steps of a filter's run. Only the proofs go by these.
+use Rattle.std.specs.Prelude.{◌≡◌, ◌≢◌, ◌<◌, ◌≤◌, ℕ, ⊤, List, length, Vec, Option, Some, None, IfSome, Result, Ok, Err}
+use Rattle.std.specs.declared.alloc.Global.{Global}
+use Rattle.std.specs.Io.KnownBytes.{Appends, Consumes, IsAtEnd}
+use Rattle.fc_base.specs.declared.fault.Fault.{Fault}
+use Rattle.fc_base.specs.declared.fault.Fault.TheVariants as faults
+use Rattle.filters.specs.declared.kinds.Told.TheVariants.{Note}
+use Rattle.filters.specs.declared.record.Head.{Head}
+use Rattle.filters.specs.declared.record.Record.{Record}
+use Rattle.filters.specs.declared.record.TheConstants.{MAX_BODY}
+use Rattle.filters.specs.Kinds.{told_number}
+use Rattle.filters.specs.Records.{head_bytes, record_bytes}
+use Rattle.filters.specs.Lives.{RecordParts, HasNoRecord, HasNoNote, Lives, Closes, read_bytes}
+
+-- What stands before the next body, if anything is left; or why it isn't there.
+abbrev pub ReadsHead : Option (List ℕ) → Option (List ℕ) → Result (Option Head) Fault → Type 0
+ReadsHead old new (Ok (Some head)) = Consumes old new (head_bytes head.kind head.length)
+ReadsHead old new (Ok None) = IsAtEnd old
+ReadsHead old new (Err fault) = IfSome old (λ input. HasNoRecord input fault)
+
+-- A body of so many bytes, or why it isn't there.
+abbrev pub ReadsBody : ℕ → Option (List ℕ) → Option (List ℕ) → Result (Vec ℕ Global) Fault → Type 0
+ReadsBody told old new (Ok body) = Consumes old new body.items × (length body.items ≡ told)
+ReadsBody told old new (Err faults.EndOfInput) =
+    (told ≤ MAX_BODY) × IfSome old (λ behind. length behind < told)
+ReadsBody told old new (Err faults.BadNotice) = MAX_BODY < told
+ReadsBody told old new (Err faults.NoMemory) = told ≤ MAX_BODY
+ReadsBody told old new (Err faults.ReadError) = ⊤
+ReadsBody told old new (Err fault) = ⊥
+
+-- The next record, if anything is left; or why it isn't there.
+abbrev pub ReadsRecord : Option (List ℕ) → Option (List ℕ) → Result (Option Record) Fault → Type 0
+ReadsRecord old new (Ok (Some r)) = Consumes old new (record_bytes r.kind r.body.items)
+ReadsRecord old new (Ok None) = IsAtEnd old
+ReadsRecord old new (Err fault) = IfSome old (λ input. HasNoRecord input fault)
+
+-- The note that a record is; or it is another one.
+abbrev pub IsNoteOf : Record → Result (Vec ℕ Global) Fault → Type 0
+IsNoteOf r (Ok note) = (r.kind ≡ told_number Note) × (note ≡ r.body)
+IsNoteOf r (Err fault) = (r.kind ≢ told_number Note) × (fault ≡ faults.BadNotice)
+
+-- The note, or why it isn't there.
+abbrev pub ReadsNote : Option (List ℕ) → Option (List ℕ) → Result (Vec ℕ Global) Fault → Type 0
+ReadsNote old new (Ok note) = Consumes old new (record_bytes (told_number Note) note.items)
+ReadsNote old new (Err fault) = IfSome old (λ input. HasNoNote input fault)
+
+-- What was read as a record.
+abbrev pub parts_of : Record → RecordParts
+parts_of r = record { kind = r.kind; body = r.body.items }
+
+-- Something was answered, as what comes to a node `Takes` it: the node was in any of these states,
+-- and is in one of those.
+pub record AnswersBy {O S : Type 0} (Takes : O → S → S → List ℕ → Type 0)
+    (Before After : O → S → Type 0) (old new : Option (List ℕ)) : Type 0 where
+  pub answer : List ℕ
+  pub written : Appends old new answer
+  pub takes : (o : O) (before : S) → Before o before →
+      (after : S) × After o after × Takes o before after answer
+
+-- A record was answered.
+abbrev pub AnswersRecord : {O S : Type 0} → (O → S → RecordParts → S → List ℕ → Type 0)
+    → (O → S → Type 0) → (O → S → Type 0) → RecordParts → Option (List ℕ) → Option (List ℕ)
+    → Type 0
+AnswersRecord Takes Before After r old new =
+    AnswersBy (λ o before after answer. Takes o before r after answer) Before After old new
+
+-- A step reads a record and answers it; or it ends the run with this status.
+abbrev pub StepsBy : {O S : Type 0} → (O → S → RecordParts → S → List ℕ → Type 0)
+    → (O → S → Type 0) → (O → S → Type 0) → Option (List ℕ) → Option (List ℕ)
+    → Option (List ℕ) → Option (List ℕ) → Option ℕ → Type 0
+StepsBy Takes Before After old_input input old new None =
+    (r : RecordParts) × Consumes old_input input (record_bytes r.kind r.body)
+    × AnswersRecord Takes Before After r old new
+StepsBy Takes Before After old_input input old new (Some status) =
+    IfSome old_input (λ rest. (last : List ℕ) × Appends old new last
+    × ((count : ℕ) → Closes count rest last status))
+
+-- A run up to here, of so many records: they were read and answered, since the input and the text
+-- were these.
+pub record SoFar {O S : Type 0} (Takes : O → S → RecordParts → S → List ℕ → Type 0)
+    (Begins Now : O → S → Type 0) (first_input input old new : Option (List ℕ))
+    (count : ℕ) : Type 0 where
+  pub records : List RecordParts
+  pub answers : List ℕ
+  pub read : Consumes first_input input (read_bytes records)
+  pub written : Appends old new answers
+  pub lives : (o : O) (first : S) → Begins o first →
+      (now : S) × Now o now × Lives (Takes o) first records now answers
+  pub counted : length records ≡ count
