@@ -7,6 +7,7 @@ import time
 
 from links import Link
 from note import KeptNote, Refused
+from queries import Answers, is_answer
 from records import BEGIN, ENDED, FRAME, GOOD, LOOK, NONE, NOTE, NO_SAVED, NUMBER, OPEN, OUTCOME, REFUSALS, REPORT, REQUESTS, SAVE, SEND, SHOW, STOP, TICK, TRIGGER, VERIFY
 from records import Report, addressee, read_record, record
 
@@ -30,16 +31,21 @@ class Fleet:
             self.process = subprocess.Popen(words, stdin=subprocess.PIPE, stdout=subprocess.PIPE, start_new_session=True)
         except OSError as error:
             raise Refused(f"{words[0]}: {error.strerror}") from None
-        self.links = []
+        self.links, self.servers = [], []
         threading.Thread(target=self.run, daemon=True).start()
         fault = self.ask(NOTE, opening)
         if fault:
             raise Refused(f"{note}: the node refuses it, {fault}")
-        self.links = [Link(it, self.hear) for it in commands]
+        self.links = [Link(it, lambda frame, at=at: self.hear(at, frame)) for at, it in enumerate(commands)]
+        self.servers = [Answers(it) for it in self.links]
         threading.Thread(target=self.tick, daemon=True).start()
 
-    def hear(self, frame):
-        self.tell(FRAME, frame)
+    def hear(self, server, frame):
+        """Hands the node a frame. What a server's harness says is none of its business."""
+        if not is_answer(frame):
+            self.tell(FRAME, frame)
+        elif self.servers:
+            self.servers[server].hear(frame)
 
     def tell(self, kind, body=b"", waits=False):
         """Tells the node a record, and returns which it is."""

@@ -33,12 +33,15 @@ def read_record(stream):
 
 
 def read_frame(stream):
-    """Returns the next frame of a link, or None where it has ended, or what comes is no frame."""
+    """Returns the next frame of a link, or what the harnesses say to each other over it; None where
+    it has ended, and no bytes where what comes is neither."""
     head = stream.read(FRAME_HEAD)
-    if len(head) < FRAME_HEAD or head[:2] != b"FC":
+    if len(head) < FRAME_HEAD:
         return None
     length = struct.unpack(">I", head[12:])[0]
-    body = stream.read(length) if length <= LONGEST else b""
+    if head[:2] not in (b"FC", b"FH") or length > LONGEST:
+        return b""
+    body = stream.read(length)
     return head + body if len(body) == length else None
 
 

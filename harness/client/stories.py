@@ -1,41 +1,51 @@
 """What a fleet does: it writes until a trigger, and checks behind the cut."""
-import json
 import os
 import signal
 import struct
 import subprocess
-import sys
 import threading
 import time
 
 import texts
-from fleet import Fleet, told
+from fleet import told
 from note import Refused, last_run
+from progress import Progress
 from records import GOOD, TRIGGER
+from say import say
+from states import states_in
 
 SOUND, FAULTS, FAILED, NO_VERDICT = range(4)
 
 
-def say(text):
-    print(f"fleet: {text}", file=sys.stderr, flush=True)
-
-
 class Trigger:
-    """What ends the writing: a file that comes, SIGINT or SIGTERM, or so many seconds."""
+    """What ends the writing: a file that comes, SIGINT or SIGTERM, so many seconds, or so many
+    writes, of all servers together, that are done."""
 
-    def __init__(self, file=None, seconds=None):
+    def __init__(self, file=None, seconds=None, writes=None):
         if file and os.path.exists(file):
             raise Refused(f"{file}: the trigger's file is there already: remove it first")
-        self.file, self.seconds, self.signalled = file, seconds, threading.Event()
+        self.file, self.seconds, self.writes, self.signalled = file, seconds, writes, threading.Event()
         if threading.current_thread() is threading.main_thread():
             for it in (signal.SIGINT, signal.SIGTERM):
                 signal.signal(it, lambda *_: self.signalled.set())
 
-    def wait(self):
-        until = time.monotonic() + self.seconds if self.seconds is not None else float("inf")
-        while time.monotonic() < until and not (self.file and os.path.exists(self.file)):
-            if self.signalled.wait(min(0.01, max(0, until - time.monotonic()))):
-                return
+    def why(self, seconds, done):
+        """Returns why it is pulled by now, or None."""
+        if self.signalled.is_set():
+            return "by a signal"
+        if self.file and os.path.exists(self.file):
+            return f"{self.file} is there"
+        if self.seconds is not None and seconds >= self.seconds:
+            return f"after {self.seconds:g} seconds"
+        if self.writes is not None and done >= self.writes:
+            return f"{done} writes are done"
+        return None
+
+    def wait(self, progress):
+        while not (why := self.why(progress.seconds(), progress.total_done())):
+            progress.step()
+            self.signalled.wait(0.01)
+        say(f"triggered: {why}")
 
 
 def all_good(outcomes):
@@ -46,15 +56,28 @@ def tell_outcomes(what, outcomes):
     say(f"{what}: " + ", ".join(f"server {at} {told(it)}" for at, it in enumerate(outcomes)))
 
 
+class Written:
+    """What a run has come to: how long it wrote, and the states that are kept of it."""
+
+    def __init__(self, run):
+        self.run, self.is_kept, self.seconds, self.states = run, False, 0.0, []
+
+    def total(self, what):
+        return sum(getattr(it, what) for it in self.states)
+
+
 def write(fleet, job_file, trigger, cut=None, wait=60, acts=False):
-    """Writes a run until the trigger, and has its states kept and the power cut. Returns the run, and
-    whether each server's states are kept."""
-    run = fleet.begin(texts.writing(job_file))
+    """Writes a run until the trigger, and has its states kept and the power cut."""
+    text = texts.writing(job_file)
+    written = Written(fleet.begin(text))
+    run = written.run
     begun = fleet.settle("begin", run, wait)
     tell_outcomes(f"run {run} is begun", begun)
     if not all_good(begun):
-        return run, False
-    trigger.wait()
+        return written
+    progress = Progress(fleet, run, texts.Total(text), trigger.writes is not None)
+    trigger.wait(progress)
+    written.seconds = progress.seconds()
     fleet.trigger(run, acts)
     kept = fleet.settle("trigger", run, wait)
     tell_outcomes(f"the states of run {run}", kept)
@@ -62,17 +85,22 @@ def write(fleet, job_file, trigger, cut=None, wait=60, acts=False):
         repeat_until_cut(fleet, run, wait)
     if cut and subprocess.run(cut, shell=True, stdin=subprocess.DEVNULL).returncode:
         raise Refused(f"{cut}: it didn't cut the power")
-    return run, all_good(kept)
+    written.is_kept = all_good(kept)
+    written.states = [it for (of, _, _), it in sorted(states_in(fleet.kept.read()).items()) if of == run]
+    return written
 
 
 def repeat_until_cut(fleet, run, wait):
     """A server that hasn't heard that its states are kept doesn't ask for its cut, and no tick tells
-    it again: a trigger does. Those that are cut by then don't answer it, so that nothing is waited
-    for but that the links end."""
+    it again: a trigger does, each second. Those that are cut by then don't answer it, so that nothing
+    is waited for but that the links end."""
     until = time.monotonic() + wait
+    again = time.monotonic() + 1
     while any(it.is_up() for it in fleet.links) and time.monotonic() < until:
-        fleet.tell(TRIGGER, struct.pack(">QB", run, True))
-        time.sleep(1)
+        if time.monotonic() > again:
+            fleet.tell(TRIGGER, struct.pack(">QB", run, True))
+            again += 1
+        time.sleep(0.02)
 
 
 def check(fleet, job_file, run=None, wait=60):
@@ -98,23 +126,3 @@ def status_of(outcomes, reports):
     if not reports or any(is_full for _, is_full in reports) or not any(it.checked for it, _ in reports):
         return NO_VERDICT
     return SOUND
-
-
-def print_reports(run, reports, as_json):
-    for it, is_full in reports:
-        by = "without a state, which is no verdict: " if is_full else ""
-        if as_json:
-            print(json.dumps({"run": run, "server": it.server, "job": it.job, "by_state": not is_full, "checked": it.checked, "faults": it.faults, "end": it.end, "first": it.first}), flush=True)
-        else:
-            print(f"server {it.server} job {it.job}: {by}report {it.line()}", flush=True)
-
-
-def print_total(run, outcomes, reports, as_json):
-    status = status_of(outcomes, reports)
-    words = {SOUND: "sound", FAULTS: "faults", FAILED: "not checked whole", NO_VERDICT: "no verdict"}[status]
-    checked, faults = (sum(getattr(it, name) for it, is_full in reports if not is_full) for name in ("checked", "faults"))
-    if as_json:
-        print(json.dumps({"run": run, "verdict": words, "checked": checked, "faults": faults, "status": status}), flush=True)
-    else:
-        print(f"run {run}: {words}, {checked} checked, {faults} faults", flush=True)
-    return status

@@ -1,6 +1,9 @@
 """The texts of a job file: as it writes, and as the check of such a run reads."""
 import os
+import re
+import shutil
 import subprocess
+import threading
 
 from note import Refused
 
@@ -17,8 +20,29 @@ def writing(path):
 
 def reading(path):
     """Returns the text by which a run that this file wrote is checked."""
-    with open(path, "rb") as it:
-        ran = subprocess.run([FROM_FIO, "--read"], stdin=it, stdout=subprocess.PIPE, stderr=subprocess.PIPE)
+    ran = subprocess.run([FROM_FIO, "--read"], input=writing(path), stdout=subprocess.PIPE, stderr=subprocess.PIPE)
     if ran.returncode:
         raise Refused(f"{path}: {ran.stderr.decode(errors='replace').strip()}")
     return ran.stdout
+
+
+class Total:
+    """How many writes the jobs of a text have together, which `fiocut jobs` tells; none where it
+    isn't at hand, or hasn't told it yet."""
+
+    def __init__(self, text):
+        self.text, self.value = text, None
+        self.program = os.environ.get("FIOCUT") or shutil.which("fiocut")
+        if self.program:
+            threading.Thread(target=self.ask, daemon=True).start()
+
+    def ask(self):
+        try:
+            ran = subprocess.run([self.program, "jobs"], input=self.text, stdout=subprocess.PIPE, stderr=subprocess.DEVNULL)
+        except OSError:
+            return
+        if ran.returncode == 0:
+            self.value = sum(int(it) for it in re.findall(rb"^job .* total=(\d+) bs=", ran.stdout, re.M))
+
+    def __call__(self):
+        return self.value

@@ -12,9 +12,9 @@
 #include <sys/un.h>
 #include <unistd.h>
 
-/* A frame has a head, in whose last four bytes stands how long the rest is; no frame is longer than
- * this. A link that takes nothing for so many seconds is closed. */
-enum { FRAME_HEAD = 16, LENGTH_AT = 12, LONGEST = 64 << 20, SECONDS = 5 };
+/* Where it stands in a head how long the rest is; no frame or query is longer than this. A link that
+ * takes nothing for so many seconds is closed. */
+enum { LENGTH_AT = 12, LONGEST = 64 << 20, SECONDS = 5 };
 
 static struct sockaddr_un address_of(const char *path) {
     struct sockaddr_un address = {.sun_family = AF_UNIX};
@@ -29,12 +29,17 @@ struct visit {
     int link;
 };
 
-/* Reads a frame. Returns its bytes, from malloc, or NULL where the link has ended. */
+/* A query begins otherwise than a frame. */
+static bool is_query(const uint8_t *bytes) {
+    return memcmp(bytes, "FH", 2) == 0;
+}
+
+/* Reads a frame or a query. Returns its bytes, from malloc, or NULL where the link has ended. */
 static uint8_t *read_frame(int link, size_t *length) {
     uint8_t head[FRAME_HEAD];
     if (read_all(link, head, sizeof head) != sizeof head) return NULL;
     uint32_t rest = get_32(head + LENGTH_AT);
-    if (rest > LONGEST) return say("what came over the link is no frame: it is closed"), NULL;
+    if (rest > LONGEST || (memcmp(head, "FC", 2) && !is_query(head))) return say("what came over the link is no frame: it is closed"), NULL;
     uint8_t *frame = malloc(FRAME_HEAD + rest);
     if (!frame) give_up("memory", strerror(ENOMEM));
     memcpy(frame, head, sizeof head);
@@ -44,14 +49,21 @@ static uint8_t *read_frame(int link, size_t *length) {
     return NULL;
 }
 
+/* Takes what has come over a link. False where it is a query that can't be read: then the rest is
+ * nothing, either. */
+static bool take(struct door *door, uint8_t *bytes, size_t length) {
+    if (is_query(bytes)) return door->answer(door->whose, bytes, length);
+    await_room(door->node);
+    tell_node(door->node, RECORD_FRAME, &(struct iovec){bytes, length}, 1);
+    return true;
+}
+
 static void *hear(void *given) {
     struct visit visit = *(struct visit *)given;
     size_t length;
+    bool goes_on = true;
     free(given);
-    for (uint8_t *frame; (frame = read_frame(visit.link, &length)); free(frame)) {
-        await_room(visit.door->node);
-        tell_node(visit.door->node, RECORD_FRAME, &(struct iovec){frame, length}, 1);
-    }
+    for (uint8_t *bytes; goes_on && (bytes = read_frame(visit.link, &length)); free(bytes)) goes_on = take(visit.door, bytes, length);
     pthread_mutex_lock(&visit.door->lock);
     if (visit.door->link == visit.link) visit.door->link = -1;
     close(visit.link);
@@ -100,9 +112,9 @@ void open_door(struct door *door, struct node *node, const char *path) {
     pthread_detach(thread);
 }
 
-void send_frame(struct door *door, const struct record *record) {
+void send_bytes(struct door *door, const uint8_t *bytes, size_t length) {
     pthread_mutex_lock(&door->lock);
-    if (door->link >= 0 && write_all(door->link, record->body, record->length)) {
+    if (door->link >= 0 && write_all(door->link, bytes, length)) {
         shutdown(door->link, SHUT_RDWR); /* (a part of a frame may have gone out: the rest is lost with it) */
         door->link = -1;
     }

@@ -30,12 +30,31 @@ void tell_end(struct node *node, enum record_kind kind, uint64_t run, uint32_t j
     tell_node(node, kind, &(struct iovec){name, sizeof name}, 1);
 }
 
+/* Counts ends that the node was told. Those of a run before the last one come late: they don't
+ * count. */
+static void count_ends(struct lane *lane, uint64_t run, size_t done, size_t failed) {
+    lane->done += done;
+    pthread_mutex_lock(&lane->lock);
+    if (run > lane->ends.run) lane->ends = (struct ends){.run = run};
+    if (run == lane->ends.run) lane->ends.done += done, lane->ends.failed += failed;
+    pthread_mutex_unlock(&lane->lock);
+}
+
+struct ends ends_of(struct lane *lane) {
+    pthread_mutex_lock(&lane->lock);
+    struct ends ends = lane->ends;
+    pthread_mutex_unlock(&lane->lock);
+    return ends;
+}
+
 static void tell_these(void *whose, const struct ending *endings, size_t count) {
     const struct teller *teller = whose;
+    size_t done = 0;
     for (size_t at = 0; at < count; at++) {
-        teller->lane->done += endings[at].is_done;
+        done += endings[at].is_done;
         tell_end(teller->lane->node, endings[at].is_done ? RECORD_DONE : RECORD_FAILED, teller->run, teller->lane->job, endings[at].write);
     }
+    count_ends(teller->lane, teller->run, done, count - done);
 }
 
 static void forget_last(void *whose, const void *bytes, size_t length) {
@@ -59,6 +78,7 @@ static void *work(void *given) {
 void start_lane(struct lane *lane) {
     pthread_t thread;
     lane->orders = -1;
+    pthread_mutex_init(&lane->lock, NULL);
     make_pipe(lane->stretches);
     int error = pthread_create(&thread, NULL, work, lane);
     if (error) give_up("threads", strerror(error));
@@ -94,6 +114,7 @@ void take_order(struct lane *lane, const struct record *record) {
     if (run != lane->run || block_size != lane->block_size) begin_run(lane, run, block_size);
     if (lane->is_refused) {
         tell_end(lane->node, RECORD_FAILED, run, lane->job, write);
+        count_ends(lane, run, 0, 1);
         return;
     }
     uint8_t *head = lane->heads[lane->count];

@@ -11,6 +11,11 @@
 /* So many writes of a job are out at once at most, and so many orders are handed over in one go. */
 enum { MOST_OUT = 64, MOST_ORDERS = 64 };
 
+/* How many writes of a run have been told to the node, as done and as failed. */
+struct ends {
+    uint64_t run, done, failed;
+};
+
 struct lane {
     struct node *node;
     const struct target *target;
@@ -18,6 +23,8 @@ struct lane {
     uint64_t offset, stride, flush; /* a stride of 0: one block */
     bool torn;                      /* takes blocks that a cut may tear */
     atomic_uint_fast64_t done;      /* writes, of all its runs */
+    pthread_mutex_t lock;           /* of the next one */
+    struct ends ends;               /* of the last run */
     /* The rest is its own. */
     uint64_t run, block_size; /* those of the orders that came last */
     bool is_refused;          /* those can't be carried out */
@@ -37,6 +44,10 @@ void take_order(struct lane *lane, const struct record *record);
 
 /* Hands over what it took. */
 void flush_lane(struct lane *lane);
+
+/* The ends of its last run. Those that are counted were told to the node: what comes to it from now
+ * on finds them. */
+struct ends ends_of(struct lane *lane);
 
 /* Tells that a write has ended. */
 void tell_end(struct node *node, enum record_kind kind, uint64_t run, uint32_t job, uint64_t write);

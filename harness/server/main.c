@@ -8,6 +8,7 @@
 #include "node.h"
 #include "note.h"
 #include "options.h"
+#include "queries.h"
 #include "say.h"
 
 #include <errno.h>
@@ -26,6 +27,7 @@ struct server {
     struct node node;
     struct door door;
     struct checks checks;
+    struct queries queries;
     struct target targets[MOST_JOBS];
     struct lane lanes[MOST_JOBS];
 };
@@ -93,6 +95,8 @@ static void start_all(struct server *server) {
     pthread_t thread;
     uint8_t *note = read_note(server->options.note, (uint32_t)server->options.me, &length);
     server->door = shut_door();
+    server->queries = (struct queries){&server->door, server->lanes, server->options.place_count};
+    server->door.whose = &server->queries, server->door.answer = answer_query;
     start_node(&server->node, server->options.me);
     tell_node(&server->node, RECORD_NOTE, &(struct iovec){note, length}, 1);
     free(note);
@@ -128,7 +132,7 @@ static void carry_out_record(struct server *server, const struct record *record)
     if (record->kind != RECORD_ORDER && record->kind != RECORD_END) flush_lanes(server);
     switch (record->kind) {
     case RECORD_SAVE: keep_note(server->options.note, (uint32_t)server->options.me, record->body, record->length); break;
-    case RECORD_SEND: send_frame(&server->door, record); break;
+    case RECORD_SEND: send_bytes(&server->door, record->body, record->length); break;
     case RECORD_ORDER: take_any_order(server, record); break;
     case RECORD_WANT: take_want(&server->checks, record); break;
     case RECORD_CUT: cut(server); break;

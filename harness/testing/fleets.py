@@ -232,7 +232,7 @@ def cycles_by_a_book():
     subprocess.run(["sh", "./on"], check=True)
     words = ["cycle", "cycle.fio", "folder", "--every", "1..1.2", "--cycles", "2", "--pause", "0", "--seed", "1"]
     status, printed, said = fleet(*words)
-    tell("two cycles", (status, [it.split(",")[2:4] for it in printed.splitlines()]), (0, [[" 0 faults", " status 0"]] * 2))
+    tell("two cycles", (status, [it.split(",")[1:6] for it in printed.splitlines()]), (0, [[" 128 ordered", " 128 done", " 64 checked", " 0 faults", " status 0"]] * 2))
     subprocess.run(["sh", "./off"], check=True)
     write("lie", "")
     subprocess.run(["sh", "./on"], check=True)

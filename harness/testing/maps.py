@@ -28,30 +28,33 @@ def pieces(*rows):
     return "".join(f"; {front}-{back} " + (f"{whose} place {back}" if whose else "unknown") for front, back, whose in rows)
 
 
-def harm(data, run_number, of_block):
+def harm(data, run_number, of_block, server=0, job_number=0):
     """Harms a block by each kind there is, and returns the lines that are due."""
     last = {block: max(numbers) for block, numbers in of_block.items()}
     first = {block: min(numbers) for block, numbers in of_block.items()}
     half = BLOCK // 2
+
+    def wrote(number, block, run_of_it=run_number):
+        return stamp(run_of_it, job_number, number, block, server=server)
+
+    def said(number, block, run_of_it=run_number):
+        return f"write {number} of block {block} of job {job_number} of server {server} of run {run_of_it}"
+
     put(data, 0, bytes(BLOCK))
     put(data, 2, b"\xff" * BLOCK)
-    put(data, 3, stamp(run_number, 0, first[3], 3))
-    put(data, 4, stamp(run_number, 0, 500, 4))
-    put(data, 5, stamp(run_number + 1, 0, last[5], 5))
-    put(data, 6, stamp(run_number, 0, last[7], 7))
-    put(data, 8, stamp(run_number, 0, last[8], 8)[:half] + stamp(run_number, 0, first[8], 8)[half:])
+    put(data, 3, wrote(first[3], 3))
+    put(data, 4, wrote(500, 4))
+    put(data, 5, wrote(last[5], 5, run_number + 1))
+    put(data, 6, wrote(last[7], 7))
+    put(data, 8, wrote(last[8], 8)[:half] + wrote(first[8], 8)[half:])
     data[9 * BLOCK + 1000] ^= 1
-    put(data, 63, stamp(run_number, 0, first[63], 63))
-
-    def said(number, block):
-        return f"write {number} of block {block} of job 0 of server 0 of run {run_number}"
-
+    put(data, 63, wrote(first[63], 63))
     held = {
         0: ("unwritten", ""),
         2: ("filled", ", holds byte 255"),
         3: ("lost", f", holds write {first[3]}"),
         4: ("unissued", ", holds write 500"),
-        5: ("other-run", f", holds write {last[5]} of block 5 of job 0 of server 0 of run {run_number + 1}"),
+        5: ("other-run", f", holds {said(last[5], 5, run_number + 1)}"),
         6: ("misdirected", f", holds {said(last[7], 7)}"),
         8: ("torn", pieces((0, 3, said(last[8], 8)), (4, 7, said(first[8], 8)))),
         9: ("corrupt", f", unknown sectors 1, differs from write {last[9]} by bits 1 first at sector 1 byte 488" + pieces((0, 0, said(last[9], 9)), (1, 1, None), (2, 7, said(last[9], 9)))),

@@ -4,11 +4,12 @@ import re
 import shlex
 import subprocess
 
-from trying import BLOCK, OUT, QUIET, await_file, run, write
+from trying import BLOCK, OUT, await_file, run, write
 
 TOP = os.path.dirname(os.path.dirname(OUT))
 FLEET, SERVER = f"{TOP}/harness/fleet", f"{OUT}/fleet-server"
-LINE = re.compile(r"server (\d+) job (\d+): report checked (\d+) faults (\d+) end (\w+) first (.*)")
+# (The report of a map has the kinds behind it, and is none of these.)
+LINE = re.compile(r"^server (\d+) job (\d+): report checked (\d+) faults (\d+) end (\w+).* first ([\d -]*)$", re.M)
 
 
 def job_file(name, jobs=2, blocks=256, writes=4096, depth=8):
@@ -35,11 +36,20 @@ class Servers:
     def note(self, server):
         return f"{self.name}-{server}.note"
 
+    def said(self, server):
+        """The file of what it says on standard error."""
+        return f"{self.name}-{server}.said"
+
+    def before(self, server):
+        """The words that stand before its command."""
+        return []
+
     def start(self, server, lie=None, options=(), wait=True):
         if os.path.exists(f"{self.note(server)}.socket"):
             os.remove(f"{self.note(server)}.socket")
-        words = [SERVER, str(server), *(self.places or self.targets(server)), "--note", self.note(server), *options]
-        self.running[server] = subprocess.Popen(words, env={**os.environ, **(lie or {})}, stdin=subprocess.DEVNULL, **QUIET)
+        words = [*self.before(server), SERVER, str(server), *(self.places or self.targets(server)), "--note", self.note(server), *options]
+        with open(self.said(server), "ab") as said:
+            self.running[server] = subprocess.Popen(words, env={**os.environ, **(lie or {})}, stdin=subprocess.DEVNULL, stdout=subprocess.DEVNULL, stderr=said)
         if wait:
             await_file(f"{self.note(server)}.socket")
 

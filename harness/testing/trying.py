@@ -49,10 +49,10 @@ def job(name, blocks=64, writes=None, depth=8, order="randwrite", block_size=BLO
     return name
 
 
-def stamp(run_number, job_number, number, block, block_size=BLOCK):
+def stamp(run_number, job_number, number, block, block_size=BLOCK, server=0):
     """What a write puts into a block, by the manual's layout of a stamped sector."""
     tail = bytes((number + at) % 256 for at in range(476))
-    front = struct.pack(">QIIQQ", run_number, 0, job_number, number, block)
+    front = struct.pack(">QIIQQ", run_number, server, job_number, number, block)
     return b"".join(front + struct.pack(">I", sector) + tail for sector in range(block_size // 512))
 
 

@@ -1,0 +1,46 @@
+"""How far a run's writes are, as the servers' harnesses tell it."""
+import time
+
+from say import say
+
+# So often it is asked for, where writes pull the trigger; and so often it is said.
+QUICK, LINES = 0.05, 1
+
+
+class Progress:
+    """Asks again and again how many writes are done at each server, and says it once a second."""
+
+    def __init__(self, fleet, run, totals, is_quick=False):
+        self.fleet, self.run, self.totals = fleet, run, totals
+        self.every = QUICK if is_quick else LINES / 2
+        self.begun = self.asked = self.said = time.monotonic()
+        self.done = [0] * len(fleet.servers)
+        self.before = list(self.done)
+
+    def seconds(self):
+        return time.monotonic() - self.begun
+
+    def total_done(self):
+        return sum(self.done)
+
+    def step(self):
+        """Asks, and says, what is due by now."""
+        now = time.monotonic()
+        ends = [it.ends_of(self.run) for it in self.fleet.servers]
+        self.done = [max(had, it[0]) if it else had for had, it in zip(self.done, ends)]
+        if now - self.asked >= self.every:
+            self.asked = now
+            for it in self.fleet.servers:
+                it.ask_ends()
+        if now - self.said >= LINES:
+            say(f"{self.seconds():.0f} s: " + "; ".join(self.words(at, it, now - self.said) for at, it in enumerate(ends)))
+            self.said, self.before = now, list(self.done)
+
+    def words(self, server, ends, seconds):
+        """How far a server is."""
+        if ends is None:
+            return f"server {server} doesn't say"
+        total = self.totals()
+        far = f" of {total}" if total else ""
+        failed = f", {ends[1]} failed" if ends[1] else ""
+        return f"server {server} {(self.done[server] - self.before[server]) / seconds:.0f} writes a second, {self.done[server]}{far} done{failed}"

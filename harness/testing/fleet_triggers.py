@@ -1,0 +1,50 @@
+"""What pulls a fleet's trigger, what is said of its writes meanwhile, and the table at the end."""
+import json
+import re
+
+from serving import Servers, fleet, job_file
+from trying import LIAR, tell, tell_has
+
+
+def rows(printed):
+    """The rows of a table of writes, by server and job: ordered, done, in flight."""
+    numbers = [list(map(int, line.split())) for line in printed.splitlines() if re.fullmatch(r"[\d ]+", line)]
+    return {(it[0], it[1]): it[2:5] for it in numbers}
+
+
+def triggers():
+    """A write that never comes back is not among those that are done: the trigger waits for one more,
+    and the table tells it as in flight."""
+    job_file("after.fio", jobs=1, blocks=64, writes=64)
+    stalled = {"LD_PRELOAD": LIAR, "LIE": "stalled:64", "LIE_TARGET": "after-1-0"}
+    servers = Servers("after", 0, jobs=1)
+    servers.count, servers.running = 2, [None, None]
+    for writes, seconds, why in ((127, 9, "127 writes are done"), (128, 2.5, "after 2.5 seconds")):
+        servers.start(0)
+        servers.start(1, stalled)
+        words = ["write", "after.fio", "--note", "after.note", "--after-writes", str(writes), "--after", str(seconds)]
+        status, printed, said = fleet(*words, *servers.links())
+        tell(f"a trigger after {writes} writes", (status, re.findall("fleet: triggered: (.*)", said)), (0, [why]))
+        tell(f"the table after {writes} writes", rows(printed), {(0, 0): [64, 64, 0], (1, 0): [64, 63, 1]})
+        servers.cut()
+    lines = re.findall(r"^fleet: (\d) s: server 0 (\d+) writes a second, 64 of 64 done; server 1 (\d+) writes a second, 63 of 64 done$", said, re.M)
+    tell("what is said each second", [(second, int(a) > 0, int(b) > 0) for second, a, b in lines], [("1", True, True), ("2", False, False)])
+    servers.restart()
+    status, printed, _ = fleet("check", "after.fio", "--note", "after.note", "--json", *servers.links())
+    told = [json.loads(it) for it in printed.splitlines()]
+    tell("their check, for programs", (status, [it["faults"] for it in told], told[-1]["verdict"]), (0, [0, 0, 0], "sound"))
+    servers.cut()
+
+
+def triggers_by_run():
+    """Writes of an earlier run don't count; a run is told as JSON."""
+    job_file("many.fio", jobs=2, blocks=512, writes=500_000)
+    servers = Servers("many", 2)
+    for turn in range(2):
+        status, printed, said = fleet("write", "many.fio", "--note", "many.note", "--after-writes", "4000", "--json", *servers.links())
+        told = [json.loads(it) for it in printed.splitlines()]
+        tell(f"run {turn} of two", (status, [(it["server"], it["job"]) for it in told[:-1]], told[-1]["kept"]), (0, [(0, 0), (0, 1), (1, 0), (1, 1)], True))
+        tell(f"run {turn} has as many writes as were asked for", sum(it["done"] for it in told[:-1]) >= 4000, True)
+        tell(f"run {turn} has writes in flight, at most its depth", all(0 <= it["ordered"] - it["done"] == it["in flight"] <= 8 for it in told[:-1]), True)
+        tell_has(f"run {turn}: why it was triggered", said, "writes are done")
+    servers.cut()
