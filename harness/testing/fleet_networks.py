@@ -1,0 +1,171 @@
+"""Fleets over TCP: on this machine, by links that end anywhere; and on hosts of their own, network
+namespaces whose wires lose one packet in ten."""
+import os
+import random
+import re
+import shlex
+import shutil
+import signal
+import socket
+import struct
+import subprocess
+import threading
+
+from fleets import written
+from hosts import Hosts
+from serving import FLEET, SERVER, TOP, Servers, fleet, job_file, reports
+from trying import BLOCK, LIAR, QUIET, read, run, tell, write
+
+BAD_LINK = f"{TOP}/tools/bad-link"
+
+
+def free_port():
+    with socket.socket() as it:
+        it.bind(("127.0.0.1", 0))
+        return it.getsockname()[1]
+
+
+class Listening:
+    """A socat for each server, which starts a link to it for each connection."""
+
+    def __init__(self, servers):
+        self.ports, self.is_closed = [free_port() for _ in range(servers.count)], threading.Event()
+        self.running = [subprocess.Popen(["socat", f"TCP-LISTEN:{port},bind=127.0.0.1,reuseaddr,fork", f"EXEC:{SERVER} link --note {servers.note(at)}"], start_new_session=True, **QUIET) for at, port in enumerate(self.ports)]
+
+    def links(self):
+        commands = [f"exec {shlex.quote(BAD_LINK)} --cut 0.05 --lose 0 --repeat 0 --late 0 'exec socat - TCP:127.0.0.1:{port}'" for port in self.ports]
+        return [it for command in commands for it in ("--server", command)]
+
+    def break_some(self, chance):
+        """Kills connections as they are, again and again."""
+        while not self.is_closed.wait(chance.uniform(0.1, 0.5)):
+            pid = self.running[chance.randrange(len(self.running))].pid
+            for child in read(f"/proc/{pid}/task/{pid}/children").split():
+                try:
+                    os.kill(int(child), signal.SIGKILL)
+                except ProcessLookupError:
+                    pass
+
+    def close(self):
+        self.is_closed.set()
+        for it in self.running:
+            os.killpg(it.pid, signal.SIGKILL)
+            it.wait()
+
+
+def over_tcp():
+    """Connections are killed, and end in the middle of a frame: nothing but frames is lost by it, and
+    no part of one goes to the next connection."""
+    if not shutil.which("socat"):
+        print("over_tcp: skipped: there is no socat")
+        return
+    job_file("tcp.fio", jobs=2, blocks=128, writes=100_000)
+    servers = Servers("tcp", 3)
+    listening = Listening(servers)
+    breaking = threading.Thread(target=listening.break_some, args=(random.Random(4),), daemon=True)
+    breaking.start()
+    status, printed, said = fleet("write", "tcp.fio", "--note", "tcp.note", "--after-writes", "2000", "--after", "10", *listening.links())
+    tell("a fleet writes over TCP", (status, "the states are kept" in printed), (0, True))
+    servers.cut()
+    data = bytearray(read("tcp-2-1"))
+    block = next(at for at in range(128) if any(data[at * BLOCK : (at + 1) * BLOCK]))
+    data[block * BLOCK + 5] ^= 1
+    write("tcp-2-1", bytes(data))
+    servers.restart()
+    status, printed, more = fleet("check", "tcp.fio", "--note", "tcp.note", "--map", *listening.links())
+    tell("its check", (status, {at: it[3] for at, it in reports(printed).items() if it[1]}), (1, {(2, 1): [block]}))
+    tell("what that block holds", len(re.findall(rf"server 2 job 1: block {block} [a-z-]+: ", printed)), 1)
+    listening.is_closed.set()
+    breaking.join()
+    listening.close()
+    servers.cut()
+    whole = said + more + "".join(read(servers.said(it)).decode() for it in range(3))
+    tell("what came over a link was frames", "is no frame" in whole, False)
+
+
+def ended_by(link, data):
+    """Whether a link ends, and nothing is answered, once this has come over it."""
+    try:
+        link.sendall(data)
+        return link.recv(1) == b""
+    except ConnectionResetError:
+        return True
+
+
+def strangers():
+    """What isn't a frame or a query ends its link, and is said; the next link is as any other."""
+    job_file("strange.fio", jobs=1, blocks=64, writes=64)
+    servers = Servers("strange", 1, jobs=1)
+    query = lambda kind, body=b"": b"FH\1" + bytes([kind]) + bytes(8) + struct.pack(">I", len(body)) + body
+    for what, data in (
+        ("another protocol", b"GET / HTTP/1.1\r\nHost: a\r\n\r\n"),
+        ("a frame that is too long", b"FC\1\1" + bytes(8) + b"\xff\xff\xff\xff"),
+        ("an unknown query", query(9)),
+        ("a query for too much", query(3, struct.pack(">IIII", 0, 0, 2000, BLOCK))),
+        ("a query that is cut", query(3, bytes(15))),
+    ):
+        with socket.socket(socket.AF_UNIX) as link:
+            link.connect("strange-0.note.socket")
+            link.settimeout(10)
+            tell(f"{what} ends the link", ended_by(link, data), True)
+    tell("and is said, where it is no frame", read(servers.said(0)).count(b"is no frame"), 2)
+    tell("then a fleet writes", fleet("write", "strange.fio", "--note", "strange.note", "--after-writes", "64", *servers.links())[0], 0)
+    servers.cut()
+
+
+class HostServers(Servers):
+    """Servers on hosts of their own, behind the client's, each with a socat that starts links."""
+
+    def __init__(self, name, hosts):
+        super().__init__(name, 0)
+        self.hosts, self.count = hosts, len(hosts.names) - 1
+        self.running = [None] * self.count
+        self.listening = [subprocess.Popen([*self.before(at), "socat", "TCP-LISTEN:7000,reuseaddr,fork", f"EXEC:{SERVER} link --note {self.note(at)}"], start_new_session=True, **QUIET) for at in range(self.count)]
+
+    def before(self, server):
+        return self.hosts.on(server + 1)
+
+    def links(self, before="exec"):
+        return [it for at in range(self.count) for it in ("--server", f"{before} socat - TCP:{self.hosts.address(at + 1)}:7000")]
+
+    def fleet(self, *words):
+        """Runs the client on the first host."""
+        return run(*self.hosts.on(0)[1:], FLEET, *words, *self.links(), program="ip")
+
+    def close(self):
+        self.cut()
+        for it in self.listening:
+            os.killpg(it.pid, signal.SIGKILL)
+            it.wait()
+
+
+def on_hosts():
+    """Four hosts, whose wires lose one packet in ten: one target loses writes, and just these are
+    faults."""
+    if not (shutil.which("socat") and shutil.which("ip")):
+        print("on_hosts: skipped: it wants socat and ip")
+        return
+    hosts = Hosts(4, 0.1)
+    if hosts.is_up:
+        lies_on_hosts(hosts)
+    else:
+        print("on_hosts: skipped: there can be no network namespaces, or no /dev/net/tun")
+    hosts.close()
+
+
+def lies_on_hosts(hosts):
+    job_file("hosts.fio", jobs=2, blocks=256, writes=200)
+    servers = HostServers("hosts", hosts)
+    lie = {"LD_PRELOAD": LIAR, "LIE": "lost:37", "LIE_TARGET": "hosts-2-1", "LIE_LOG": "hosts.log"}
+    for at in range(3):
+        servers.start(at, lie if at == 2 else None)
+    status, printed, _ = servers.fleet("write", "hosts.fio", "--note", "hosts.note", "--after-writes", "1200", "--after", "30")
+    tell("a fleet of hosts writes", (status, "the states are kept" in printed), (0, True))
+    servers.cut()
+    servers.restart()
+    status, printed, _ = servers.fleet("check", "hosts.fio", "--note", "hosts.note", "--map")
+    due = written(read("hosts.log"))
+    tell("its check", (status, {at: it[:2] for at, it in reports(printed).items()}), (1, {(s, j): (200, len(due) if (s, j) == (2, 1) else 0) for s in range(3) for j in range(2)}))
+    tell("the blocks that were lost", [int(it) for it in re.findall(r"server 2 job 1: block (\d+) (?:unwritten|lost): ", printed)], due)
+    servers.close()
+    tell("packets were lost", hosts.lost > 0, True)
