@@ -7,7 +7,6 @@ import shlex
 import shutil
 import signal
 import socket
-import struct
 import subprocess
 import threading
 
@@ -81,36 +80,6 @@ def over_tcp():
     servers.cut()
     whole = said + more + "".join(read(servers.said(it)).decode() for it in range(3))
     tell("what came over a link was frames", "is no frame" in whole, False)
-
-
-def ended_by(link, data):
-    """Whether a link ends, and nothing is answered, once this has come over it."""
-    try:
-        link.sendall(data)
-        return link.recv(1) == b""
-    except ConnectionResetError:
-        return True
-
-
-def strangers():
-    """What isn't a frame or a query ends its link, and is said; the next link is as any other."""
-    job_file("strange.fio", jobs=1, blocks=64, writes=64)
-    servers = Servers("strange", 1, jobs=1)
-    query = lambda kind, body=b"": b"FH\1" + bytes([kind]) + bytes(8) + struct.pack(">I", len(body)) + body
-    for what, data in (
-        ("another protocol", b"GET / HTTP/1.1\r\nHost: a\r\n\r\n"),
-        ("a frame that is too long", b"FC\1\1" + bytes(8) + b"\xff\xff\xff\xff"),
-        ("an unknown query", query(9)),
-        ("a query for too much", query(3, struct.pack(">IIII", 0, 0, 2000, BLOCK))),
-        ("a query that is cut", query(3, bytes(15))),
-    ):
-        with socket.socket(socket.AF_UNIX) as link:
-            link.connect("strange-0.note.socket")
-            link.settimeout(10)
-            tell(f"{what} ends the link", ended_by(link, data), True)
-    tell("and is said, where it is no frame", read(servers.said(0)).count(b"is no frame"), 2)
-    tell("then a fleet writes", fleet("write", "strange.fio", "--note", "strange.note", "--after-writes", "64", *servers.links())[0], 0)
-    servers.cut()
 
 
 class HostServers(Servers):

@@ -1,9 +1,14 @@
 """What pulls a fleet's trigger, what is said of its writes meanwhile, and the table at the end."""
 import json
 import re
+import sys
 
-from serving import Servers, fleet, job_file
+from serving import TOP, Servers, fleet, job_file
 from trying import LIAR, tell, tell_has
+
+sys.path.insert(0, f"{TOP}/harness/client")
+
+from queries import ENDS, ROW, Answers, query
 
 
 def rows(printed):
@@ -48,3 +53,7 @@ def triggers_by_run():
         tell(f"run {turn} has writes in flight, at most its depth", all(0 <= it["ordered"] - it["done"] == it["in flight"] <= 8 for it in told[:-1]), True)
         tell_has(f"run {turn}: why it was triggered", said, "writes are done")
     servers.cut()
+    answers = Answers(None)
+    tell("a server that hasn't answered", answers.ends_of(7), None)
+    answers.hear(query(ENDS, ROW.pack(0, 7, 5, 1) + ROW.pack(1, 6, 100, 2) + ROW.pack(2, 7, 30, 0)))
+    tell("jobs whose last run is another", [answers.ends_of(run) for run in (6, 7, 8)], [(100, 2), (35, 1), (0, 0)])

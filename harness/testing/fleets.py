@@ -205,7 +205,9 @@ def failing_target():
     servers = Servers("fail", 0, jobs=1)
     servers.count, servers.running = 1, [None]
     servers.start(0, {"LD_PRELOAD": LIAR, "LIE": "failed:20", "LIE_TARGET": "fail-0-0"})
-    status, _, _ = fleet("write", "fail.fio", "--note", "fail.note", "--after", "1", *servers.links())
+    status, printed, said = fleet("write", "fail.fio", "--note", "fail.note", "--after", "1.5", "--json", *servers.links())
+    done = json.loads(printed.splitlines()[0])["done"]
+    tell_has("which is told apart", said, f" {done} of 64 done, 1 failed\n")
     servers.cut()
     servers.start(0)
     words = ["check", "fail.fio", "--note", "fail.note"]

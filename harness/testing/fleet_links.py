@@ -1,0 +1,102 @@
+"""What comes over a fleet's links: frames, whole or not at all, and no part of one over a later
+link."""
+import glob
+import io
+import os
+import socket
+import struct
+import sys
+import time
+
+from serving import TOP, Servers, fleet, job_file
+from trying import BLOCK, HERE, read, tell
+
+sys.path.insert(0, f"{TOP}/harness/client")
+
+from links import Link
+from records import read_frame
+
+
+def frame(body, magic=b"FC", kind=1):
+    return magic + bytes([1, kind]) + bytes(8) + struct.pack(">I", len(body)) + body
+
+
+def frames_in(data):
+    """The frames that stand in these bytes, one behind the other, as a link reads them."""
+    stream, found = io.BytesIO(data), []
+    while one := read_frame(stream):
+        found.append(one)
+    return found
+
+
+def cut_links():
+    """Links that end at each byte of a frame, at a server, and at the client; the next ones begin with
+    a frame."""
+    whole, cut = frame(b"whole"), frame(b"another one", kind=2)
+    job_file("cut.fio", jobs=1, blocks=64, writes=64)
+    servers = Servers("cut", 0, jobs=1)
+    servers.count, servers.running = 1, [None]
+    servers.start(0, {"NODE": f"{HERE}/logging_node.py", "LOG": "cut.log"})
+    for length in range(1, len(cut)):
+        with socket.socket(socket.AF_UNIX) as link:
+            link.connect("cut-0.note.socket")
+            link.settimeout(3)
+            tell(f"a link that ends after {length} bytes of a frame", ended_by(link, whole + cut[:length], True), True)
+    until = time.monotonic() + 10
+    while read("cut.log").count(b"\n") < len(cut) and time.monotonic() < until:
+        time.sleep(0.01)
+    servers.cut()
+    told = [line.split() for line in read("cut.log").decode().splitlines()]
+    tell("what a server's node is given", [body for kind, *body in told if kind == "2"], [[whole.hex()]] * (len(cut) - 1))
+    tell("what the client's is", [frames_in(whole + cut[:length]) for length in range(len(cut) + 1)], [[whole]] * len(cut) + [[whole, cut]])
+    next_links()
+
+
+def next_links():
+    """The client's links end in the middle of a frame, again and again."""
+    os.mkdir("fronts")
+    link = Link("head -c 123 >fronts/$$; true", lambda _: None)
+    sent = [frame(b"%034d" % at) for at in range(300)]
+    for it in sent:
+        link.send(it)
+        time.sleep(0.005)
+    link.close()
+    time.sleep(0.3)
+    fronts = [data for data in map(read, glob.glob("fronts/*")) if len(data) == 123]
+    tell("links that ended in the middle of a frame", len(fronts) > 2, True)
+    tell("each began with a frame, and had whole ones", [data for data in fronts if not set(frames_in(data)) <= set(sent) or len(frames_in(data)) != 2], [])
+
+
+def ended_by(link, data, is_last=False):
+    """Whether a link ends, and nothing is answered, once this has come over it, and no more if it is
+    the last."""
+    try:
+        link.sendall(data)
+        if is_last:
+            link.shutdown(socket.SHUT_WR)
+        return link.recv(1) == b""
+    except ConnectionResetError:
+        return True
+    except TimeoutError:
+        return False
+
+
+def strangers():
+    """What isn't a frame or a query ends its link, and is said; the next link is as any other."""
+    job_file("strange.fio", jobs=1, blocks=64, writes=64)
+    servers = Servers("strange", 1, jobs=1)
+    for what, data in (
+        ("another protocol", b"GET / HTTP/1.1\r\nHost: a\r\n\r\n"),
+        ("another magic", frame(b"", b"fc")),
+        ("a frame that is too long", b"FC\1\1" + bytes(8) + b"\xff\xff\xff\xff"),
+        ("an unknown query", frame(b"", b"FH", 9)),
+        ("a query for too much", frame(struct.pack(">IIII", 0, 0, 2000, BLOCK), b"FH", 3)),
+        ("a query that is cut", frame(bytes(15), b"FH", 3)),
+    ):
+        with socket.socket(socket.AF_UNIX) as link:
+            link.connect("strange-0.note.socket")
+            link.settimeout(3)
+            tell(f"{what} ends the link", ended_by(link, data), True)
+    tell("and is said, where it is no frame", read(servers.said(0)).count(b"is no frame"), 3)
+    tell("then a fleet writes", fleet("write", "strange.fio", "--note", "strange.note", "--after-writes", "64", *servers.links())[0], 0)
+    servers.cut()
