@@ -24,10 +24,15 @@ struct teller {
     uint64_t run;
 };
 
+static struct ended ended_of(enum record_kind kind, uint64_t run, uint32_t job, uint64_t write) {
+    struct ended end = {.kind = kind};
+    put_64(end.name, run), put_32(end.name + 8, job), put_64(end.name + 12, write);
+    return end;
+}
+
 void tell_end(struct node *node, enum record_kind kind, uint64_t run, uint32_t job, uint64_t write) {
-    uint8_t name[WRITE_NAME];
-    put_64(name, run), put_32(name + 8, job), put_64(name + 12, write);
-    tell_node(node, kind, &(struct iovec){name, sizeof name}, 1);
+    struct ended end = ended_of(kind, run, job, write);
+    tell_ended(node, &end, 1);
 }
 
 /* Counts ends that the node was told. Those of a run before the last one come late: they don't
@@ -49,10 +54,12 @@ struct ends ends_of(struct lane *lane) {
 
 static void tell_these(void *whose, const struct ending *endings, size_t count) {
     const struct teller *teller = whose;
+    struct ended ends[MOST_OUT];
     size_t done = 0;
     for (size_t at = 0; at < count; at++) {
         done += endings[at].is_done;
-        tell_end(teller->lane->node, endings[at].is_done ? RECORD_DONE : RECORD_FAILED, teller->run, teller->lane->job, endings[at].write);
+        ends[at % MOST_OUT] = ended_of(endings[at].is_done ? RECORD_DONE : RECORD_FAILED, teller->run, teller->lane->job, endings[at].write);
+        if (at % MOST_OUT == MOST_OUT - 1 || at + 1 == count) tell_ended(teller->lane->node, ends, at % MOST_OUT + 1);
     }
     count_ends(teller->lane, teller->run, done, count - done);
 }

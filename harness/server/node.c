@@ -4,7 +4,9 @@
 #include "say.h"
 
 #include <errno.h>
+#include <fcntl.h>
 #include <inttypes.h>
+#include <poll.h>
 #include <stdio.h>
 #include <stdlib.h>
 #include <string.h>
@@ -22,21 +24,34 @@ static uint8_t *with_room(uint8_t *bytes, size_t *room, size_t wanted) {
     return bytes;
 }
 
-/* Gives the node what it is told, in one go what has come together. */
+/* Writes all bytes to a pipe that takes what it has room for, and is waited for. */
+static bool write_waiting(int to, const uint8_t *bytes, size_t length) {
+    while (length > 0) {
+        ssize_t count = write(to, bytes, length);
+        if (count > 0) bytes += count, length -= (size_t)count;
+        else if (errno == EAGAIN) poll(&(struct pollfd){to, POLLOUT, 0}, 1, -1);
+        else if (errno != EINTR) return false;
+    }
+    return true;
+}
+
+/* Gives the node what it has no room for at once, all that has come together in one go. */
 static void *give(void *given) {
     struct node *node = given;
     uint8_t *bytes = NULL;
     size_t room = 0;
     for (;;) {
         pthread_mutex_lock(&node->lock);
+        node->is_giving = false;
         while (!node->told_length) pthread_cond_wait(&node->changed, &node->lock);
         uint8_t *told = node->told;
         size_t length = node->told_length, told_room = node->told_room;
         node->told = bytes, node->told_room = room, node->told_length = 0;
+        node->is_giving = true;
         bytes = told, room = told_room;
         pthread_cond_broadcast(&node->changed);
         pthread_mutex_unlock(&node->lock);
-        if (write_all(node->child.to, bytes, length)) return NULL; /* (it has ended, and who hears it finds that) */
+        if (!write_waiting(node->child.to, bytes, length)) return NULL; /* (it has ended, and who hears it finds that) */
     }
 }
 
@@ -47,15 +62,16 @@ void start_node(struct node *node, uint64_t me) {
     snprintf(number, sizeof number, "%" PRIu64, me);
     *node = (struct node){.lock = PTHREAD_MUTEX_INITIALIZER, .changed = PTHREAD_COND_INITIALIZER};
     node->child = start_child(own ? own : name, (char *[]){name, word, number, NULL}, CHILD_READS | CHILD_WRITES);
+    if (fcntl(node->child.to, F_SETFL, O_NONBLOCK)) give_up_by_errno("pipe");
     int error = pthread_create(&thread, NULL, give, node);
     if (error) give_up("threads", strerror(error));
     pthread_detach(thread);
 }
 
-void tell_node(struct node *node, enum record_kind kind, const struct iovec *pieces, int count) {
+/* Puts a record behind what waits. The lock is held. */
+static void put_record(struct node *node, enum record_kind kind, const struct iovec *pieces, int count) {
     size_t length = 0;
     for (int at = 0; at < count; at++) length += pieces[at].iov_len;
-    pthread_mutex_lock(&node->lock);
     node->told = with_room(node->told, &node->told_room, node->told_length + RECORD_HEAD + length);
     uint8_t *end = node->told + node->told_length;
     node->told_length += RECORD_HEAD + length;
@@ -64,7 +80,30 @@ void tell_node(struct node *node, enum record_kind kind, const struct iovec *pie
     end += RECORD_HEAD;
     for (int at = 0; at < count; end += pieces[at++].iov_len)
         if (pieces[at].iov_len) memcpy(end, pieces[at].iov_base, pieces[at].iov_len);
-    pthread_cond_broadcast(&node->changed);
+}
+
+/* Gives the node what waits, as far as its pipe has room; the thread gives the rest. So the thread
+ * isn't woken for a record or two. The lock is held. */
+static void give_at_once(struct node *node) {
+    ssize_t count = node->is_giving ? 0 : write(node->child.to, node->told, node->told_length);
+    if (count > 0) {
+        node->told_length -= (size_t)count;
+        memmove(node->told, node->told + count, node->told_length);
+    }
+    if (node->told_length) pthread_cond_broadcast(&node->changed);
+}
+
+void tell_node(struct node *node, enum record_kind kind, const struct iovec *pieces, int count) {
+    pthread_mutex_lock(&node->lock);
+    put_record(node, kind, pieces, count);
+    give_at_once(node);
+    pthread_mutex_unlock(&node->lock);
+}
+
+void tell_ended(struct node *node, const struct ended *ends, size_t count) {
+    pthread_mutex_lock(&node->lock);
+    for (size_t at = 0; at < count; at++) put_record(node, ends[at].kind, &(struct iovec){(void *)(uintptr_t)ends[at].name, WRITE_NAME}, 1);
+    give_at_once(node);
     pthread_mutex_unlock(&node->lock);
 }
 
