@@ -1,3 +1,4 @@
 mod CommandLemmas
 pub mod Numbered
+pub mod UnreadLemmas
 pub mod Whole

@@ -2,7 +2,7 @@
 
 ghost use Rattle.std.specs.Prelude.{IfOk, IfSome};
 ghost use Rattle.std.specs.Io.Buffered.{writer_contents};
-ghost use Rattle.commands.specs.World.{AnswersScript, RefusesScript};
+ghost use Rattle.commands.specs.World.{AnswersScript, RefusesScript, RefusesUnread};
 
 use fc_base::Fault;
 use net_script::{ScriptFault, run_script};
@@ -35,13 +35,21 @@ pub fn run_world<R: Read, W: Write>(alloc: Global, reader: &mut R, writer: &mut 
     ensures { IfSome (R.remaining reader.old) (λ script. IfOk result
         (AnswersScript script (W.contents writer.old) (W.contents writer.new))) }
 {
-    let fault = match run_script(alloc, reader, writer) {
-        Ok(status) => return Ok(status),
-        Err(ScriptFault::ReadError) => Fault::ReadError,
-        Err(ScriptFault::NoMemory) => Fault::NoMemory,
-        Err(ScriptFault::WriteError) => return Err(ErrorKind::Other.into()),
-    };
-    refuse_script(writer, fault)
+    match run_script(alloc, reader, writer) {
+        Ok(status) => Ok(status),
+        Err(fault) => refuse_unread(writer, fault),
+    }
+}
+
+/// Writes why a script has no status, and answers the exit status. A write that failed is handed on.
+fn refuse_unread<W: Write>(writer: &mut W, fault: ScriptFault) -> io::Result<u8>
+    ensures { IfOk result (RefusesUnread fault (W.contents writer.old) (W.contents writer.new)) }
+{
+    match fault {
+        ScriptFault::ReadError => refuse_script(writer, Fault::ReadError),
+        ScriptFault::NoMemory => refuse_script(writer, Fault::NoMemory),
+        ScriptFault::WriteError => Err(ErrorKind::Other.into()),
+    }
 }
 
 /// Writes why a script does not run, and answers the exit status.
