@@ -42,14 +42,31 @@ def cut_links():
             link.connect("cut-0.note.socket")
             link.settimeout(3)
             tell(f"a link that ends after {length} bytes of a frame", ended_by(link, whole + cut[:length], True), True)
-    until = time.monotonic() + 10
-    while read("cut.log").count(b"\n") < len(cut) and time.monotonic() < until:
-        time.sleep(0.01)
+    tell("what a server's node is given", frames_given("cut.log", len(cut) - 1), [whole.hex()] * (len(cut) - 1))
     servers.cut()
-    told = [line.split() for line in read("cut.log").decode().splitlines()]
-    tell("what a server's node is given", [body for kind, *body in told if kind == "2"], [[whole.hex()]] * (len(cut) - 1))
     tell("what the client's is", [frames_in(whole + cut[:length]) for length in range(len(cut) + 1)], [[whole]] * len(cut) + [[whole, cut]])
     next_links()
+
+
+def frames_given(log, count):
+    """The frames that a logging node was given, once they are so many, in hexadecimal."""
+    until = time.monotonic() + 10
+    while read(log).count(b"\n2 ") < count and time.monotonic() < until:
+        time.sleep(0.05)
+    return [line.split()[1] for line in read(log).decode().splitlines() if line.startswith("2 ")]
+
+
+def full_pipes():
+    """More comes than the node's pipe has room for: it is given all of it, in its order."""
+    servers = Servers("full", 0, jobs=1)
+    servers.count, servers.running = 1, [None]
+    servers.start(0, {"NODE": f"{HERE}/logging_node.py", "LOG": "full.log"})
+    sent = [frame(b"%08d" % at * (1 + at % 300)) for at in range(4000)]
+    with socket.socket(socket.AF_UNIX) as link:
+        link.connect("full-0.note.socket")
+        link.sendall(b"".join(sent))
+        tell("a node that is slower than its link", frames_given("full.log", len(sent)) == [it.hex() for it in sent], True)
+    servers.cut()
 
 
 def next_links():

@@ -2,12 +2,14 @@
 import json
 import re
 import sys
+from types import SimpleNamespace
 
 from serving import TOP, Servers, fleet, job_file
 from trying import LIAR, tell, tell_has
 
 sys.path.insert(0, f"{TOP}/harness/client")
 
+from progress import Progress
 from queries import ENDS, ROW, Answers, query
 
 
@@ -53,7 +55,15 @@ def triggers_by_run():
         tell(f"run {turn} has writes in flight, at most its depth", all(0 <= it["ordered"] - it["done"] == it["in flight"] <= 8 for it in told[:-1]), True)
         tell_has(f"run {turn}: why it was triggered", said, "writes are done")
     servers.cut()
+    told_words()
+
+
+def told_words():
+    """What is said of servers, by what they have answered."""
     answers = Answers(None)
-    tell("a server that hasn't answered", answers.ends_of(7), None)
+    progress = Progress(SimpleNamespace(servers=[answers]), 7, lambda: None)
+    tell("a server that hasn't answered", progress.words(0, answers.ends_of(7), 1), "server 0 doesn't say")
     answers.hear(query(ENDS, ROW.pack(0, 7, 5, 1) + ROW.pack(1, 6, 100, 2) + ROW.pack(2, 7, 30, 0)))
     tell("jobs whose last run is another", [answers.ends_of(run) for run in (6, 7, 8)], [(100, 2), (35, 1), (0, 0)])
+    progress.step()
+    tell("and without fiocut", progress.words(0, answers.ends_of(7), 2), "server 0 18 writes a second, 35 done, 1 failed")
