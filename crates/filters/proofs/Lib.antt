@@ -1,11 +1,14 @@
 pub mod CommandLemmas
 pub mod WriteLemmas
 pub mod ReadLemmas
-pub mod NoteLemmas
 pub mod RunLemmas
+pub mod FrameLemmas
 pub mod ClientLemmas
 pub mod TakeLemmas
 pub mod OpenLemmas
 pub mod BeginLemmas
 pub mod CutLemmas
 pub mod ServerLemmas
+pub mod TurnLemmas
+pub mod ServerTakeLemmas
+pub mod ServerBeginLemmas

@@ -1,9 +1,9 @@
 -- A filter's run, record by record.
 use Rattle.std.proofs.Common.{◌≡◌, ℕ, ◌+◌, ◌-◌, ◌^◌, List, [], ◌∷◌, ◌++◌, Option, None, Some, IfSome, IfOk, Result, Ok, Err}
-use Rattle.std.proofs.Common.{refl, sym, ap, ◌∙◌, subst, inl, inr, arith}
+use Rattle.std.proofs.Common.{refl, sym, ap, ◌∙◌, subst, inr, arith}
 use Rattle.std.specs.Prelude.{OnOk}
-use Rattle.std.specs.Io.KnownBytes.{Appends, IsAtEnd, Keeps}
-use Rattle.std.proofs.KnownBytes.{Appends-nil, Appends-trans, Appends-kept, Consumes-nil, Consumes-trans}
+use Rattle.std.specs.Io.KnownBytes.{Appends, Keeps}
+use Rattle.std.proofs.KnownBytes.{Appends-nil, Appends-trans, Consumes-nil, Consumes-trans}
 use Rattle.fc_base.specs.declared.fault.Fault.{Fault}
 use Rattle.fc_base.specs.declared.fault.Fault.TheVariants as faults
 use Rattle.filters.specs.Records.{record_bytes, end_bytes}
@@ -16,10 +16,6 @@ kept_appends None mid text bytes kept appends = tt
 kept_appends (Some x) None text bytes kept appends = absurd kept
 kept_appends (Some x) (Some y) None bytes kept appends = absurd appends
 kept_appends (Some x) (Some y) (Some z) bytes kept appends = appends ∙ ap (λ l. l ++ bytes) kept
-
--- A flush appends nothing.
-pub kept_alone : (first text : Option (List ℕ)) → Keeps first text → Appends first text []
-kept_alone first text kept = Appends-kept first first text [] (Appends-nil first) kept
 
 -- No record more can be read.
 pub further : (count : ℕ) (rest : List ℕ) (fault : Fault) → HasNoRecord rest fault → GoesNoFurther count rest fault
@@ -38,13 +34,6 @@ module _ {O S : Type 0} (Takes : O → S → RecordParts → S → List ℕ → 
     written = kept_appends first mid text more.answer kept more.written;
     takes = more.takes;
   }
-
-  -- A step at the end of the input.
-  pub stops : (Before After : O → S → Type 0) (input new_input first mid text : Option (List ℕ)) → IsAtEnd input → Keeps first mid → Keeps mid text
-      → StepsBy Takes Before After input new_input first text (Some 0)
-  stops Before After None new_input first mid text end kept more = tt
-  stops Before After (Some rest) new_input first mid text end kept more =
-      ([], kept_appends first mid text [] kept (kept_alone mid text more), λ count. inl (end, refl, refl))
 
   -- A step that reads no record.
   pub fails : (Before After : O → S → Type 0) (input new_input first mid text : Option (List ℕ)) (fault : Fault) (status : ℕ)

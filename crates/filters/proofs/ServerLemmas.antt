@@ -16,6 +16,6 @@ use Rattle.filters.specs.ServerSteps.{NotHanded}
 pub not_handed : {T : Type 0} (note : T → Note) (o : Opening) (past : List FrameEntry) (e : Input) (sort : FaultSort) (fault : Fault) (old new : Server T)
     → (note old.core.notes).failures ≡ (note new.core.notes).failures
     → Faults (steps note o) past e sort fault old new → NotHanded note o past e sort fault old new
-not_handed note o past e sorts.Memory fault old new same l = l
+not_handed note o past e sorts.Memory fault old new same l = (l.same_note, l.unchanged)
 not_handed note o past e sorts.Save fault old new same f = absurd (omega (arith, f.cause, same))
 not_handed note o past e sorts.Refusal fault old new same r = r

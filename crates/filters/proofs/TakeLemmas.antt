@@ -32,14 +32,14 @@ use Rattle.filters.specs.ClientLives.{ClientAt, IsAt, TakesBody, TakesKind, at_b
 use Rattle.filters.specs.Steps.{AnswersBy}
 
 -- What is saved is the spelling that is due, where something is.
-saved_so : {D : Type 0} (addition : Option D) (spelled : List ℕ) (old new : Note) (saves : Bool) → saves ≡ is_some addition
+pub saved_so : {D : Type 0} (addition : Option D) (spelled : List ℕ) (old new : Note) (saves : Bool) → saves ≡ is_some addition
     → LeavesNote addition spelled old new → save_bytes saves new.bytes ≡ save_bytes (is_some addition) spelled
 saved_so None spelled old new saves is leaves = ap (λ b. save_bytes b new.bytes) is
 saved_so (Some x) spelled old new saves is leaves =
     ap (λ b. save_bytes b new.bytes) is ∙ ap (λ (n : Note). save_bytes true n.bytes) leaves
 
 -- The note is that, or the old one.
-note_so : {D : Type 0} (addition : Option D) (spelled was : List ℕ) (old new : Note) → LeavesNote addition spelled old new → old.bytes ≡ was
+pub note_so : {D : Type 0} (addition : Option D) (spelled was : List ℕ) (old new : Note) → LeavesNote addition spelled old new → old.bytes ≡ was
     → new.bytes ≡ note_with addition spelled was
 note_so None spelled was old new leaves is = ap (λ (n : Note). n.bytes) leaves ∙ is
 note_so (Some x) spelled was old new leaves is = ap (λ (n : Note). n.bytes) leaves

@@ -11,3 +11,5 @@ pub mod ClientLives
 pub mod ClientCuts
 pub mod ServerTells
 pub mod ServerSteps
+pub mod ServerLives
+pub mod ServerRuns

@@ -5,13 +5,13 @@ use Rattle.fc_base.specs.declared.fault.Fault.{Fault}
 use Rattle.fc_base.specs.declared.fault.FaultSort.{FaultSort}
 use Rattle.fc_base.specs.declared.fault.FaultSort.TheVariants as sorts
 use Rattle.disk_model.specs.Notes.{Note}
-use Rattle.disk_model.specs.Steps.{Answers, Lacks, Refuses}
+use Rattle.disk_model.specs.Steps.{Answers, Refuses}
 use Rattle.server_core.specs.declared.input.Input.{Input}
 use Rattle.server_core.specs.declared.server.Server.{Server}
 use Rattle.server_core.specs.History.{Opening}
 use Rattle.server_core.specs.Hearing.{FrameEntry}
 use Rattle.server_core.specs.FrameAnswers.{due}
-use Rattle.server_core.specs.FrameEnds.{steps}
+use Rattle.server_core.specs.FrameEnds.{StandsFor, steps}
 use Rattle.filters.specs.declared.server_filter.writes.Handed.{Handed}
 use Rattle.filters.specs.ClientSteps.{save_bytes}
 use Rattle.filters.specs.ServerTells.{outs_bytes}
@@ -26,7 +26,8 @@ pub record IsHanded {T : Type 0} (note : T → Note) (o : Opening) (past : List 
 -- by itself.
 abbrev pub NotHanded : {T : Type 0} → (T → Note) → Opening → List FrameEntry → Input → FaultSort
     → Fault → Server T → Server T → Type 0
-NotHanded note o past e sorts.Memory fault old new = Lacks (steps note o) past fault old new
+NotHanded note o past e sorts.Memory fault old new =
+    (note new.core.notes ≡ note old.core.notes) × StandsFor note new o past
 NotHanded note o past e sorts.Save fault old new = ⊥
 NotHanded note o past e sorts.Refusal fault old new = Refuses (steps note o) past e fault old new
 
@@ -35,6 +36,17 @@ abbrev pub HandsOut : {T : Type 0} → (T → Note) → Opening → List FrameEn
     → Server T → Result Handed Fault → Type 0
 HandsOut note o past e old new (Ok h) = IsHanded note o past e old new h
 HandsOut note o past e old new (Err fault) = NotHanded note o past e (sort_of fault) fault old new
+
+-- A body that can't be read leaves the server as it was, and so does one that names nothing open.
+abbrev pub NotTaken : {T : Type 0} → Fault → Server T → Server T → Result Handed Fault → Type 0
+NotTaken why old new (Ok h) = ⊥
+NotTaken why old new (Err fault) = (fault ≡ why) × (new ≡ old)
+
+-- What comes of what a record says.
+abbrev pub BodyHands : {T : Type 0} → (T → Note) → Opening → List FrameEntry → Result Input Fault
+    → Server T → Server T → Result Handed Fault → Type 0
+BodyHands note o past (Ok e) old new result = HandsOut note o past e old new result
+BodyHands note o past (Err why) old new result = NotTaken why old new result
 
 -- What is written for what is handed out over a note: the save first, then the frames, then the
 -- cut.

@@ -1,6 +1,7 @@
 //! The numbers in the bodies of records.
 
 ghost use Rattle.std.specs.Prelude.{◌≡◌};
+ghost use Rattle.filters.specs.ServerLives.{write_in};
 
 use fc_base::{Attempt, JobNo, RunNo, Seq, split_u32, split_u64};
 
@@ -13,7 +14,9 @@ pub(crate) struct WriteName {
 }
 
 /// The write of these 20 bytes; `None` where they are more or fewer.
-pub(crate) fn write_name(bytes: &[u8]) -> Option<WriteName> {
+pub(crate) fn write_name(bytes: &[u8]) -> Option<WriteName>
+    ensures { result ≡ write_in bytes.now }
+{
     if bytes.len() != 20 {
         return None;
     }

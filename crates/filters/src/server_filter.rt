@@ -1,7 +1,15 @@
 //! A server as a filter.
 
-ghost use Rattle.std.specs.Prelude.{◌≡◌, ◌<◌, length, IfOk};
+ghost use Rattle.std.specs.Prelude.{◌≡◌, ◌<◌, true, Some, [], length, OnOk, IfOk, IfErr, IfSome};
+ghost use Rattle.std.specs.Io.Buffered.{reader_remaining};
+ghost use Rattle.std.specs.Io.KnownBytes.{Appends};
 ghost use Rattle.fc_base.specs.declared.limits.TheConstants.{MAX_SERVERS, MAX_BLOCK_SIZE as BLOCK_SIZE};
+ghost use Rattle.filters.specs.Kept.{note_kept};
+ghost use Rattle.filters.specs.ClientSteps.{save_bytes};
+ghost use Rattle.filters.specs.Lives.{HasRun, RunsOver, Runs};
+ghost use Rattle.filters.specs.Steps.{AnswersBy, AnswersRecord, StepsBy, parts_of};
+ghost use Rattle.filters.specs.ServerLives.{IsAt, RefusesNote, ServerTakes, TakesCheck, TakesKind, Turns, server_filter};
+ghost use Rattle.filters.specs.ServerRuns.{OpenedOver, WritesHanded};
 
 mod checks;
 mod writes;
@@ -18,6 +26,7 @@ use server_core::{Server, WriteEnd};
 use std::alloc::{AllocError, Global};
 use std::io;
 use std::io::{BufReader, Read, Write};
+use writes::Handed;
 
 /// Serves as the server with this number, until the input ends, and answers the exit status: 0, or 2 where it
 /// can't go on, which the last record says.
@@ -33,26 +42,31 @@ pub fn run_server<R: Read, W: Write>(
     writer: &mut W,
 ) -> io::Result<u8>
     requires { me < MAX_SERVERS }
+    ensures { IfSome (reader_remaining R.remaining reader.old) (λ input. IfOk result
+        (Runs (server_filter me) input (W.contents writer.old) (W.contents writer.new))) }
 {
-    let note = match first_note(alloc, reader, writer)? {
-        Ok(note) => note,
+    match first_note(alloc, reader, writer)? {
+        Ok(note) => run_over(alloc, me, note, reader, writer),
+        Err(fault) => refuse(writer, fault),
+    }
+}
+
+/// Serves over this note.
+fn run_over<R: Read, W: Write>(
+    alloc: Global,
+    me: ServerNo,
+    note: Vec<u8>,
+    reader: &mut BufReader<R>,
+    writer: &mut W,
+) -> io::Result<u8>
+    requires { me < MAX_SERVERS }
+    ensures { IfSome (reader_remaining R.remaining reader.old) (λ behind. IfOk result
+        (RunsOver (server_filter me) note.items behind (W.contents writer.old)
+        (W.contents writer.new))) }
+{
+    let mut filter = match ServerFilter::open(alloc, me, note) {
+        Ok(filter) => filter,
         Err(fault) => return refuse(writer, fault),
-    };
-    let Ok(memory) = room_for_a_block(alloc) else {
-        return refuse(writer, Fault::NoMemory);
-    };
-    let Ok(checks) = no_checks(alloc) else {
-        return refuse(writer, Fault::NoMemory);
-    };
-    let server = match Server::restart(alloc, me, KeptNotes::new(note)) {
-        Ok(server) => server,
-        Err((_, fault)) => return refuse(writer, fault),
-    };
-    let mut filter = ServerFilter {
-        alloc,
-        server,
-        checks,
-        memory,
     };
     filter.save(writer)?;
     put_end(writer, Ok(()))?;
@@ -86,41 +100,133 @@ fn no_checks(alloc: Global) -> Result<Vec<Option<Checking>>, AllocError> {
 }
 
 impl ServerFilter {
+    /// The filter over this note, in which the next boot is saved.
+    fn open(alloc: Global, me: ServerNo, note: Vec<u8>) -> Result<ServerFilter, Fault>
+        requires { me < MAX_SERVERS }
+        ensures ok { IfOk result (λ filter. OpenedOver me note.items filter.server) }
+        ensures err { IfErr result (RefusesNote note.items) }
+    {
+        let Ok(memory) = room_for_a_block(alloc) else {
+            return Err(Fault::NoMemory);
+        };
+        let Ok(checks) = no_checks(alloc) else {
+            return Err(Fault::NoMemory);
+        };
+        match Server::restart(alloc, me, KeptNotes::new(note)) {
+            Ok(server) => Ok(ServerFilter {
+                alloc,
+                server,
+                checks,
+                memory,
+            }),
+            Err((_, fault)) => Err(fault),
+        }
+    }
+
     /// Answers records until there is none.
     fn run<R: Read, W: Write>(
         &mut self,
         reader: &mut BufReader<R>,
         writer: &mut W,
-    ) -> io::Result<u8> {
+    ) -> io::Result<u8>
+        ensures { IfSome (reader_remaining R.remaining reader.old) (λ input. IfOk result
+            (HasRun ServerTakes (IsAt note_kept self.old.server) [] input
+            (W.contents writer.old) (W.contents writer.new))) }
+    {
         for _ in 0..u64::MAX {
-            match next_record(self.alloc, reader, writer)? {
-                Ok(Some(record)) => self.answer(&record, writer)?,
-                Ok(None) => {
-                    writer.flush()?;
-                    return Ok(0);
-                }
-                Err(fault) => return refuse(writer, fault),
+            if let Some(status) = self.step(reader, writer)? {
+                return Ok(status);
             }
         }
         refuse(writer, Fault::TurnsSpent)
     }
 
+    /// Reads a record and answers it; the exit status where there is none.
+    fn step<R: Read, W: Write>(
+        &mut self,
+        reader: &mut BufReader<R>,
+        writer: &mut W,
+    ) -> io::Result<Option<u8>>
+        ensures { IfOk result
+            (StepsBy ServerTakes (IsAt note_kept self.old.server)
+            (IsAt note_kept self.new.server)
+            (reader_remaining R.remaining reader.old) (reader_remaining R.remaining reader.new)
+            (W.contents writer.old) (W.contents writer.new)) }
+    {
+        match next_record(self.alloc, reader, writer)? {
+            Ok(Some(came)) => {
+                self.answer(&came, writer)?;
+                Ok(None)
+            }
+            Ok(None) => {
+                writer.flush()?;
+                Ok(Some(0))
+            }
+            Err(fault) => {
+                let status = refuse(writer, fault)?;
+                Ok(Some(status))
+            }
+        }
+    }
+
     /// Writes the note that was saved.
-    fn save<W: Write>(&self, writer: &mut W) -> io::Result<()> {
+    fn save<W: Write>(&self, writer: &mut W) -> io::Result<()>
+        ensures { OnOk result (Appends (W.contents writer.old) (W.contents writer.new)
+            (save_bytes true (note_kept self.now.server.core.notes).bytes)) }
+    {
         put_record(writer, Said::Save, self.server.notes().as_slice())
     }
 
     /// Answers a record.
-    fn answer<W: Write>(&mut self, record: &Record, writer: &mut W) -> io::Result<()> {
-        let body = record.body.as_slice();
-        let answer = match Told::numbered(record.kind) {
-            Some(Told::Frame) => self.deliver(body),
-            Some(Told::Done) => self.end_write(write_name(body), WriteEnd::Done),
-            Some(Told::Failed) => self.end_write(write_name(body), WriteEnd::Failed),
-            Some(Told::Blocks) => return self.answer_blocks(body, writer),
-            Some(Told::Unread) => self.unread(body),
-            _ => Err(Fault::BadNotice),
-        };
+    fn answer<W: Write>(&mut self, came: &Record, writer: &mut W) -> io::Result<()>
+        ensures { OnOk result
+            (AnswersRecord ServerTakes (IsAt note_kept self.old.server)
+            (IsAt note_kept self.new.server) (parts_of came.now)
+            (W.contents writer.old) (W.contents writer.new)) }
+    {
+        let body = came.body.as_slice();
+        match Told::numbered(came.kind) {
+            Some(kind) => self.answer_kind(kind, body, writer),
+            None => put_end(writer, Err(Fault::BadNotice)),
+        }
+    }
+
+    /// Answers a record of this kind.
+    fn answer_kind<W: Write>(&mut self, kind: Told, body: &[u8], writer: &mut W) -> io::Result<()>
+        ensures { OnOk result
+            (AnswersBy (λ o at now answer. TakesKind o at (Some kind) body.now now answer)
+            (IsAt note_kept self.old.server) (IsAt note_kept self.new.server)
+            (W.contents writer.old) (W.contents writer.new)) }
+    {
+        match kind {
+            Told::Frame => {
+                let answer = self.deliver(body);
+                self.write_answer(answer, writer)
+            }
+            Told::Done => {
+                let answer = self.end_write(write_name(body), WriteEnd::Done);
+                self.write_answer(answer, writer)
+            }
+            Told::Failed => {
+                let answer = self.end_write(write_name(body), WriteEnd::Failed);
+                self.write_answer(answer, writer)
+            }
+            Told::Blocks => self.answer_blocks(body, writer),
+            Told::Unread => self.answer_unread(body, writer),
+            _ => put_end(writer, Err(Fault::BadNotice)),
+        }
+    }
+
+    /// Writes an answer and what follows from it, or why there is none.
+    fn write_answer<W: Write>(
+        &mut self,
+        answer: Result<Handed, Fault>,
+        writer: &mut W,
+    ) -> io::Result<()>
+        ensures { OnOk result
+            (WritesHanded answer self.old.server self.new.server
+            (W.contents writer.old) (W.contents writer.new)) }
+    {
         match answer {
             Ok(handed) => {
                 self.put_handed(&handed, writer)?;
@@ -132,8 +238,32 @@ impl ServerFilter {
     }
 
     /// Answers blocks that a check wants: by those that it wants behind them, or by what its report makes of it.
-    fn answer_blocks<W: Write>(&mut self, body: &[u8], writer: &mut W) -> io::Result<()> {
-        match self.blocks(body, writer)? {
+    fn answer_blocks<W: Write>(&mut self, body: &[u8], writer: &mut W) -> io::Result<()>
+        ensures { OnOk result
+            (AnswersBy TakesCheck (IsAt note_kept self.old.server) (IsAt note_kept self.new.server)
+            (W.contents writer.old) (W.contents writer.new)) }
+    {
+        let answer = self.blocks(body, writer)?;
+        self.write_end(answer, writer)
+    }
+
+    /// Answers that a block couldn't be read.
+    fn answer_unread<W: Write>(&mut self, body: &[u8], writer: &mut W) -> io::Result<()>
+        ensures { OnOk result
+            (AnswersBy TakesCheck (IsAt note_kept self.old.server) (IsAt note_kept self.new.server)
+            (W.contents writer.old) (W.contents writer.new)) }
+    {
+        let answer = self.unread(body, writer)?;
+        self.write_end(answer, writer)
+    }
+
+    /// Writes what follows from what was told of a check, and the end.
+    fn write_end<W: Write>(&mut self, answer: Result<(), Fault>, writer: &mut W) -> io::Result<()>
+        ensures { OnOk result
+            (AnswersBy TakesCheck (IsAt note_kept self.old.server) (IsAt note_kept self.new.server)
+            (W.contents writer.old) (W.contents writer.new)) }
+    {
+        match answer {
             Ok(()) => {
                 self.go_on(writer)?;
                 put_end(writer, Ok(()))
@@ -143,7 +273,11 @@ impl ServerFilter {
     }
 
     /// Orders all writes that can be, and wants the blocks of each check that may begin.
-    fn go_on<W: Write>(&mut self, writer: &mut W) -> io::Result<()> {
+    fn go_on<W: Write>(&mut self, writer: &mut W) -> io::Result<()>
+        ensures { OnOk result
+            (AnswersBy Turns (IsAt note_kept self.old.server) (IsAt note_kept self.new.server)
+            (W.contents writer.old) (W.contents writer.new)) }
+    {
         for job in 0..MAX_JOBS {
             self.order_all(JobNo(job), writer)?;
         }

@@ -1,5 +1,16 @@
 //! The checks of a server, whose blocks come as they are wanted.
 
+ghost use Rattle.std.specs.Prelude.{◌≡◌, ℕ, List, OnOk};
+ghost use Rattle.std.specs.Io.KnownBytes.{Appends};
+ghost use Rattle.server_core.specs.declared.input.Input.TheVariants.{CheckDone};
+ghost use Rattle.server_core.specs.History.{Opening};
+ghost use Rattle.server_core.specs.Hearing.{FrameEntry};
+ghost use Rattle.server_core.specs.FrameEnds.{StandsFor};
+ghost use Rattle.filters.specs.Kept.{note_kept};
+ghost use Rattle.filters.specs.ServerSteps.{HandsOut};
+ghost use Rattle.filters.specs.ServerLives.{IsAt, Turns, want_bytes};
+ghost use Rattle.filters.specs.Steps.{AnswersBy};
+
 use super::ServerFilter;
 use super::writes::Handed;
 use crate::checking::{Checking, Went};
@@ -14,7 +25,11 @@ use std::io::Write;
 impl ServerFilter {
     /// Begins the check of a job, where it may be made and isn't under way. Where memory is wanting it begins
     /// behind a later record.
-    pub(super) fn begin_check<W: Write>(&mut self, job: JobNo, writer: &mut W) -> io::Result<()> {
+    pub(super) fn begin_check<W: Write>(&mut self, job: JobNo, writer: &mut W) -> io::Result<()>
+        ensures { OnOk result
+            (AnswersBy Turns (IsAt note_kept self.old.server) (IsAt note_kept self.new.server)
+            (W.contents writer.old) (W.contents writer.new)) }
+    {
         match self.new_check(job) {
             Some(checking) => {
                 let boot = checking.boot;
@@ -72,7 +87,11 @@ impl ServerFilter {
         job: JobNo,
         went: Went,
         writer: &mut W,
-    ) -> io::Result<Result<(), Fault>> {
+    ) -> io::Result<Result<(), Fault>>
+        ensures { OnOk result
+            (AnswersBy Turns (IsAt note_kept self.old.server) (IsAt note_kept self.new.server)
+            (W.contents writer.old) (W.contents writer.new)) }
+    {
         match went {
             Went::On(checking) => {
                 want(writer, &checking)?;
@@ -90,7 +109,9 @@ impl ServerFilter {
     }
 
     /// Keeps a check that is under way.
-    fn keep(&mut self, checking: Checking) {
+    fn keep(&mut self, checking: Checking)
+        ensures { self.new.server ≡ self.old.server }
+    {
         if let Some(slot) = self.checks.get_mut(checking.job.0 as usize) {
             *slot = Some(checking);
         }
@@ -103,7 +124,11 @@ impl ServerFilter {
         attempt: Attempt,
         job: JobNo,
         report: CheckReport,
-    ) -> Result<Handed, Fault> {
+    ) -> Result<Handed, Fault>
+        ensures { (o : Opening) (past : List FrameEntry) → StandsFor note_kept self.old.server o past →
+            HandsOut note_kept o past (CheckDone boot attempt job report)
+            self.old.server self.new.server result }
+    {
         let told = Input::CheckDone {
             boot,
             attempt,
@@ -117,7 +142,9 @@ impl ServerFilter {
     }
 
     /// Takes out the check of a job in an attempt, where it wants this block next.
-    fn take_out(&mut self, attempt: Attempt, job: JobNo, block: u32) -> Option<Checking> {
+    fn take_out(&mut self, attempt: Attempt, job: JobNo, block: u32) -> Option<Checking>
+        ensures { self.new.server ≡ self.old.server }
+    {
         let slot = self.checks.get_mut(job.0 as usize)?;
         let fits = match slot {
             Some(now) => now.attempt == attempt && now.next == block,
@@ -131,7 +158,11 @@ impl ServerFilter {
         &mut self,
         body: &[u8],
         writer: &mut W,
-    ) -> io::Result<Result<(), Fault>> {
+    ) -> io::Result<Result<(), Fault>>
+        ensures { OnOk result
+            (AnswersBy Turns (IsAt note_kept self.old.server) (IsAt note_kept self.new.server)
+            (W.contents writer.old) (W.contents writer.new)) }
+    {
         let Some((name, bytes)) = block_name(body) else {
             return Ok(Err(Fault::BadNotice));
         };
@@ -148,24 +179,35 @@ impl ServerFilter {
     }
 
     /// Takes that the first block which a check wants couldn't be read.
-    pub(super) fn unread(&mut self, body: &[u8]) -> Result<Handed, Fault> {
+    pub(super) fn unread<W: Write>(
+        &mut self,
+        body: &[u8],
+        writer: &mut W,
+    ) -> io::Result<Result<(), Fault>>
+        ensures { OnOk result
+            (AnswersBy Turns (IsAt note_kept self.old.server) (IsAt note_kept self.new.server)
+            (W.contents writer.old) (W.contents writer.new)) }
+    {
         let Some((name, rest)) = block_name(body) else {
-            return Err(Fault::BadNotice);
+            return Ok(Err(Fault::BadNotice));
         };
         if !rest.is_empty() || name.block >= MAX_BLOCKS {
-            return Err(Fault::BadNotice);
+            return Ok(Err(Fault::BadNotice));
         }
         let Some(checking) = self.take_out(name.attempt, name.job, name.block) else {
-            return Err(Fault::NotInFlight);
+            return Ok(Err(Fault::NotInFlight));
         };
         let boot = checking.boot;
-        let report = checking.give_up(name.block);
-        self.report(boot, name.attempt, name.job, report)
+        let went = Went::Ended(checking.give_up(name.block));
+        self.go(boot, name.attempt, name.job, went, writer)
     }
 }
 
 /// Writes that blocks are wanted.
-fn want<W: Write>(writer: &mut W, checking: &Checking) -> io::Result<()> {
+fn want<W: Write>(writer: &mut W, checking: &Checking) -> io::Result<()>
+    ensures { OnOk result ((size : ℕ) × Appends (W.contents writer.old) (W.contents writer.new)
+        (want_bytes checking.now.attempt checking.now.job checking.now.next checking.now.count size)) }
+{
     let size = u32::try_from(checking.size).unwrap_or(0);
     put_head(writer, Said::Want, 24)?;
     put_u64(writer, checking.attempt.0)?;

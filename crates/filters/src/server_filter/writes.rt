@@ -3,13 +3,16 @@
 ghost use Rattle.std.specs.Prelude.{◌≡◌, List, length, OnOk};
 ghost use Rattle.std.specs.Io.KnownBytes.{Appends};
 ghost use Rattle.fc_base.specs.declared.limits.TheConstants.{MAX_BLOCK_SIZE};
+ghost use Rattle.messages.specs.FrameBytes.{frame_at, frame_faults};
 ghost use Rattle.server_core.specs.declared.input.Input.TheVariants.{Deliver, WriteDone};
 ghost use Rattle.server_core.specs.History.{Opening};
 ghost use Rattle.server_core.specs.Hearing.{FrameEntry};
 ghost use Rattle.server_core.specs.FrameEnds.{StandsFor};
 ghost use Rattle.filters.specs.Kept.{note_kept};
 ghost use Rattle.filters.specs.ServerTells.{order_name, outs_bytes};
-ghost use Rattle.filters.specs.ServerSteps.{HandsOut, handed_bytes};
+ghost use Rattle.filters.specs.ServerSteps.{HandsOut, BodyHands, handed_bytes};
+ghost use Rattle.filters.specs.ServerLives.{IsAt, Turns, frame_in, end_in, order_bytes, order_if};
+ghost use Rattle.filters.specs.Steps.{AnswersBy};
 
 use super::ServerFilter;
 use crate::kinds::Said;
@@ -34,7 +37,11 @@ pub(crate) struct Handed {
 
 impl ServerFilter {
     /// Takes the frame that these bytes are.
-    pub(super) fn deliver(&mut self, bytes: &[u8]) -> Result<Handed, Fault> {
+    pub(super) fn deliver(&mut self, bytes: &[u8]) -> Result<Handed, Fault>
+        ensures { (o : Opening) (past : List FrameEntry) → StandsFor note_kept self.old.server o past →
+            BodyHands note_kept o past (frame_in (frame_faults bytes.now) (frame_at bytes.now))
+            self.old.server self.new.server result }
+    {
         match decode_frame(self.alloc, bytes) {
             Ok(frame) => self.take(frame),
             Err(fault) => Err(fault),
@@ -57,7 +64,11 @@ impl ServerFilter {
         &mut self,
         name: Option<WriteName>,
         end: WriteEnd,
-    ) -> Result<Handed, Fault> {
+    ) -> Result<Handed, Fault>
+        ensures { (o : Opening) (past : List FrameEntry) → StandsFor note_kept self.old.server o past →
+            BodyHands note_kept o past (end_in o past end name)
+            self.old.server self.new.server result }
+    {
         let Some(WriteName { run, job, seq }) = name else {
             return Err(Fault::BadNotice);
         };
@@ -93,18 +104,54 @@ impl ServerFilter {
     }
 
     /// Orders the writes of a job until none can be.
-    pub(super) fn order_all<W: Write>(&mut self, job: JobNo, writer: &mut W) -> io::Result<()> {
+    pub(super) fn order_all<W: Write>(&mut self, job: JobNo, writer: &mut W) -> io::Result<()>
+        ensures { OnOk result
+            (AnswersBy Turns (IsAt note_kept self.old.server) (IsAt note_kept self.new.server)
+            (W.contents writer.old) (W.contents writer.new)) }
+    {
         for _ in 0..=MAX_DEPTH {
-            let Some(found) = self.server.run_job(job) else {
+            if !self.order_next(job, writer)? {
                 return Ok(());
-            };
-            let rec = found.rec;
-            match self.server.issue(job) {
-                Ok(Issue::Write(ticket)) => put_order(writer, &rec, &ticket, &mut self.memory)?,
-                _ => return Ok(()),
             }
         }
         Ok(())
+    }
+
+    /// Orders the next write of a job, and answers whether there was one.
+    fn order_next<W: Write>(&mut self, job: JobNo, writer: &mut W) -> io::Result<bool>
+        ensures { OnOk result
+            (AnswersBy Turns (IsAt note_kept self.old.server) (IsAt note_kept self.new.server)
+            (W.contents writer.old) (W.contents writer.new)) }
+    {
+        let Some(found) = self.server.run_job(job) else {
+            return Ok(false);
+        };
+        let rec = found.rec;
+        match self.server.issue(job) {
+            Ok(issue) => put_issue(writer, &rec, issue, &mut self.memory),
+            Err(_) => Ok(false),
+        }
+    }
+}
+
+/// Writes the order of a write, if that is what was answered, and answers whether it was.
+fn put_issue<W: Write>(
+    writer: &mut W,
+    rec: &JobRecord,
+    issue: Issue,
+    memory: &mut [u8],
+) -> io::Result<bool>
+    requires { length memory.old ≡ MAX_BLOCK_SIZE }
+    ensures room { length memory.new ≡ MAX_BLOCK_SIZE }
+    ensures order { OnOk result (Appends (W.contents writer.old) (W.contents writer.new)
+        (order_if issue rec.now)) }
+{
+    match issue {
+        Issue::Write(ticket) => {
+            put_order(writer, rec, &ticket, memory)?;
+            Ok(true)
+        }
+        _ => Ok(false),
     }
 }
 
@@ -117,6 +164,8 @@ fn put_order<W: Write>(
 ) -> io::Result<()>
     requires { length memory.old ≡ MAX_BLOCK_SIZE }
     ensures room { length memory.new ≡ MAX_BLOCK_SIZE }
+    ensures order { OnOk result (Appends (W.contents writer.old) (W.contents writer.new)
+        (order_bytes ticket.now rec.now)) }
 {
     let bytes = &mut memory[..rec.bs() as usize];
     fill_block(ticket.key, rec, ticket.seq, ticket.block, bytes);

@@ -1,12 +1,10 @@
-use Rattle.std.proofs.Common.{◌≡◌, ◌⊎◌, ℕ, List, [], ◌∷◌, ◌++◌, length, ap, sym, subst, refl, true≢false, arith, inl, inr, Option, Some, None, Err}
-use Rattle.std.specs.Prelude.{is_some, is_none, unwrap_or, slice_get}
+use Rattle.std.proofs.Common.{◌≡◌, ◌⊎◌, List, [], ◌∷◌, length, ap, sym, subst, refl, true≢false, arith, inl, inr, Option, Some, None, Err}
+use Rattle.std.specs.Prelude.{is_some, unwrap_or, slice_get}
 use Rattle.fc_base.specs.Fault.{sort_of}
-use Rattle.fc_base.specs.Faults.{when}
 use Rattle.fc_base.specs.declared.fault.Fault.{Fault}
-use Rattle.fc_base.specs.declared.fault.Fault.TheVariants.{FrameNoMemory, FrameBadField}
+use Rattle.fc_base.specs.declared.fault.Fault.TheVariants.{FrameNoMemory}
 use Rattle.disk_model.specs.Notes.{Note}
-use Rattle.messages.specs.FrameBytes.{frame_at, frame_faults, frame_limit, is_frame_kind}
-use Rattle.messages.specs.Packets.{header_faults}
+use Rattle.messages.specs.FrameBytes.{frame_at, frame_faults}
 use Rattle.messages.specs.declared.frame.Frame.{Frame}
 use Rattle.client_core.specs.declared.client.Client.{Client}
 use Rattle.client_core.specs.declared.input.Input.TheVariants.{Deliver}
@@ -16,18 +14,8 @@ use Rattle.client_core.specs.FrameEnds.{StandsFor}
 use Rattle.filters.specs.Kept.{note_kept}
 use Rattle.filters.specs.ClientAsks.{frame_or}
 use Rattle.filters.specs.ClientSteps.{BodyEnds, NotAnswered}
+use Rattle.filters.proofs.FrameLemmas.{says_one}
 use Rattle.filters.proofs.client_filter.ClientFilter.take.Goals as goal
-
--- A list that ends in a fault has one.
-has_one : (xs : List Fault) (f : Fault) → xs ++ f ∷ [] ≡ [] → ⊥
-has_one [] f is = absurd (omega (arith, ap length is))
-has_one (x ∷ xs) f is = absurd (omega (arith, ap length is))
-
--- Bytes without a fault say a frame.
-says_one : (bytes : List ℕ) → frame_faults bytes ≡ [] → frame_at bytes ≡ None → ⊥
-says_one bytes empty none =
-    has_one (header_faults is_frame_kind frame_limit bytes) FrameBadField
-    (subst (λ (a : Option Frame). header_faults is_frame_kind frame_limit bytes ++ when (is_none a) FrameBadField ≡ []) none empty)
 
 unread : {T : Type 0} (note : T → Note) (o : Opening) (past : List FrameEntry) (client : Client T) (fault : Fault) (faults : List Fault) (at : Option Frame)
     → ((fault ≡ FrameNoMemory) × (faults ≡ [])) ⊎ (slice_get faults 0 ≡ Some fault) → (faults ≡ [] → at ≡ None → ⊥) → StandsFor note client o past

@@ -1,0 +1,215 @@
+-- What is answered to a record by a server's filter, from how its server's calls end.
+use Rattle.std.proofs.Common.{length, length-append, ◌+◌, ◌≡◌, ℕ, List, [], ◌++◌, map, Option, None, Some, Result, Ok, Err, refl, sym, ap, ◌∙◌, subst, inl, inr, arith}
+use Rattle.std.specs.Prelude.{is_some}
+use Rattle.std.specs.Int.{w32, w64}
+use Rattle.std.specs.Io.KnownBytes.{Appends}
+use Rattle.std.proofs.KnownBytes.{Appends-trans}
+use Rattle.fc_base.specs.Layouts.{bytes_of}
+use Rattle.fc_base.specs.declared.record.JobParts.{JobParts}
+use Rattle.fc_base.specs.declared.report.ReportParts.{ReportParts}
+use Rattle.write_order.specs.Stamps.{written_bytes}
+use Rattle.engine.specs.declared.issue.Ticket.{Ticket}
+use Rattle.fc_base.specs.Fault.{sort_of}
+use Rattle.fc_base.specs.declared.fault.Fault.{Fault}
+use Rattle.fc_base.specs.declared.fault.FaultSort.{FaultSort}
+use Rattle.fc_base.specs.declared.fault.FaultSort.TheVariants as sorts
+use Rattle.disk_model.specs.Notes.{Note}
+use Rattle.disk_model.specs.Steps.{Ends, Faults}
+use Rattle.engine.specs.declared.issue.Issue.{Issue as Answer}
+use Rattle.job_file.specs.declared.job.Job.{Job}
+use Rattle.messages.specs.FrameBytes.{frame_spelling}
+use Rattle.server_core.specs.declared.input.Input.{Input}
+use Rattle.server_core.specs.declared.input.Input.TheVariants.{Issue, CheckDone}
+use Rattle.server_core.specs.declared.server.Server.{Server}
+use Rattle.server_core.specs.History.{Opening}
+use Rattle.server_core.specs.Note.{Says}
+use Rattle.server_core.specs.Answers.{shown_entries, run_job}
+use Rattle.server_core.specs.Hearing.{FrameEntry, packets_heard}
+use Rattle.server_core.specs.FrameAnswers.{due, frames, issue, answered_entry}
+use Rattle.server_core.specs.FrameEnds.{StandsFor, steps}
+use Rattle.server_core.specs.Handles.{outs_of_issue}
+use Rattle.server_core.specs.Memory.{TakesNone}
+use Rattle.filters.specs.declared.kept_notes.KeptNotes.{KeptNotes}
+use Rattle.filters.specs.declared.server_filter.writes.Handed.{Handed}
+use Rattle.filters.specs.Kept.{note_kept}
+use Rattle.filters.specs.declared.kinds.Said.TheVariants.{Order, Want}
+use Rattle.filters.specs.Kinds.{said_number}
+use Rattle.filters.specs.Records.{head_bytes, record_bytes, end_bytes}
+use Rattle.filters.specs.ClientSteps.{save_bytes, send_bytes}
+use Rattle.filters.specs.ServerTells.{act_bytes, order_name}
+use Rattle.filters.specs.ServerSteps.{IsHanded, NotHanded, HandsOut, BodyHands, handed_bytes}
+use Rattle.filters.specs.ServerLives.{ServerAt, IsAt, Asks, Tells, order_bytes, want_bytes, handed_by, TakesTurn, TakesBody, TakesBy, at_by, new_note, noted, handed, order_if, ordered, ordered_by}
+use Rattle.filters.specs.Steps.{AnswersBy}
+use Rattle.filters.specs.ServerRuns.{WritesHanded}
+use Rattle.filters.proofs.TakeLemmas.{saved_so, note_so}
+
+-- What is written of what is handed out is what the list says.
+handed_is : {T : Type 0} (note : T → Note) (o : Opening) (past : List FrameEntry) (e : Input) (old new : Server T) (h : Handed)
+    → IsHanded note o past e old new h → handed_bytes (note new.core.notes).bytes h ≡ handed o past e
+handed_is note o past e old new h is =
+    ap (λ s. s ++ (send_bytes h.outs.frames ++ act_bytes h.outs.act))
+    (saved_so (due o past e) (new_note o past e) (note old.core.notes) (note new.core.notes) h.saves is.saves is.answers.leaves)
+    ∙ ap (λ f. save_bytes (is_some (due o past e)) (new_note o past e) ++ (send_bytes f ++ act_bytes h.outs.act)) is.answers.sends.frames_are
+    ∙ ap (λ a. save_bytes (is_some (due o past e)) (new_note o past e)
+    ++ (send_bytes (map frame_spelling (frames o past (answered_entry o past e))) ++ act_bytes a))
+    is.answers.sends.act_is
+
+-- The server behind an input that is taken.
+at_taken : {T : Type 0} (note : T → Note) (o : Opening) (at : ServerAt) (e : Input) (old new : Server T) (h : Handed)
+    → (note old.core.notes).bytes ≡ at.note → IsHanded note o at.list e old new h → IsAt note new o (at_by None o at e)
+at_taken note o at e old new h was is = (
+  is.answers.stands,
+  note_so (due o at.list e) (new_note o at.list e) at.note (note old.core.notes) (note new.core.notes) is.answers.leaves was,
+)
+
+-- A body that isn't taken.
+not_taken : {T : Type 0} (note : T → Note) (o : Opening) (at : ServerAt) (e : Input) (old new : Server T) (sort : FaultSort) (fault : Fault)
+    → sort_of fault ≡ sort → (note old.core.notes).bytes ≡ at.note → NotHanded note o at.list e sort fault old new
+    → (now : ServerAt) × IsAt note new o now × TakesBody o at (Ok e) now (end_bytes (Err fault))
+not_taken note o at e old new sorts.Memory fault is was (same, stands) =
+    (at, (stands, ap (λ (n : Note). n.bytes) same ∙ was), inr (fault, is, (refl, refl)))
+not_taken note o at e old new sorts.Save fault is was ends = absurd ends
+not_taken note o at e old new sorts.Refusal fault is was r = (
+  at_by (Some fault) o at e,
+  (r.stands, ap (λ (n : Note). n.bytes) r.same_note ∙ was),
+  inl (subst (λ w. TakesBy w o at e (at_by (Some fault) o at e) (end_bytes (Err fault))) (sym r.why) (refl, refl)),
+)
+
+-- What is made of a body, by how the call ends and what is written of it.
+pub body_taken : (asked : Opening → List FrameEntry → Result Input Fault) (old mid new : Server KeptNotes) (result : Result Handed Fault)
+    (first text : Option (List ℕ))
+    → ((o : Opening) (past : List FrameEntry) → StandsFor note_kept old o past → BodyHands note_kept o past (asked o past) old mid result)
+    → WritesHanded result mid new first text
+    → AnswersBy (λ o at now answer. TakesBody o at (asked o at.list) now answer) (IsAt note_kept old) (IsAt note_kept new) first text
+body_taken asked old mid new (Ok h) first text hands (written, wrote, turns) = record {
+  answer = handed_bytes (note_kept mid.core.notes).bytes h ++ (written ++ end_bytes (Ok tt));
+  written = wrote;
+  takes = λ o at stands. by o at stands.1 (asked o at.list) (hands o at.list stands.0);
+}
+  where
+    by : (o : Opening) (at : ServerAt) → (note_kept old.core.notes).bytes ≡ at.note → (a : Result Input Fault) → BodyHands note_kept o at.list a old mid (Ok h)
+        → (now : ServerAt) × IsAt note_kept new o now × TakesBody o at a now (handed_bytes (note_kept mid.core.notes).bytes h ++ (written ++ end_bytes (Ok tt)))
+    by o at was (Ok e) is =
+        let t = turns o (at_by None o at e) (at_taken note_kept o at e old mid h was is) in (
+          t.0,
+          t.1,
+          inl (subst (λ w. TakesBy w o at e t.0 (handed_bytes (note_kept mid.core.notes).bytes h ++ (written ++ end_bytes (Ok tt)))) (sym is.answers.free)
+              (record {
+                written = written;
+                turns = t.2;
+                all = ap (λ l. l ++ (written ++ end_bytes (Ok tt))) (handed_is note_kept o at.list e old mid h is);
+              })),
+        )
+    by o at was (Err why) is = absurd is
+body_taken asked old mid new (Err fault) first text hands (wrote, same) = record {
+  answer = end_bytes (Err fault);
+  written = wrote;
+  takes = λ o at stands. subst (λ (s : Server KeptNotes). (now : ServerAt) × IsAt note_kept s o now × TakesBody o at (asked o at.list) now (end_bytes (Err fault)))
+      (sym same) (by o at stands (asked o at.list) (hands o at.list stands.0));
+}
+  where
+    by : (o : Opening) (at : ServerAt) → IsAt note_kept old o at → (a : Result Input Fault) → BodyHands note_kept o at.list a old mid (Err fault)
+        → (now : ServerAt) × IsAt note_kept mid o now × TakesBody o at a now (end_bytes (Err fault))
+    by o at stands (Ok e) is = not_taken note_kept o at e old mid (sort_of fault) fault refl stands.1 is
+    by o at stands (Err why) (is, kept) =
+        (at, subst (λ (s : Server KeptNotes). IsAt note_kept s o at) (sym kept) stands, (refl, ap (λ (f : Fault). end_bytes (Err f)) is))
+
+-- What is written for what a job answers.
+abbrev pub written_for : Result Answer Fault → Job → List ℕ
+written_for (Ok answer) job = order_if answer job.rec
+written_for (Err fault) job = []
+
+-- A job was asked for its next write.
+pub asked_turn : (o : Opening) (at : ServerAt) (j : ℕ) (job : Job) (old new : Server KeptNotes) (result : Result Answer Fault) → IsAt note_kept old o at
+    → Ends (steps note_kept o) at.list (Issue j) old new (outs_of_issue result) → TakesNone result
+    → Some job ≡ run_job o (shown_entries (packets_heard o at.list)) j
+    → (now : ServerAt) × IsAt note_kept new o now × TakesTurn o at (Asks j) now (written_for result job)
+asked_turn o at j job old new (Ok answer) (stands, was) a none there = (
+  at_by None o at (Issue j),
+  (
+    a.stands,
+    note_so (due o at.list (Issue j)) (new_note o at.list (Issue j)) at.note (note_kept old.core.notes) (note_kept new.core.notes) a.leaves was,
+  ),
+  (
+    sym (ap (λ w. at_by w o at (Issue j)) a.free),
+    (ap (λ i. ordered i (Some job)) a.sends.issue_is ∙ ap (ordered (issue o at.list (Issue j))) there)
+        ∙ sym (ap (λ w. ordered_by w o at.list j) a.free),
+  ),
+)
+asked_turn o at j job old new (Err fault) (stands, was) ends none there = by (sort_of fault) ends
+  where
+    by : (sort : FaultSort) → Faults (steps note_kept o) at.list (Issue j) sort fault old new
+        → (now : ServerAt) × IsAt note_kept new o now × TakesTurn o at (Asks j) now []
+    by sorts.Memory l = absurd (none l.why)
+    by sorts.Save f = absurd (omega (arith, f.cause))
+    by sorts.Refusal r = (
+      at_by (Some fault) o at (Issue j),
+      (r.stands, ap (λ (n : Note). n.bytes) r.same_note ∙ was),
+      (sym (ap (λ w. at_by w o at (Issue j)) r.why), sym (ap (λ w. ordered_by w o at.list j) r.why)),
+    )
+
+-- The note of a server says what its list does.
+pub note_says : {T : Type 0} (note : T → Note) (server : Server T) (o : Opening) (at : ServerAt) → IsAt note server o at → Says at.note (noted o at.list)
+note_says note server o at (stands, is) = subst (λ bytes. Says bytes (noted o at.list)) is stands.core.durable
+
+-- What is written where a report was told.
+abbrev pub handed_if : Result Handed Fault → List ℕ → List ℕ
+handed_if (Ok h) note = handed_bytes note h
+handed_if (Err fault) note = []
+
+-- A report was told.
+pub told_turn : (o : Opening) (at : ServerAt) (boot a j : ℕ) (report : ReportParts) (old new : Server KeptNotes) (result : Result Handed Fault)
+    → IsAt note_kept old o at → HandsOut note_kept o at.list (CheckDone boot a j report) old new result
+    → (now : ServerAt) × IsAt note_kept new o now × TakesTurn o at (Tells boot a j report) now (handed_if result (note_kept new.core.notes).bytes)
+told_turn o at boot a j report old new (Ok h) (stands, was) is =
+    let e = CheckDone boot a j report in (
+      at_by None o at e,
+      at_taken note_kept o at e old new h was is,
+      inl (
+        sym (ap (λ w. at_by w o at e) is.answers.free),
+        handed_is note_kept o at.list e old new h is ∙ sym (ap (λ w. handed_by w o at.list e) is.answers.free),
+      ),
+    )
+told_turn o at boot a j report old new (Err fault) (stands, was) ends = by (sort_of fault) ends
+  where
+    by : (sort : FaultSort) → NotHanded note_kept o at.list (CheckDone boot a j report) sort fault old new
+        → (now : ServerAt) × IsAt note_kept new o now × TakesTurn o at (Tells boot a j report) now []
+    by sorts.Memory (same, stays) = (at, (stays, ap (λ (n : Note). n.bytes) same ∙ was), inr (refl, refl))
+    by sorts.Save f = absurd f
+    by sorts.Refusal r = (
+      at_by (Some fault) o at (CheckDone boot a j report),
+      (r.stands, ap (λ (n : Note). n.bytes) r.same_note ∙ was),
+      inl (
+        sym (ap (λ w. at_by w o at (CheckDone boot a j report)) r.why),
+        sym (ap (λ w. handed_by w o at.list (CheckDone boot a j report)) r.why),
+      ),
+    )
+
+-- ---- orders, and blocks that are wanted
+
+length-name : (ticket : Ticket) → length (order_name ticket.key ticket.seq ticket.block) ≡ 24
+unfolding bytes_of
+length-name ticket = refl
+
+-- An order in its parts.
+pub order_written : (ticket : Ticket) (job : JobParts) (block : List ℕ) (len : ℕ) (old first second new : Option (List ℕ)) → len ≡ 24 + length block
+    → Appends old first (head_bytes (said_number Order) len) → Appends first second (order_name ticket.key ticket.seq ticket.block) → Appends second new block
+    → block ≡ written_bytes ticket.key job ticket.seq ticket.block → Appends old new (order_bytes ticket job)
+order_written ticket job block len old first second new is head name wrote same =
+    let body = order_name ticket.key ticket.seq ticket.block ++ block in
+    let all : length body ≡ len = omega (arith, is, length-append (order_name ticket.key ticket.seq ticket.block) block, length-name ticket) in
+    subst (λ b. Appends old new (record_bytes (said_number Order) (order_name ticket.key ticket.seq ticket.block ++ b))) same
+    (subst (λ n. Appends old new (head_bytes (said_number Order) n ++ body)) (sym all)
+    (Appends-trans old first new (head_bytes (said_number Order) len) body head
+    (Appends-trans first second new (order_name ticket.key ticket.seq ticket.block) block name wrote)))
+
+-- Wanted blocks in their parts.
+pub want_written : (a j next count size : ℕ) (t0 t1 t2 t3 t4 t5 t6 : Option (List ℕ)) → Appends t0 t1 (head_bytes (said_number Want) 24)
+    → Appends t1 t2 (bytes_of w64 a) → Appends t2 t3 (bytes_of w32 j) → Appends t3 t4 (bytes_of w32 next) → Appends t4 t5 (bytes_of w32 count)
+    → Appends t5 t6 (bytes_of w32 size) → Appends t0 t6 (want_bytes a j next count size)
+unfolding bytes_of
+want_written a j next count size t0 t1 t2 t3 t4 t5 t6 head p q r s t =
+    Appends-trans t0 t1 t6 (head_bytes (said_number Want) 24) _ head
+    (Appends-trans t1 t2 t6 (bytes_of w64 a) _ p
+    (Appends-trans t2 t3 t6 (bytes_of w32 j) _ q
+    (Appends-trans t3 t4 t6 (bytes_of w32 next) _ r (Appends-trans t4 t5 t6 (bytes_of w32 count) (bytes_of w32 size) s t))))
