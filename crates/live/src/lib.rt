@@ -10,8 +10,10 @@
 
 mod ends;
 mod file_trigger;
+mod limits;
 mod run;
 mod texts;
 
 pub use file_trigger::FileTrigger;
+pub use limits::limits_are_as_documented;
 pub use run::{MAX_INPUT, run_live};
