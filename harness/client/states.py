@@ -8,7 +8,6 @@ class State:
     def __init__(self, data):
         self.data = data
         self.run, self.server, self.job = struct.unpack(">QII", data[4:20])
-        self.is_stamped = data[21] == 0
         self.block_size, self.blocks, self.total = struct.unpack(">IIQ", data[24:40])
         self.issued = struct.unpack(">Q", data[56:64])[0]
         floor, *marks = struct.unpack(">5Q", data[96:136])

@@ -54,7 +54,7 @@ fn answer_by<R: AllocGlobal + Input, W: Write>(
     match request {
         Request::Write { run, job } => write_job(alloc, run, job, &mut reader, writer),
         Request::Check { run, job } => check_job(alloc, run, job, &mut reader, writer),
-        Request::Map { run, job, unit } => map_job(alloc, run, job, unit, &mut reader, writer),
+        Request::Map { key, unit } => map_job(alloc, key, unit, &mut reader, writer),
     }
 }
 

@@ -1,8 +1,8 @@
 -- The words of a command line, one by one.
-use Rattle.std.proofs.Common.{◌≡◌, ◌∙◌, ap, subst, ℕ, arith, List, [], ◌∷◌, length, get_or, map, codes, take, drop, sym}
+use Rattle.std.proofs.Common.{◌≡◌, ◌∙◌, ap, subst, refl, ℕ, arith, List, [], ◌∷◌, length, get_or, map, codes, take, drop, sym, Option, Some}
 use Rattle.std.proofs.lemmas.List.{drop-map, take-map}
 use Rattle.program_io.specs.Words.{IsNumber}
-use Rattle.targets.specs.Command.{AreUnitWords, AreWords, IsUnit}
+use Rattle.targets.specs.Command.{AreMapWords, AreOptions, AreWords, IsOption, option_words}
 
 -- a word that is known by its text
 at_place : {S : Type 0} (text : S → List ℕ) (P : List ℕ → Type 0) (x a : S) (word : List ℕ) → a ≡ x → word ≡ text a → P word → P (text x)
@@ -22,21 +22,36 @@ four_words text (w ∷ x ∷ y ∷ z ∷ []) a b d word first second command n m
 )
 four_words text (w ∷ x ∷ y ∷ z ∷ v ∷ vs) a b d word first second command n m run job l p q r s t u e f g h i = absurd (omega arith)
 
-pub two_words : {S : Type 0} (text : S → List ℕ) (ws : List S) (a b : S) (word number : List ℕ) (n unit : ℕ) → length ws ≡ 2
-    → a ≡ get_or ws 0 a → b ≡ get_or ws 1 b → word ≡ text a → number ≡ text b → word ≡ codes "--unit" → IsNumber number n → n ≡ unit
-    → IsUnit (map text ws) unit
-two_words text [] a b word number n unit l p q r s e f g = absurd (omega arith)
-two_words text (w ∷ []) a b word number n unit l p q r s e f g = absurd (omega arith)
-two_words text (w ∷ x ∷ []) a b word number n unit l p q r s e f g = (
-  at_place text (λ said. said ≡ codes "--unit") w a word p r e,
-  at_place text (λ said. IsNumber said unit) x b number q s (f.0, f.1 ∙ g),
+pub two_words : {S : Type 0} (text : S → List ℕ) (ws : List S) (a b : S) (word number name : List ℕ) (n value : ℕ) → length ws ≡ 2
+    → a ≡ get_or ws 0 a → b ≡ get_or ws 1 b → word ≡ text a → number ≡ text b → word ≡ name → IsNumber number n → n ≡ value
+    → IsOption name (Some value) (map text ws)
+two_words text [] a b word number name n value l p q r s e f g = absurd (omega arith)
+two_words text (w ∷ []) a b word number name n value l p q r s e f g = absurd (omega arith)
+two_words text (w ∷ x ∷ []) a b word number name n value l p q r s e f g = (
+  at_place text (λ said. said ≡ name) w a word p r e,
+  at_place text (λ said. IsNumber said value) x b number q s (f.0, f.1 ∙ g),
 )
-two_words text (w ∷ x ∷ y ∷ ys) a b word number n unit l p q r s e f g = absurd (omega arith)
+two_words text (w ∷ x ∷ y ∷ ys) a b word number name n value l p q r s e f g = absurd (omega arith)
 
--- The words of a map, and behind them those of a unit.
-pub six_words : {S : Type 0} (text : S → List ℕ) (ws front back : List S) (run job unit : ℕ) → front ≡ take 4 ws → back ≡ drop 4 ws
-    → AreWords (map text front) (codes "map") run job → IsUnit (map text back) unit → AreUnitWords (map text ws) run job unit
-six_words text ws front back run job unit first second are is = (
+pub no_words : {S : Type 0} (text : S → List ℕ) (ws : List S) → length ws ≡ 0 → map text ws ≡ []
+no_words text [] l = refl
+no_words text (w ∷ ws) l = absurd (omega arith)
+
+-- The words of a server, and behind them those of a unit.
+pub two_options : {S : Type 0} (text : S → List ℕ) (ws front back : List S) (server unit : Option ℕ) (behind : ℕ) → behind ≡ option_words server
+    → front ≡ take behind ws → back ≡ drop behind ws → IsOption (codes "--server") server (map text front)
+    → IsOption (codes "--unit") unit (map text back) → AreOptions (map text ws) server unit
+two_options text ws front back server unit behind count first second server_is unit_is = record {
+  server_is = subst (λ l. IsOption (codes "--server") server l)
+      (ap (map text) (first ∙ ap (λ n. take n ws) count) ∙ sym (take-map text (option_words server) ws)) server_is;
+  unit_is = subst (λ l. IsOption (codes "--unit") unit l)
+      (ap (map text) (second ∙ ap (λ n. drop n ws) count) ∙ sym (drop-map text (option_words server) ws)) unit_is;
+}
+
+-- The words of a map, and behind them those of its options.
+pub map_words : {S : Type 0} (text : S → List ℕ) (ws front back : List S) (run job : ℕ) (server unit : Option ℕ) → front ≡ take 4 ws → back ≡ drop 4 ws
+    → AreWords (map text front) (codes "map") run job → AreOptions (map text back) server unit → AreMapWords (map text ws) run job server unit
+map_words text ws front back run job server unit first second are is = (
   subst (λ l. AreWords l (codes "map") run job) (ap (map text) first ∙ sym (take-map text 4 ws)) are,
-  subst (λ l. IsUnit l unit) (ap (map text) second ∙ sym (drop-map text 4 ws)) is,
+  subst (λ l. AreOptions l server unit) (ap (map text) second ∙ sym (drop-map text 4 ws)) is,
 )

@@ -20,7 +20,7 @@ use Rattle.targets.specs.Checks.{Checks}
 use Rattle.targets.specs.Texts.{IsText}
 use Rattle.targets.specs.Runs.{Runs}
 use Rattle.targets.specs.Jobs.{key_of, BeginsWithJob, FinishesRun, GivesNoJob, ReadsJob, Refuses, RunsRest, WritesJob}
-use Rattle.targets.specs.Reports.{CannotCheck, ChecksInput, HasNoState, IsStateIn}
+use Rattle.targets.specs.Reports.{CannotCheck, ChecksInput, ChecksJob, HasNoState, IsStateIn}
 
 -- A text that was read of known bytes leaves known ones.
 text_leaves : (most : ℕ) (input : List ℕ) (new : Option (List ℕ)) (text : List ℕ) → IsText most (Some input) new text → (rest : List ℕ) × (new ≡ Some rest)
@@ -110,13 +110,13 @@ state_leaves input new None is = text_leaves MAX_STATE input new [] is
 state_leaves input new (Some state) (bytes, is, few, answers) = text_leaves MAX_STATE input new bytes is
 
 -- What is checked is the input's.
-pub checked : (run number : ℕ) (first rest target : Option (List ℕ)) (asked : Asked) (state : Option State) (key : Key) (answer : Result ReportParts Fault)
-    → ReadsJob number first rest asked → IsStateIn rest target state → key ≡ key_of run number
+pub checked : (key : Key) (first rest target : Option (List ℕ)) (asked : Asked) (state : Option State) (answer : Result ReportParts Fault)
+    → ReadsJob key.job first rest asked → IsStateIn rest target state
     → IfSome target (λ bytes. Checks key asked.rec state asked.fatal bytes answer)
-    → IfSome first (λ input. ChecksInput run number input answer)
-checked run number None rest target asked state key answer reads is same checks = tt
-checked run number (Some input) rest target asked state key answer reads is same checks =
-    let at = begins_with number input rest asked reads in
+    → IfSome first (λ input. ChecksInput key input answer)
+checked key None rest target asked state answer reads is checks = tt
+checked key (Some input) rest target asked state answer reads is checks =
+    let at = begins_with key.job input rest asked reads in
     let of_it : IsStateIn (Some at.behind) target state = subst (λ r. IsStateIn r target state) at.leaves is in
     let left = state_leaves at.behind target state of_it in
     let known : Checks key asked.rec state asked.fatal left.0 answer =
@@ -128,26 +128,34 @@ checked run number (Some input) rest target asked state key answer reads is same
       target = left.0;
       begins = at.begins;
       is_state = subst (λ t. IsStateIn (Some at.behind) t state) left.1 of_it;
-      checks = subst (λ f. Checks (key_of run number) at.job.rec state f left.0 answer) at.fatal
-          (subst (λ j. Checks (key_of run number) j state asked.fatal left.0 answer) at.rec
-          (subst (λ k. Checks k asked.rec state asked.fatal left.0 answer) same known));
+      checks = subst (λ f. Checks key at.job.rec state f left.0 answer) at.fatal
+          (subst (λ j. Checks key j state asked.fatal left.0 answer) at.rec known);
     }
 
 -- A state that isn't there.
-pub no_state : (run number : ℕ) (first rest : Option (List ℕ)) (asked : Asked) (fault : Fault) (refusal : PrintedRefusal) → ReadsJob number first rest asked
+pub no_state : (key : Key) (first rest : Option (List ℕ)) (asked : Asked) (fault : Fault) (refusal : PrintedRefusal) → ReadsJob key.job first rest asked
     → HasNoState rest fault → refusal ≡ plain fault
-    → IfSome first (λ input. CannotCheck run number input refusal)
-no_state run number None rest asked fault refusal reads none is = tt
-no_state run number (Some input) rest asked fault refusal reads none is =
-    let at = begins_with number input rest asked reads in
+    → IfSome first (λ input. CannotCheck key input refusal)
+no_state key None rest asked fault refusal reads none is = tt
+no_state key (Some input) rest asked fault refusal reads none is =
+    let at = begins_with key.job input rest asked reads in
     inr (inl (at.job, at.behind, fault, at.begins, subst (λ r. HasNoState r fault) at.leaves none, is))
 
 -- A check that is refused.
-pub not_checked : (run number : ℕ) (first : Option (List ℕ)) (fault : Fault) (refusal : PrintedRefusal)
-    → IfSome first (λ input. ChecksInput run number input (Err fault)) → refusal ≡ plain fault
-    → IfSome first (λ input. CannotCheck run number input refusal)
-not_checked run number None fault refusal checks is = tt
-not_checked run number (Some input) fault refusal checks is = inr (inr (fault, checks, is))
+pub not_checked : (key : Key) (first : Option (List ℕ)) (fault : Fault) (refusal : PrintedRefusal)
+    → IfSome first (λ input. ChecksInput key input (Err fault)) → refusal ≡ plain fault
+    → IfSome first (λ input. CannotCheck key input refusal)
+not_checked key None fault refusal checks is = tt
+not_checked key (Some input) fault refusal checks is = inr (inr (fault, checks, is))
+
+-- What is answered then.
+pub check_refused : {E : Type 0} (run number : ℕ) (key : Key) (first : Option (List ℕ)) (refusal : PrintedRefusal) (status : Result ℕ E)
+    (old new : Option (List ℕ)) → key ≡ key_of run number → IfSome first (λ input. CannotCheck key input refusal)
+    → IfOk status (Refuses refusal old new) → IfSome first (λ input. IfOk status (ChecksJob run number input old new))
+check_refused run number key None refusal status old new same cannot refuses = tt
+check_refused run number key (Some input) refusal (Err e) old new same cannot refuses = tt
+check_refused run number key (Some input) refusal (Ok s) old new same cannot refuses =
+    inr (refusal, subst (λ k. CannotCheck k input refusal) same cannot, refuses)
 
 pub nothing_said : (first : Option (List ℕ)) → IfSome first (λ input. Unit {0})
 nothing_said None = tt

@@ -16,7 +16,7 @@ use Rattle.targets.specs.declared.map.Map.{Map}
 use Rattle.targets.specs.declared.map_input.Came.{Came}
 use Rattle.targets.specs.declared.map_input.Came.TheVariants as cames
 use Rattle.targets.specs.Checks.{Checks}
-use Rattle.targets.specs.Jobs.{key_of, ReadsJob, Refuses}
+use Rattle.targets.specs.Jobs.{ReadsJob, Refuses}
 use Rattle.targets.specs.Reports.{CannotCheck, IsStateIn}
 use Rattle.targets.specs.MapInput.{BlockComes, Comes, FillsOrEnds}
 use Rattle.targets.specs.MapJobs.{MapsJob, StartsMap, misfit}
@@ -61,25 +61,24 @@ if_known : (input : Option (List ℕ)) (P : List ℕ → Type 0) → ((bytes : L
 if_known None P f = tt
 if_known (Some bytes) P f = f bytes
 
-pub no_start : (run number : ℕ) (first rest target : Option (List ℕ)) (asked : Asked) (state : Option State) (key : Key) (fault : Fault)
-    (refusal : PrintedRefusal) → ReadsJob number first rest asked → IsStateIn rest target state → key ≡ key_of run number
-    → Starts (Err fault) key asked.rec state false → refusal ≡ plain fault → IfSome first (λ input. CannotCheck run number input refusal)
-no_start run number first rest target asked state key fault refusal reads is same none refused =
-    not_checked run number first fault refusal
-    (checked run number first rest target asked state key (Err fault) reads is same
+pub no_start : (key : Key) (first rest target : Option (List ℕ)) (asked : Asked) (state : Option State) (fault : Fault)
+    (refusal : PrintedRefusal) → ReadsJob key.job first rest asked → IsStateIn rest target state
+    → Starts (Err fault) key asked.rec state false → refusal ≡ plain fault → IfSome first (λ input. CannotCheck key input refusal)
+no_start key first rest target asked state fault refusal reads is none refused =
+    not_checked key first fault refusal
+    (checked key first rest target asked state (Err fault) reads is
     (if_known target _ (λ bytes. starts_no_check key asked.rec state asked.fatal bytes fault none))) refused
 
-pub started : (run number : ℕ) (first rest target : Option (List ℕ)) (asked : Asked) (state : Option State) (key : Key) (check : Check) (made : Map)
-    → ReadsJob number first rest asked → IsStateIn rest target state → key ≡ key_of run number
+pub started : (key : Key) (first rest target : Option (List ℕ)) (asked : Asked) (state : Option State) (check : Check) (made : Map)
+    → ReadsJob key.job first rest asked → IsStateIn rest target state
     → Starts (Ok check) key asked.rec state false → made.check ≡ check → length made.bytes.items ≡ asked.rec.bs → length made.wanted.items ≡ asked.rec.bs → made.unread ≡ false
-    → IfSome first (λ input. StartsMap run number input target made)
-started run number None rest target asked state key check made reads is same starts holds room wanted none = tt
-started run number (Some input) rest target asked state key check made reads is same starts holds room wanted none =
-    let at = begins_with number input rest asked reads in
+    → IfSome first (λ input. StartsMap key input target made)
+started key None rest target asked state check made reads is starts holds room wanted none = tt
+started key (Some input) rest target asked state check made reads is starts holds room wanted none =
+    let at = begins_with key.job input rest asked reads in
     let of_it : IsStateIn (Some at.behind) target state = subst (λ r. IsStateIn r target state) at.leaves is in
     let left = state_leaves at.behind target state of_it in
-    let mine : Starts (Ok check) (key_of run number) at.job.rec state false =
-    subst (λ j. Starts (Ok check) (key_of run number) j state false) at.rec (subst (λ k. Starts (Ok check) k asked.rec state false) same starts) in
+    let mine : Starts (Ok check) key at.job.rec state false = subst (λ j. Starts (Ok check) key j state false) at.rec starts in
     record {
       job = at.job;
       state = state;
@@ -110,14 +109,14 @@ is_ready key job state check made starts holds room wanted none =
 
 -- ---- a map is answered
 
-pub answered : {E : Type 0} (run number : ℕ) (unit : Option ℕ) (first left : Option (List ℕ)) (made : Map) (size : ℕ) (status : Result ℕ E)
+pub answered : {E : Type 0} (key : Key) (unit : Option ℕ) (first left : Option (List ℕ)) (made : Map) (size : ℕ) (status : Result ℕ E)
     (old new : Option (List ℕ)) → size ≡ made.check.expected.job.bs → unit_fits unit size ≡ true
-    → IfSome first (λ input. StartsMap run number input left made)
+    → IfSome first (λ input. StartsMap key input left made)
     → IfSome left (λ target. IfOk status (MapsTarget unit made.check.expected target old new))
-    → IfSome first (λ input. IfOk status (MapsJob run number unit input old new))
-answered run number unit None left made size status old new is fits starts maps = tt
-answered run number unit (Some input) left made size (Err e) old new is fits starts maps = tt
-answered run number unit (Some input) left made size (Ok s) old new is fits starts maps =
+    → IfSome first (λ input. IfOk status (MapsJob key unit input old new))
+answered key unit None left made size status old new is fits starts maps = tt
+answered key unit (Some input) left made size (Err e) old new is fits starts maps = tt
+answered key unit (Some input) left made size (Ok s) old new is fits starts maps =
     let known : MapsTarget unit made.check.expected starts.target old new s =
     subst (λ l. IfSome l (λ target. MapsTarget unit made.check.expected target old new s)) starts.leaves maps in
     inl (record {
@@ -129,21 +128,21 @@ answered run number unit (Some input) left made size (Ok s) old new is fits star
       maps = subst (λ (k : Check). MapsTarget unit k.expected starts.target old new s) starts.check known;
     })
 
-pub refused : {E : Type 0} (run number : ℕ) (unit : Option ℕ) (first : Option (List ℕ)) (refusal : PrintedRefusal) (status : Result ℕ E)
-    (old new : Option (List ℕ)) → IfSome first (λ input. CannotCheck run number input refusal) → IfOk status (Refuses refusal old new)
-    → IfSome first (λ input. IfOk status (MapsJob run number unit input old new))
-refused run number unit None refusal status old new cannot refuses = tt
-refused run number unit (Some input) refusal (Err e) old new cannot refuses = tt
-refused run number unit (Some input) refusal (Ok s) old new cannot refuses = inr (refusal, inl cannot, refuses)
+pub refused : {E : Type 0} (key : Key) (unit : Option ℕ) (first : Option (List ℕ)) (refusal : PrintedRefusal) (status : Result ℕ E)
+    (old new : Option (List ℕ)) → IfSome first (λ input. CannotCheck key input refusal) → IfOk status (Refuses refusal old new)
+    → IfSome first (λ input. IfOk status (MapsJob key unit input old new))
+refused key unit None refusal status old new cannot refuses = tt
+refused key unit (Some input) refusal (Err e) old new cannot refuses = tt
+refused key unit (Some input) refusal (Ok s) old new cannot refuses = inr (refusal, inl cannot, refuses)
 
 -- The unit doesn't fit.
-pub misfits : {E : Type 0} (run number : ℕ) (unit : Option ℕ) (first left : Option (List ℕ)) (made : Map) (size : ℕ) (refusal : PrintedRefusal)
-    (status : Result ℕ E) (old new : Option (List ℕ)) → size ≡ made.check.expected.job.bs → unit_fits unit size ≡ false → refusal ≡ misfit number
-    → IfSome first (λ input. StartsMap run number input left made) → IfOk status (Refuses refusal old new)
-    → IfSome first (λ input. IfOk status (MapsJob run number unit input old new))
-misfits run number unit None left made size refusal status old new is unfit says starts refuses = tt
-misfits run number unit (Some input) left made size refusal (Err e) old new is unfit says starts refuses = tt
-misfits run number unit (Some input) left made size refusal (Ok s) old new is unfit says starts refuses =
+pub misfits : {E : Type 0} (key : Key) (unit : Option ℕ) (first left : Option (List ℕ)) (made : Map) (size : ℕ) (refusal : PrintedRefusal)
+    (status : Result ℕ E) (old new : Option (List ℕ)) → size ≡ made.check.expected.job.bs → unit_fits unit size ≡ false → refusal ≡ misfit key.job
+    → IfSome first (λ input. StartsMap key input left made) → IfOk status (Refuses refusal old new)
+    → IfSome first (λ input. IfOk status (MapsJob key unit input old new))
+misfits key unit None left made size refusal status old new is unfit says starts refuses = tt
+misfits key unit (Some input) left made size refusal (Err e) old new is unfit says starts refuses = tt
+misfits key unit (Some input) left made size refusal (Ok s) old new is unfit says starts refuses =
     inr (
       refusal,
       inr (

@@ -1,5 +1,6 @@
 -- What a command line of `drive` may ask for.
-use Rattle.std.specs.Prelude.{◌≡◌, ℕ, IsTrue, List, [], ◌∷◌, take, drop, Some, None, codes}
+use Rattle.std.specs.Prelude.{◌≡◌, ℕ, IsTrue, List, [], ◌∷◌, take, drop, Option, Some, None, codes, unwrap_or}
+use Rattle.fc_base.specs.declared.numbers.Key.{Key}
 use Rattle.fc_base.specs.Keys.{is_key}
 use Rattle.targets.specs.declared.command.Request.{Request}
 use Rattle.targets.specs.declared.command.Request.TheVariants.{Write, Check, Map}
@@ -10,7 +11,7 @@ use Rattle.targets.specs.Jobs.{key_of}
 abbrev pub IsRequest : Request → Type 0
 IsRequest (Write run job) = IsTrue (is_key (key_of run job))
 IsRequest (Check run job) = IsTrue (is_key (key_of run job))
-IsRequest (Map run job unit) = IsTrue (is_key (key_of run job))
+IsRequest (Map key unit) = IsTrue (is_key key)
 
 -- Four words: the program's own, the command, the run and the job.
 abbrev pub AreWords : List (List ℕ) → List ℕ → ℕ → ℕ → Type 0
@@ -18,19 +19,31 @@ AreWords (program ∷ word ∷ first ∷ second ∷ []) command run job =
     (word ≡ command) × IsNumber first run × IsNumber second job
 AreWords _ command run job = ⊥
 
--- The option for a unit, and how many bytes it has.
-abbrev pub IsUnit : List (List ℕ) → ℕ → Type 0
-IsUnit (option ∷ number ∷ []) unit = (option ≡ codes "--unit") × IsNumber number unit
-IsUnit _ unit = ⊥
+-- An option of this name: its word and its number, or neither.
+abbrev pub IsOption : List ℕ → Option ℕ → List (List ℕ) → Type 0
+IsOption name None words = words ≡ []
+IsOption name (Some n) (option ∷ number ∷ []) = (option ≡ name) × IsNumber number n
+IsOption name (Some n) _ = ⊥
 
--- Six words: those of a map, and a unit.
-abbrev pub AreUnitWords : List (List ℕ) → ℕ → ℕ → ℕ → Type 0
-AreUnitWords words run job unit =
-    AreWords (take 4 words) (codes "map") run job × IsUnit (drop 4 words) unit
+-- How many words an option has.
+abbrev pub option_words : Option ℕ → ℕ
+option_words None = 0
+option_words (Some n) = 2
+
+-- The words of a server, and behind them those of a unit.
+pub record AreOptions (words : List (List ℕ)) (server unit : Option ℕ) : Type 0 where
+  pub server_is : IsOption (codes "--server") server (take (option_words server) words)
+  pub unit_is : IsOption (codes "--unit") unit (drop (option_words server) words)
+
+-- The words of a map, and behind them those of its options.
+abbrev pub AreMapWords : List (List ℕ) → ℕ → ℕ → Option ℕ → Option ℕ → Type 0
+AreMapWords words run job server unit =
+    AreWords (take 4 words) (codes "map") run job × AreOptions (drop 4 words) server unit
 
 -- The words ask for just this.
 abbrev pub Asks : List (List ℕ) → Request → Type 0
 Asks words (Write run job) = AreWords words (codes "write") run job
 Asks words (Check run job) = AreWords words (codes "check") run job
-Asks words (Map run job None) = AreWords words (codes "map") run job
-Asks words (Map run job (Some unit)) = AreUnitWords words run job unit
+Asks words (Map key unit) =
+    (server : Option ℕ) × AreMapWords words key.run key.job server unit
+    × (key.server ≡ unwrap_or server 0)

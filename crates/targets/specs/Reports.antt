@@ -2,6 +2,7 @@
 use Rattle.std.specs.Prelude.{◌≡◌, ◌⊎◌, ◌<◌, ◌≤◌, ℕ, nat_lt, List, [], ◌∷◌, length, Option, Some, None, codes, if◌then◌else◌, Result, Ok, Err}
 use Rattle.fc_base.specs.declared.fault.Fault.{Fault}
 use Rattle.fc_base.specs.declared.fault.Fault.TheVariants.{StateTrailing}
+use Rattle.fc_base.specs.declared.numbers.Key.{Key}
 use Rattle.fc_base.specs.declared.report.ReportEnd.{ReportEnd}
 use Rattle.fc_base.specs.declared.report.ReportEnd.TheVariants.{Whole, AtFault, ReadFault}
 use Rattle.fc_base.specs.declared.report.ReportParts.{ReportParts}
@@ -46,35 +47,35 @@ HasNoState input fault =
 
 -- An input is checked: it has the job, its state or none, and the bytes of the target, and this
 -- comes of them.
-pub record ChecksInput (run number : ℕ) (input : List ℕ)
+pub record ChecksInput (key : Key) (input : List ℕ)
     (answer : Result ReportParts Fault) : Type 0 where
   pub job : Job
   pub state : Option State
   pub behind : List ℕ
   pub target : List ℕ
-  pub begins : BeginsWithJob number input behind job
+  pub begins : BeginsWithJob key.job input behind job
   pub is_state : IsStateIn (Some behind) (Some target) state
-  pub checks : Checks (key_of run number) job.rec state job.fatal target answer
+  pub checks : Checks key job.rec state job.fatal target answer
 
 -- Why an input isn't checked: it gives no job, or no state behind it, or its check is refused.
-abbrev pub CannotCheck : ℕ → ℕ → List ℕ → PrintedRefusal → Type 0
-CannotCheck run number input refusal =
-    GivesNoJob (Some input) number refusal
-    ⊎ (((job : Job) × (behind : List ℕ) × (fault : Fault) × BeginsWithJob number input behind job
+abbrev pub CannotCheck : Key → List ℕ → PrintedRefusal → Type 0
+CannotCheck key input refusal =
+    GivesNoJob (Some input) key.job refusal
+    ⊎ (((job : Job) × (behind : List ℕ) × (fault : Fault) × BeginsWithJob key.job input behind job
     × HasNoState (Some behind) fault × (refusal ≡ plain fault))
-    ⊎ ((fault : Fault) × ChecksInput run number input (Err fault) × (refusal ≡ plain fault)))
+    ⊎ ((fault : Fault) × ChecksInput key input (Err fault) × (refusal ≡ plain fault)))
 
 -- The report of the input is written, and the status is its.
-pub record WritesReport (run number : ℕ) (input : List ℕ) (old new : Option (List ℕ))
+pub record WritesReport (key : Key) (input : List ℕ) (old new : Option (List ℕ))
     (status : ℕ) : Type 0 where
   pub report : ReportParts
-  pub checks : ChecksInput run number input (Ok report)
+  pub checks : ChecksInput key input (Ok report)
   pub finishes : Finishes (with_line_feed (report_line report))
       (report_status report) old new status
 
 -- What is answered where a target is to be checked.
 abbrev pub ChecksJob : ℕ → ℕ → List ℕ → Option (List ℕ) → Option (List ℕ) → ℕ → Type 0
 ChecksJob run number input old new status =
-    WritesReport run number input old new status
-    ⊎ ((refusal : PrintedRefusal) × CannotCheck run number input refusal
+    WritesReport (key_of run number) input old new status
+    ⊎ ((refusal : PrintedRefusal) × CannotCheck (key_of run number) input refusal
     × Refuses refusal old new status)

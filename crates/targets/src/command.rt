@@ -1,10 +1,10 @@
 //! The command line of `drive`.
 
-ghost use Rattle.std.specs.Prelude.{◌≤◌, ◌<◌, IfSome, IsTrue, map};
-ghost use Rattle.targets.specs.Command.{IsRequest, IsUnit, Asks, AreUnitWords, AreWords};
+ghost use Rattle.std.specs.Prelude.{◌≡◌, ◌≤◌, ◌<◌, IfSome, IsTrue, Some, map};
+ghost use Rattle.targets.specs.Command.{IsOption, IsRequest, Asks, AreMapWords, AreOptions, AreWords, option_words};
 
 use clap::{Arg, ArgMatches, Command, Error};
-use fc_base::{JobNo, MAX_JOBS, RunNo};
+use fc_base::{JobNo, Key, MAX_JOBS, MAX_SERVERS, RunNo, ServerNo};
 use program_io::is_number;
 use std::alloc::{AllocError, Global};
 use std::convert::AsStr;
@@ -13,28 +13,19 @@ use std::convert::AsStr;
 #[derive(Clone, Copy, PartialEq, Eq)]
 pub enum Request {
     /// `drive write RUN JOB`: write the job of this number.
-    Write {
-        run: RunNo,
-        job: JobNo,
-    },
+    Write { run: RunNo, job: JobNo },
     /// `drive check RUN JOB`: check its target.
-    Check {
-        run: RunNo,
-        job: JobNo,
-    },
-    /// `drive map RUN JOB`, or `drive map RUN JOB --unit BYTES`: tell what each faulty block of its
-    /// target holds, by a unit or without one.
-    Map {
-        run: RunNo,
-        job: JobNo,
-        unit: Option<u32>,
-    },
+    Check { run: RunNo, job: JobNo },
+    /// `drive map RUN JOB`, behind it `--server SERVER` or nothing, and then `--unit BYTES` or
+    /// nothing: tell what each faulty block of the target holds, of a job of this server, or of
+    /// server 0, by a unit or without one.
+    Map { key: Key, unit: Option<u32> },
 }
 
 /// Reads the words of a command line, of which the first is the program's own name. `None` is a bad command: no
 /// command or an unknown one, a word too few or too many, a run that isn't 1 to 18,446,744,073,709,551,615, a job that
-/// isn't 0 to 15, a unit that isn't 0 to 4,294,967,295, or no memory to read the words with. There is no other option,
-/// and none before the job.
+/// isn't 0 to 15, a server that isn't 0 to 7, a unit that isn't 0 to 4,294,967,295, or no memory to read the words with.
+/// There is no other option, none before the job, and no unit before a server.
 pub fn read_words<S: AsStr>(alloc: Global, words: &[S]) -> Option<Request>
     ensures allowed { IfSome result IsRequest }
     ensures asked { IfSome result (Asks (map S.text words.now)) }
@@ -52,38 +43,81 @@ pub fn read_words<S: AsStr>(alloc: Global, words: &[S]) -> Option<Request>
             let (run, job) = numbers_of(values)?;
             are_words(words, "check", run, job).then_some(Request::Check { run, job })
         }
-        ("map", values) => {
-            let (run, job) = numbers_of(values)?;
-            let unit = values.get_one::<u32>("unit");
-            are_map_words(words, run, job, unit).then_some(Request::Map { run, job, unit })
-        }
+        ("map", values) => map_of(words, values),
         _ => None,
     }
 }
 
-/// Whether these are the words of a map, by a unit or without one.
-fn are_map_words<S: AsStr>(words: &[S], run: RunNo, job: JobNo, unit: Option<u32>) -> bool
-    ensures { IsTrue result → Asks (map S.text words.now) (Request.Map run job unit) }
+/// The map that the words ask for.
+fn map_of<S: AsStr>(words: &[S], values: &ArgMatches<'_>) -> Option<Request>
+    ensures allowed { IfSome result IsRequest }
+    ensures asked { IfSome result (Asks (map S.text words.now)) }
 {
-    match unit {
-        None => are_words(words, "map", run, job),
-        Some(unit) => are_unit_words(words, run, job, unit),
+    let (run, job) = numbers_of(values)?;
+    let server = values.get_one::<u32>("server");
+    let unit = values.get_one::<u32>("unit");
+    let number = server.unwrap_or(0);
+    if number >= MAX_SERVERS || !are_map_words(words, run, job, server, unit) {
+        return None;
+    }
+    let key = Key {
+        run,
+        server: ServerNo(number),
+        job,
+    };
+    Some(Request::Map { key, unit })
+}
+
+/// Whether these are the words of a map of this job, and of these options.
+fn are_map_words<S: AsStr>(
+    words: &[S],
+    run: RunNo,
+    job: JobNo,
+    server: Option<u32>,
+    unit: Option<u32>,
+) -> bool
+    ensures { IsTrue result → AreMapWords (map S.text words.now) run job server unit }
+{
+    words.len() >= 4
+        && (are_words(&words[..4], "map", run, job) && are_options(&words[4..], server, unit))
+}
+
+/// Whether these are the words of a server and of a unit.
+fn are_options<S: AsStr>(words: &[S], server: Option<u32>, unit: Option<u32>) -> bool
+    ensures { IsTrue result → AreOptions (map S.text words.now) server unit }
+{
+    let behind = option_words(server);
+    words.len() >= behind
+        && (is_option(&words[..behind], "--server", server)
+            && is_option(&words[behind..], "--unit", unit))
+}
+
+/// How many words an option has.
+fn option_words(value: Option<u32>) -> usize
+    ensures { result ≡ option_words value }
+{
+    match value {
+        Some(_) => 2,
+        None => 0,
     }
 }
 
-/// Whether these are the words of a map by this unit.
-fn are_unit_words<S: AsStr>(words: &[S], run: RunNo, job: JobNo, unit: u32) -> bool
-    ensures { IsTrue result → AreUnitWords (map S.text words.now) run job unit }
+/// Whether these are an option of this name and its value, or none where there is no value.
+fn is_option<S: AsStr>(words: &[S], name: &str, value: Option<u32>) -> bool
+    ensures { IsTrue result → IsOption name.now value (map S.text words.now) }
 {
-    words.len() == 6 && (are_words(&words[..4], "map", run, job) && is_unit(&words[4..], unit))
+    match value {
+        None => words.is_empty(),
+        Some(value) => is_pair(words, name, value),
+    }
 }
 
-/// Whether these are the option and its value.
-fn is_unit<S: AsStr>(words: &[S], unit: u32) -> bool
-    ensures { IsTrue result → IsUnit (map S.text words.now) unit }
+/// Whether these are an option of this name and this value.
+fn is_pair<S: AsStr>(words: &[S], name: &str, value: u32) -> bool
+    ensures { IsTrue result → IsOption name.now (Some value) (map S.text words.now) }
 {
     words.len() == 2
-        && (words[0].as_str() == "--unit" && is_number(words[1].as_str(), u64::from(unit)))
+        && (words[0].as_str() == name && is_number(words[1].as_str(), u64::from(value)))
 }
 
 /// Whether these are the words of a command with its run and its job.
@@ -101,7 +135,7 @@ fn matches_of<'a, S: AsStr>(alloc: Global, words: &'a [S]) -> Result<ArgMatches<
     command.try_get_matches_from(words)
 }
 
-/// What a command line may have: one of three subcommands, and of the last one an option.
+/// What a command line may have: one of three subcommands, and of the last one two options.
 fn command_of<'a>(alloc: Global) -> Result<Command<'a>, AllocError> {
     let mut command = Command::new(alloc, "drive")
         .disable_help_flag(true)
@@ -120,7 +154,9 @@ fn subcommand<'a>(alloc: Global, name: &'a str) -> Result<Command<'a>, AllocErro
         command = command.arg(Arg::new(alloc, number).required(true))?;
     }
     if name == "map" {
-        command = command.arg(Arg::new(alloc, "unit").long("unit"))?;
+        for option in ["server", "unit"] {
+            command = command.arg(Arg::new(alloc, option).long(option))?;
+        }
     }
     Ok(command)
 }

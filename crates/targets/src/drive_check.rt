@@ -9,7 +9,7 @@ use crate::asked::{key_of, read_job};
 use crate::checking::check_blocks;
 use crate::drive_write::refuse;
 use crate::texts::read_text;
-use fc_base::{CheckReport, Fault, JobNo, ReportEnd, RunNo};
+use fc_base::{CheckReport, Fault, JobNo, Key, ReportEnd, RunNo};
 use program_io::{PrintedRefusal, write_report_words};
 use std::alloc::Global;
 use std::io;
@@ -47,7 +47,7 @@ pub fn check_job<R: Read, W: Write>(
     ensures { IfSome (R.remaining reader.old) (λ input. IfOk result
         (ChecksJob run job input (W.contents writer.old) (W.contents writer.new))) }
 {
-    match report_of(alloc, run, job, reader) {
+    match report_of(alloc, key_of(run, job), reader) {
         Ok(report) => write_report(writer, &report),
         Err(refusal) => refuse(writer, refusal),
     }
@@ -56,18 +56,15 @@ pub fn check_job<R: Read, W: Write>(
 /// The report of a job, or why there is none.
 fn report_of<R: Read>(
     alloc: Global,
-    run: RunNo,
-    job: JobNo,
+    key: Key,
     reader: &mut R,
 ) -> Result<CheckReport, PrintedRefusal>
     ensures report { IfSome (R.remaining reader.old)
-        (λ input. IfOk result (λ report. ChecksInput run job input (Ok report))) }
-    ensures none { IfSome (R.remaining reader.old)
-        (λ input. IfErr result (CannotCheck run job input)) }
+        (λ input. IfOk result (λ report. ChecksInput key input (Ok report))) }
+    ensures none { IfSome (R.remaining reader.old) (λ input. IfErr result (CannotCheck key input)) }
 {
-    let asked = read_job(alloc, reader, job)?;
+    let asked = read_job(alloc, reader, key.job)?;
     let state = read_state(alloc, reader)?;
-    let key = key_of(run, job);
     let report = check_blocks(alloc, key, &asked.rec, state.as_ref(), asked.fatal, reader)?;
     Ok(report)
 }

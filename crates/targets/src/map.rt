@@ -11,7 +11,7 @@ ghost use Rattle.targets.specs.MapKinds.{all_lines};
 ghost use Rattle.targets.specs.Mapping.{GoesOn, IsReady, Takes, TellsUnread};
 ghost use Rattle.targets.specs.Units.{unit_fits};
 
-use crate::asked::{key_of, read_job};
+use crate::asked::read_job;
 use crate::drive_check::{read_state, status_of};
 use crate::drive_write::refuse;
 use crate::kinds::{Kinds, no_lines, with_line, write_kinds};
@@ -21,7 +21,7 @@ use crate::map_lines::write_told;
 use crate::map_unchecked::write_unchecked;
 use crate::told::Told;
 use crate::units::unit_fits;
-use fc_base::{CheckReport, Fault, JobNo, RunNo};
+use fc_base::{CheckReport, Fault, JobNo, Key};
 use program_io::{PrintedRefusal, write_report_words};
 use recheck::Recheck;
 use std::alloc::Global;
@@ -42,8 +42,8 @@ struct Map {
     unread: bool,
 }
 
-/// Reads what [`check_job`](crate::check_job) does, but each block of the target behind a byte: 1,
-/// and then its bytes; or 0, and no bytes, where it could not be read. Writes a line for each
+/// Reads what [`check_job`](crate::check_job) does, of the job of this key, but each block of the
+/// target behind a byte: 1, and then its bytes; or 0, and no bytes, where it could not be read. Writes a line for each
 /// checked block that is a fault or could not be read, ascending, as
 /// `block 15 lost: wants write 239, holds write 68`; a line of the blocks that aren't checked, as
 /// `unchecked 5-9 12-12`; and the line of the report of the blocks that were read, behind which
@@ -63,23 +63,23 @@ struct Map {
 /// is that of a write.
 pub fn map_job<R: Read, W: Write>(
     alloc: Global,
-    run: RunNo,
-    job: JobNo,
+    key: Key,
     unit: Option<u32>,
     reader: &mut R,
     writer: &mut W,
 ) -> io::Result<u8>
     ensures { IfSome (R.remaining reader.old) (λ input. IfOk result
-        (MapsJob run job unit input (W.contents writer.old) (W.contents writer.new))) }
+        (MapsJob key unit input (W.contents writer.old) (W.contents writer.new))) }
 {
-    let map = match start(alloc, run, job, reader) {
+    let number = key.job;
+    let map = match start(alloc, key, reader) {
         Ok(map) => map,
         Err(refusal) => return refuse(writer, refusal),
     };
     if unit_fits(unit, map.check.expected().rec().bs()) {
         go_over(map, unit, reader, writer)
     } else {
-        refuse(writer, misfit(job))
+        refuse(writer, misfit(number))
     }
 }
 
@@ -94,21 +94,14 @@ fn misfit(job: JobNo) -> PrintedRefusal
 }
 
 /// What the target is checked against, with room for a block.
-fn start<R: Read>(
-    alloc: Global,
-    run: RunNo,
-    job: JobNo,
-    reader: &mut R,
-) -> Result<Map, PrintedRefusal>
+fn start<R: Read>(alloc: Global, key: Key, reader: &mut R) -> Result<Map, PrintedRefusal>
     ensures map { IfSome (R.remaining reader.old)
-        (λ input. IfOk result (StartsMap run job input (R.remaining reader.new))) }
-    ensures none { IfSome (R.remaining reader.old)
-        (λ input. IfErr result (CannotCheck run job input)) }
+        (λ input. IfOk result (StartsMap key input (R.remaining reader.new))) }
+    ensures none { IfSome (R.remaining reader.old) (λ input. IfErr result (CannotCheck key input)) }
     ensures ready { IfOk result IsReady }
 {
-    let asked = read_job(alloc, reader, job)?;
+    let asked = read_job(alloc, reader, key.job)?;
     let state = read_state(alloc, reader)?;
-    let key = key_of(run, job);
     let check = Recheck::new(alloc, &asked.rec, key, state.as_ref(), false)?;
     let Ok(bytes) = vec![in alloc; 0u8; asked.rec.bs() as usize] else {
         return Err(PrintedRefusal::from(Fault::NoMemory));

@@ -8,6 +8,7 @@ mod map_differences;
 mod map_failures;
 mod map_inputs;
 mod map_kinds;
+mod map_servers;
 mod map_units;
 mod maps;
 mod reads;

@@ -3,10 +3,9 @@
 use super::inputs::TWO_BLOCKS;
 use super::map_inputs::Comes::{Byte, Sector as Bytes};
 use super::map_inputs::Sector::*;
-use super::map_inputs::{Comes, map_input};
+use super::map_inputs::{Comes, key_of, map_input};
 use super::stamps::RUN;
 use fake_io::{page_with, source_of};
-use fc_base::{JobNo, RunNo};
 use std::alloc::Global;
 use std::test::Fail;
 use targets::map_job;
@@ -24,8 +23,7 @@ fn fails_at_byte(alloc: Global, input: &[u8], room: usize) -> bool {
     let mut page = page_with(alloc, room);
     let answer = map_job(
         alloc,
-        RunNo(RUN),
-        JobNo(0),
+        key_of(RUN, 0),
         None,
         &mut source_of(input),
         &mut page,
@@ -60,8 +58,7 @@ fn stands_want(alloc: Global) -> bool {
     let mut page = page_with(alloc, usize::MAX);
     let answer = map_job(
         alloc,
-        RunNo(RUN),
-        JobNo(0),
+        key_of(RUN, 0),
         None,
         &mut source_of(&input),
         &mut page,

@@ -4,7 +4,7 @@
 use super::inputs::{Tell, input_of, push_text};
 use super::stamps::RUN;
 use fake_io::{Source, in_steps, page_with, source_of};
-use fc_base::{JobNo, RunNo};
+use fc_base::{JobNo, Key, RunNo, ServerNo};
 use std::alloc::{AllocError, Global};
 use std::io::BufReader;
 use std::test::Fail;
@@ -152,17 +152,26 @@ pub(super) fn map_input(
     Some(input)
 }
 
+/// Job 0 of this server in this run.
+pub(super) fn key_of(run: u64, server: u32) -> Key {
+    Key {
+        run: RunNo(run),
+        server: ServerNo(server),
+        job: JobNo(0),
+    }
+}
+
 /// Whether a source is answered by this status and these lines, by a unit or without one.
 pub(super) fn answers(
     alloc: Global,
-    run: u64,
+    key: Key,
     unit: Option<u32>,
     mut source: Source<'_>,
     status: u8,
     lines: &str,
 ) -> bool {
     let mut page = page_with(alloc, usize::MAX);
-    let answer = map_job(alloc, RunNo(run), JobNo(0), unit, &mut source, &mut page).ok();
+    let answer = map_job(alloc, key, unit, &mut source, &mut page).ok();
     answer == Some(status) && page.text.as_slice() == lines.as_bytes()
 }
 
@@ -180,9 +189,10 @@ pub(super) type Row = (
 pub(super) fn agrees(alloc: Global, unit: Option<u32>, row: &Row) -> Option<bool> {
     let (text, told, target, status, lines) = row;
     let input = map_input(alloc, text, told, target)?;
+    let key = key_of(RUN, 0);
     Some(
-        answers(alloc, RUN, unit, source_of(&input), *status, lines)
-            && answers(alloc, RUN, unit, in_steps(&input, 100), *status, lines),
+        answers(alloc, key, unit, source_of(&input), *status, lines)
+            && answers(alloc, key, unit, in_steps(&input, 100), *status, lines),
     )
 }
 

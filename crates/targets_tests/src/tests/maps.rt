@@ -4,7 +4,7 @@ use super::inputs::TWO_BLOCKS;
 use super::inputs::Tell::*;
 use super::map_inputs::Comes::{Byte, Sector as Bytes};
 use super::map_inputs::Sector::*;
-use super::map_inputs::{Row, SIX_BLOCKS, TWO_DONE, all_agree, answers, map_input};
+use super::map_inputs::{Row, SIX_BLOCKS, TWO_DONE, all_agree, answers, key_of, map_input};
 use super::stamps::RUN;
 use fake_io::{failing_at, source_of};
 use std::alloc::Global;
@@ -141,7 +141,7 @@ fn refuses_another_run(alloc: Global) -> Option<bool> {
     let input = map_input(alloc, TWO_BLOCKS, TWO_DONE, &[])?;
     Some(answers(
         alloc,
-        8,
+        key_of(8, 0),
         None,
         source_of(&input),
         2,
@@ -162,7 +162,7 @@ fn fails_at_read(alloc: Global, number: u32, lines: &str) -> Option<bool> {
     let target = [Byte(1), Bytes(Filled(0)), Byte(1), Bytes(Filled(0))];
     let input = map_input(alloc, TWO_BLOCKS, &[], &target)?;
     let source = failing_at(&input, usize::MAX, number);
-    Some(answers(alloc, RUN, None, source, 2, lines))
+    Some(answers(alloc, key_of(RUN, 0), None, source, 2, lines))
 }
 
 #[test]

@@ -1,14 +1,12 @@
 //! Which command lines are read.
 
-use fc_base::{JobNo, RunNo};
+use fc_base::{JobNo, Key, RunNo, ServerNo};
 use std::alloc::Global;
 use std::test::Fail;
 use targets::{Request, read_words};
 
 /// The words of a command line, and the run and the job that they ask for.
-static GOOD: [(&[&str], u64, u32); 6] = [
-    (&["drive", "map", "7", "3", "--unit", "4096"], 7, 3),
-    (&["drive", "map", "1", "15"], 1, 15),
+static GOOD: [(&[&str], u64, u32); 4] = [
     (&["drive", "write", "1", "0"], 1, 0),
     (
         &["drive", "write", "18446744073709551615", "15"],
@@ -19,7 +17,25 @@ static GOOD: [(&[&str], u64, u32); 6] = [
     (&["drive", "check", "7", "3"], 7, 3),
 ];
 
-static BAD: [&[&str]; 18] = [
+/// The words of a map of run 7 and job 3, its server and its unit.
+static MAPS: [(&[&str], u32, Option<u32>); 6] = [
+    (&["drive", "map", "7", "3"], 0, None),
+    (&["drive", "map", "7", "3", "--unit", "4096"], 0, Some(4096)),
+    (&["drive", "map", "7", "3", "--server", "0"], 0, None),
+    (&["drive", "map", "7", "3", "--server", "7"], 7, None),
+    (
+        &["drive", "map", "7", "3", "--server", "5", "--unit", "0"],
+        5,
+        Some(0),
+    ),
+    (
+        &["drive", "map", "7", "3", "--server", "1", "--unit", "512"],
+        1,
+        Some(512),
+    ),
+];
+
+static BAD: [&[&str]; 23] = [
     &[],
     &["drive"],
     &["drive", "read", "1", "0"],
@@ -38,6 +54,11 @@ static BAD: [&[&str]; 18] = [
     &["drive", "map", "1", "0", "--unit=4096"],
     &["drive", "map", "--unit", "4096", "1", "0"],
     &["drive", "map", "1", "0", "--unit", "4096", "0"],
+    &["drive", "map", "1", "0", "--server", "8"],
+    &["drive", "map", "1", "0", "--server"],
+    &["drive", "check", "1", "0", "--server", "1"],
+    &["drive", "map", "1", "0", "--unit", "4096", "--server", "1"],
+    &["drive", "map", "1", "0", "--server", "1", "--server", "1"],
 ];
 
 /// What the words ask for by their second.
@@ -46,11 +67,6 @@ fn asked(words: &[&str], run: u64, job: u32) -> Option<Request> {
     match *words.get(1)? {
         "write" => Some(Request::Write { run, job }),
         "check" => Some(Request::Check { run, job }),
-        "map" => Some(Request::Map {
-            run,
-            job,
-            unit: words.get(5).map(|_| 4096),
-        }),
         _ => None,
     }
 }
@@ -60,6 +76,26 @@ fn good_commands(rt: HostRuntime) -> Result<(), Fail> {
     for (number, (words, run, job)) in GOOD.iter().enumerate() {
         let wanted = asked(words, *run, *job);
         if wanted.is_none() || read_words(rt.alloc(), words) != wanted {
+            return Err(Fail::new(number));
+        }
+    }
+    Ok(())
+}
+
+/// The map of run 7 and job 3, at this server and by this unit.
+fn map_of(server: u32, unit: Option<u32>) -> Option<Request> {
+    let key = Key {
+        run: RunNo(7),
+        server: ServerNo(server),
+        job: JobNo(3),
+    };
+    Some(Request::Map { key, unit })
+}
+
+#[test]
+fn maps(rt: HostRuntime) -> Result<(), Fail> {
+    for (number, (words, server, unit)) in MAPS.iter().enumerate() {
+        if read_words(rt.alloc(), words) != map_of(*server, *unit) {
             return Err(Fail::new(number));
         }
     }

@@ -6,14 +6,14 @@ use Rattle.targets.proofs.map.map_job.Goals as goal
 
 pub returns-then-unit_fits : goal.returns-then-unit_fits
 returns-then-unit_fits g c =
-    answered c.args.run c.args.job c.args.unit (g.R.Read.remaining c.args.reader.now) (g.R.Read.remaining c.start.new.reader) c.in-Ok.map
+    answered c.args.key c.args.unit (g.R.Read.remaining c.args.reader.now) (g.R.Read.remaining c.start.new.reader) c.in-Ok.map
     c.bs.result c.go_over.result (g.W.Write.contents c.args.writer.now) (g.W.Write.contents c.go_over.new.writer)
     (c.bs.ensures.value ∙ ap (λ (j : JobParts). j.bs) (c.rec.ensures ∙ ap (λ (x : Expected). x.job) c.expected.ensures))
     (sym c.unit_fits.ensures ∙ c.if-unit_fits.true) c.in-Ok.ensures.map c.go_over.ensures
 
 pub returns-else-unit_fits : goal.returns-else-unit_fits
 returns-else-unit_fits g c =
-    misfits c.args.run c.args.job c.args.unit (g.R.Read.remaining c.args.reader.now) (g.R.Read.remaining c.start.new.reader) c.in-Ok.map
+    misfits c.args.key c.args.unit (g.R.Read.remaining c.args.reader.now) (g.R.Read.remaining c.start.new.reader) c.in-Ok.map
     c.bs.result c.misfit.result c.refuse-else-unit_fits.result (g.W.Write.contents c.args.writer.now)
     (g.W.Write.contents c.refuse-else-unit_fits.new.writer)
     (c.bs.ensures.value ∙ ap (λ (j : JobParts). j.bs) (c.rec.ensures ∙ ap (λ (x : Expected). x.job) c.expected.ensures))
@@ -21,5 +21,5 @@ returns-else-unit_fits g c =
 
 pub returns-in-Err : goal.returns-in-Err
 returns-in-Err g c =
-    refused c.args.run c.args.job c.args.unit (g.R.Read.remaining c.args.reader.now) c.in-Err.refusal c.refuse.result
+    refused c.args.key c.args.unit (g.R.Read.remaining c.args.reader.now) c.in-Err.refusal c.refuse.result
     (g.W.Write.contents c.args.writer.now) (g.W.Write.contents c.refuse.new.writer) c.in-Err.ensures.none c.refuse.ensures
