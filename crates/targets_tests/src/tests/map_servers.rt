@@ -17,27 +17,30 @@ static TARGET: [Comes; 4] = [
     Bytes(Stamp(RUN, 0, 3, 1, 0)),
 ];
 
-/// Whose state it is, where there is one, and whose the writes in the two blocks; the server whose
-/// job is mapped; and what comes of it.
-type Row = (Option<u8>, [u8; 2], u32, u8, &'static str);
+/// What was told by the state, nothing where there is none, and whose it is; whose the writes in the
+/// two blocks are; the server whose job is mapped; and what comes of it.
+type Row = (&'static [Tell], u8, [u8; 2], u32, u8, &'static str);
 
 static ROWS: [Row; 7] = [
     (
-        None,
+        &[],
+        0,
         [3, 3],
         3,
         0,
         "unchecked\nreport checked 2 faults 0 end whole first -\n",
     ),
     (
-        Some(3),
+        TWO_DONE,
+        3,
         [3, 3],
         3,
         0,
         "unchecked\nreport checked 2 faults 0 end whole first -\n",
     ),
     (
-        None,
+        &[],
+        0,
         [0, 7],
         7,
         1,
@@ -46,7 +49,8 @@ static ROWS: [Row; 7] = [
          unchecked\nreport checked 2 faults 1 end whole first 0 misdirected 1\n",
     ),
     (
-        None,
+        &[],
+        0,
         [0, 3],
         0,
         1,
@@ -54,28 +58,35 @@ static ROWS: [Row; 7] = [
          holds write 3 of block 1 of job 0 of server 3 of run 7\n\
          unchecked\nreport checked 2 faults 1 end whole first 1 misdirected 1\n",
     ),
-    (Some(3), [3, 3], 0, 2, "refused 36 OtherKey\n"),
-    (Some(0), [3, 3], 3, 2, "refused 36 OtherKey\n"),
-    (Some(2), [3, 3], 3, 2, "refused 36 OtherKey\n"),
+    (TWO_DONE, 3, [3, 3], 0, 2, "refused 36 OtherKey\n"),
+    (TWO_DONE, 0, [3, 3], 3, 2, "refused 36 OtherKey\n"),
+    (TWO_DONE, 2, [3, 3], 3, 2, "refused 36 OtherKey\n"),
 ];
+
+/// Puts a byte there, if there is such a place.
+fn set_byte(bytes: &mut Vec<u8>, place: usize, byte: u8) {
+    if let Some(found) = bytes.get_mut(place) {
+        *found = byte;
+    }
+}
 
 /// The input of a row: servers stand in the last byte of four, behind 12 bytes of a state and behind
 /// 8 of a stamp. A block has 512 bytes behind its byte.
 fn input_of_row(alloc: Global, row: &Row) -> Option<Vec<u8>> {
-    let (state, blocks, _, _, _) = row;
-    let told: &[Tell] = if state.is_some() { TWO_DONE } else { &[] };
+    let (told, server, blocks, _, _, _) = row;
     let mut input = map_input(alloc, TWO_BLOCKS, told, &TARGET)?;
-    if let Some(server) = state {
-        *input.get_mut(4 + TWO_BLOCKS.len() + 4 + 15)? = *server;
+    if !told.is_empty() {
+        let place = TWO_BLOCKS.len().wrapping_add(4 + 4 + 15);
+        set_byte(&mut input, place, *server);
     }
-    let first = input.len().checked_sub(2 * 513)?;
-    *input.get_mut(first + 1 + 11)? = blocks[0];
-    *input.get_mut(first + 513 + 1 + 11)? = blocks[1];
+    let first = input.len().wrapping_sub(2 * 513);
+    set_byte(&mut input, first.wrapping_add(1 + 11), blocks[0]);
+    set_byte(&mut input, first.wrapping_add(513 + 1 + 11), blocks[1]);
     Some(input)
 }
 
 fn agrees(alloc: Global, row: &Row) -> Option<bool> {
-    let (_, _, server, status, lines) = row;
+    let (_, _, _, server, status, lines) = row;
     let input = input_of_row(alloc, row)?;
     let source = source_of(&input);
     Some(answers(alloc, key_of(RUN, *server), None, source, *status, lines))
