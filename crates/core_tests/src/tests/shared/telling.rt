@@ -43,11 +43,7 @@ struct Told {
 }
 
 /// Notes that say this, of which a save fails. Where memory runs out, they are made once more.
-pub fn notes_in<C: Node>(
-    alloc: Global,
-    words: &str,
-    failing: Failing,
-) -> Result<FaultNotes, Trouble> {
+fn notes_in<C: Node>(alloc: Global, words: &str, failing: Failing) -> Result<FaultNotes, Trouble> {
     match bytes_in::<C>(alloc, words) {
         Err(Trouble::NoMemory) => notes_of(bytes_in::<C>(alloc, words), failing),
         answer => notes_of(answer, failing),
@@ -159,7 +155,7 @@ fn answers_once_on<C: Node>(
 }
 
 /// Opens a node that is off, as the words say: 0, or the fault's number.
-pub fn open_as<C: Node>(life: &mut Life<C>, opening: &str) -> Result<u8, Trouble> {
+fn open_as<C: Node>(life: &mut Life<C>, opening: &str) -> Result<u8, Trouble> {
     match C::opening_in(opening) {
         Some(opening) => life.open(&opening),
         None => Err(Trouble::BadRow),
