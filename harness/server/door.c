@@ -5,6 +5,7 @@
 
 #include <errno.h>
 #include <poll.h>
+#include <stdio.h>
 #include <stdlib.h>
 #include <string.h>
 #include <sys/socket.h>
@@ -101,12 +102,16 @@ struct door shut_door(void) {
 }
 
 void open_door(struct door *door, struct node *node, const char *path) {
-    struct sockaddr_un address = address_of(path);
+    char *beside; /* who sees the door's name finds it open */
     pthread_t thread;
+    if (asprintf(&beside, "%s.new", path) < 0) give_up("memory", strerror(ENOMEM));
+    struct sockaddr_un address = address_of(beside);
     door->node = node;
     door->listening = socket(AF_UNIX, SOCK_STREAM | SOCK_CLOEXEC, 0);
-    unlink(path); /* (whoever left it there has ended: the note was locked) */
-    if (door->listening < 0 || bind(door->listening, (struct sockaddr *)&address, sizeof address) || listen(door->listening, 8)) give_up_by_errno(path);
+    unlink(beside); /* (whoever left it there has ended: the note was locked) */
+    if (door->listening < 0 || bind(door->listening, (struct sockaddr *)&address, sizeof address) || listen(door->listening, 8) || rename(beside, path))
+        give_up_by_errno(path);
+    free(beside);
     int error = pthread_create(&thread, NULL, stand, door);
     if (error) give_up("threads", strerror(error));
     pthread_detach(thread);
