@@ -59,9 +59,8 @@ abbrev pub Restarts : {T : Type 0} → (T → Note) → ℕ → Bool → Note
 Restarts note servers mirror old (Ok client) = Opens note servers mirror old client
 Restarts note servers mirror old (Err back) = NotOpened mirror old (note back.0) back.1
 
--- The note was empty. One save leaves it the spelling of what begins anew, and nothing failed. For
--- each list of which the old bytes say what it says, the client stands for that list with the
--- renewal.
+-- The note was empty, and is now the spelling of what begins anew; nothing failed. For each list of
+-- which the old bytes say what it says, the client stands for that list with the renewal.
 pub record BeginsAnew {T : Type 0} (note : T → Note) (servers g : ℕ) (old : Note)
     (client : PacketClient T) : Type 0 where
   pub free : IsTrue (is_generation g)
