@@ -14,7 +14,7 @@ mod words;
 mod written;
 
 use super::shared::{
-    Failing, NONE_FAILS, Trouble, holds_note, holds_once_on, unlike_after, unlike_over,
+    Failing, NONE_FAILS, Trouble, holds_note, holds_once_on, sends_all, unlike_after, unlike_over,
 };
 use notes::NOTES;
 use std::alloc::{AllocGlobal, Global};
@@ -96,6 +96,8 @@ fn a_full_table(rt: HostRuntime) {
     assert!(rt; copied == Ok(true));
     let fuller = holds_of(rt.alloc(), "full 1025", "restart", "");
     assert!(rt; fuller == Ok(false));
+    let sent = sends_all::<Told>(rt.alloc(), "full 1024", 1_024, &copies::ASKED_AGAIN);
+    assert!(rt; sent == Ok(true), "{sent:?}");
 }
 
 #[test]

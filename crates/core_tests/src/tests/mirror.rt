@@ -8,7 +8,7 @@ mod notes;
 mod stories;
 mod told;
 
-use super::shared::{Failing, holds_note, unlike_after, unlike_over};
+use super::shared::{Failing, holds_note, sends_all, unlike_after, unlike_over};
 use notes::NOTES;
 use std::alloc::AllocGlobal;
 use std::process::Abort;
@@ -65,7 +65,7 @@ fn a_full_table(rt: HostRuntime) {
     assert!(rt; fuller == Ok(false));
     let failing = full::fails(rt.alloc(), "full 1024", losses::FULL);
     assert!(rt; failing == Ok(true));
-    let sent = full::sends_all(rt.alloc(), "full 1024", 1_024);
+    let sent = sends_all::<Told>(rt.alloc(), "full 1024", 1_024, &full::FETCHED);
     assert!(rt; sent == Ok(true));
 }
 

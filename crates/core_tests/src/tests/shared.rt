@@ -1,6 +1,7 @@
 //! What the stories of the cores share: how frames, notes and states are spelled, and how a node is taken
 //! through rows.
 
+mod all_copies;
 mod changes;
 mod draft;
 mod frames;
@@ -15,6 +16,7 @@ mod trouble;
 mod vectors;
 mod words;
 
+pub use all_copies::{AllCopies, sends_all};
 pub use changes::{Reader, first_note, first_unlike_field, is_changed_note};
 pub use draft::Draft;
 pub use life::{Life, Unlike};

@@ -2,10 +2,12 @@
 //! ample memory.
 
 mod allocations;
+mod changed_frames;
 mod changed_pieces;
 mod frames;
 mod limits;
 mod looks;
+mod mirror_changes;
 mod mirrored;
 mod pieces;
 mod refusals;

@@ -43,7 +43,11 @@ struct Told {
 }
 
 /// Notes that say this, of which a save fails. Where memory runs out, they are made once more.
-fn notes_in<C: Node>(alloc: Global, words: &str, failing: Failing) -> Result<FaultNotes, Trouble> {
+pub fn notes_in<C: Node>(
+    alloc: Global,
+    words: &str,
+    failing: Failing,
+) -> Result<FaultNotes, Trouble> {
     match bytes_in::<C>(alloc, words) {
         Err(Trouble::NoMemory) => notes_of(bytes_in::<C>(alloc, words), failing),
         answer => notes_of(answer, failing),
@@ -155,7 +159,7 @@ fn answers_once_on<C: Node>(
 }
 
 /// Opens a node that is off, as the words say: 0, or the fault's number.
-fn open_as<C: Node>(life: &mut Life<C>, opening: &str) -> Result<u8, Trouble> {
+pub fn open_as<C: Node>(life: &mut Life<C>, opening: &str) -> Result<u8, Trouble> {
     match C::opening_in(opening) {
         Some(opening) => life.open(&opening),
         None => Err(Trouble::BadRow),

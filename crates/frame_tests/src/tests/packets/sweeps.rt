@@ -13,7 +13,7 @@ pub(super) type Counts = [u32; 7];
 
 /// What reads the bytes.
 #[derive(Clone, Copy)]
-enum Reader {
+pub(super) enum Reader {
     /// `decode`, of packets alone.
     Packets,
     /// `decode_frame`, of packets and of pieces.
@@ -56,7 +56,7 @@ const MIRROR: [(Counts, Counts); 5] = [
 
 /// What reading bytes comes to: 0 for what is written as these very bytes, 1 for another, else the number of
 /// the refusal.
-fn outcome_by(alloc: Global, reader: Reader, bytes: &[u8]) -> u8 {
+pub(super) fn outcome_by(alloc: Global, reader: Reader, bytes: &[u8]) -> u8 {
     match reader {
         Reader::Packets => outcome_as_packet(alloc, bytes),
         Reader::Frames => outcome(alloc, bytes),

@@ -1,6 +1,7 @@
 //! Copies of states, to a mirror and from it.
 
 use super::Story;
+use crate::tests::shared::AllCopies;
 
 /// With one server.
 pub static STORIES: [Story; 6] = [
@@ -179,3 +180,11 @@ pub static FULL: &str = "
     State 1 first~11=1 => StateAck 1 0
     begin writes => run 1 + Jobs 1 writes
 ";
+
+/// What comes of a tick where the mirror is known to keep none: the copies (FC, 1, 18, from 8 to 9, 136 bytes).
+pub const ASKED_AGAIN: AllCopies = AllCopies {
+    opening: "restart mirror",
+    event: "tick",
+    front: None,
+    head: b"FC\x01\x12\0\0\0\x08\0\0\0\x09\0\0\0\x88",
+};
