@@ -72,6 +72,15 @@ impl<N: Notes> Mirror<N> {
         notes
     }
 
+    /// The note that it keeps, as it is durable. Behind a failed save it is what that left.
+    pub fn notes(&self) -> &N
+        ensures note { N.note result.now ≡ N.note self.now.notes }
+        ensures says { (o : Opening) (past : List Entry) → StandsFor N.note self.now o past →
+            Says (N.note result.now).bytes (words_noted o past) }
+    {
+        &self.notes
+    }
+
     /// Whether it is on: a mirror whose save failed is down until it is restarted.
     pub fn on(&self) -> bool
         ensures { (o : Opening) (past : List Entry) → StandsFor N.note self.now o past →
