@@ -1,4 +1,5 @@
-//! What no clause shows of `filters`: lives of a server and of the client to the byte, and inputs that aren't lives.
+//! What no clause shows of `filters`: lives of a server, of the client and of a mirror to the byte, and inputs that
+//! aren't lives.
 
 mod client;
 mod draft;
@@ -6,6 +7,9 @@ mod ends;
 mod flushes;
 mod frames;
 mod heads;
+mod mirror;
+mod mirror_frames;
+mod mirrored;
 mod prefixes;
 mod refusals;
 mod rows;

@@ -14,7 +14,7 @@ use Rattle.client_core.specs.History.{Opening}
 use Rattle.client_core.specs.Hearing.{FrameEntry, Met}
 use Rattle.client_core.specs.FrameAnswers.{sense, due}
 use Rattle.client_core.specs.FrameEnds.{StandsFor, steps}
-use Rattle.filters.specs.declared.client_filter.asks.Answered.{Answered}
+use Rattle.filters.specs.declared.answered.Answered.{Answered}
 use Rattle.filters.specs.ClientSteps.{IsAnswered, NotAnswered, number_given}
 
 -- What a refused input leaves.

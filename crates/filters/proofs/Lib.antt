@@ -3,11 +3,16 @@ pub mod WriteLemmas
 pub mod ReadLemmas
 pub mod RunLemmas
 pub mod FrameLemmas
+pub mod NodeLemmas
 pub mod ClientLemmas
 pub mod TakeLemmas
 pub mod OpenLemmas
 pub mod BeginLemmas
 pub mod CutLemmas
+pub mod NodeCutLemmas
+pub mod ClientCutLemmas
+pub mod MirrorLemmas
+pub mod MirrorCutLemmas
 pub mod ServerLemmas
 pub mod TurnLemmas
 pub mod ServerTakeLemmas

@@ -18,7 +18,7 @@ use Rattle.client_core.specs.History.{Opening}
 use Rattle.client_core.specs.Note.{Says}
 use Rattle.client_core.specs.Hearing.{FrameEntry}
 use Rattle.client_core.specs.FrameAnswers.{due}
-use Rattle.filters.specs.declared.client_filter.asks.Answered.{Answered}
+use Rattle.filters.specs.declared.answered.Answered.{Answered}
 use Rattle.filters.specs.declared.kinds.Told.{Told}
 use Rattle.filters.specs.declared.kinds.Told.TheVariants as told
 use Rattle.filters.specs.declared.kinds.Said.TheVariants.{Report}

@@ -4,13 +4,12 @@ use Rattle.std.specs.Option.{option_map}
 use Rattle.std.specs.Int.{w8, w32, w64}
 use Rattle.fc_base.specs.Layouts.{bytes_of, number_in}
 use Rattle.fc_base.specs.declared.fault.Fault.{Fault}
-use Rattle.fc_base.specs.declared.fault.Fault.TheVariants.{BadNotice, FrameBadField}
+use Rattle.fc_base.specs.declared.fault.Fault.TheVariants.{BadNotice}
 use Rattle.fc_base.specs.declared.report.ReportEnd.{ReportEnd}
 use Rattle.fc_base.specs.declared.report.ReportEnd.TheVariants.{Whole, AtFault, ReadFault}
 use Rattle.fc_base.specs.declared.report.ReportParts.{ReportParts}
 use Rattle.messages.specs.Choices.{act_numbered, reason_number}
 use Rattle.messages.specs.FrameBytes.{frame_at, frame_faults}
-use Rattle.messages.specs.declared.frame.Frame.{Frame}
 use Rattle.client_core.specs.declared.input.Input.{Input}
 use Rattle.client_core.specs.declared.input.Input.TheVariants as inputs
 use Rattle.client_core.specs.declared.outcome.Outcome.{Outcome}
@@ -22,6 +21,7 @@ use Rattle.filters.specs.declared.asking.TriggerAsked.{TriggerAsked}
 use Rattle.filters.specs.declared.asking.LookAsked.{LookAsked}
 use Rattle.filters.specs.declared.kinds.Told.{Told}
 use Rattle.filters.specs.declared.kinds.Told.TheVariants as told
+use Rattle.filters.specs.NodeSteps.{with_frame}
 
 -- The number that eight bytes are.
 abbrev pub number_alone : List ℕ → Option ℕ
@@ -60,12 +60,6 @@ abbrev pub or_bad : Option Input → Result Input Fault
 or_bad (Some e) = Ok e
 or_bad None = Err BadNotice
 
--- The frame that bytes are, by the list of their faults.
-abbrev pub frame_or : List Fault → Option Frame → Result Input Fault
-frame_or [] (Some frame) = Ok (inputs.Deliver frame)
-frame_or [] None = Err FrameBadField
-frame_or (fault ∷ faults) frame = Err fault
-
 -- A run in eight bytes, and behind it a job file.
 abbrev pub verify_in : List ℕ → Result Input Fault
 verify_in body =
@@ -74,7 +68,7 @@ verify_in body =
 
 -- What comes to the client by a record of this kind: by those of other kinds nothing does.
 abbrev pub input_in : Told → List ℕ → Result Input Fault
-input_in told.Frame body = frame_or (frame_faults body) (frame_at body)
+input_in told.Frame body = with_frame inputs.Deliver (frame_faults body) (frame_at body)
 input_in told.Begin body = Ok (inputs.Begin body)
 input_in told.Trigger body = or_bad (option_map (λ t. inputs.Trigger t.run t.act) (trigger_in body))
 input_in told.Stop body = or_bad (option_map inputs.Stop (number_alone body))

@@ -1,47 +1,49 @@
 -- What is left of the client where its filter is cut at any byte of its answers, and how the next
 -- life stands on it.
-use Rattle.std.specs.Prelude.{◌≡◌, ◌⊎◌, ◌<◌, ℕ, false, List, ◌∷◌, ◌++◌, length}
+use Rattle.std.specs.Prelude.{◌≡◌, ℕ, Bool, List, [], ◌∷◌, ◌++◌, IsTrue}
+use Rattle.messages.specs.Ranges.{is_generation}
 use Rattle.client_core.specs.History.{Opening}
 use Rattle.client_core.specs.Note.{Says}
-use Rattle.client_core.specs.Hearing.{Restart, Cut}
-use Rattle.filters.specs.declared.kinds.Said.TheVariants.{Save}
-use Rattle.filters.specs.Kinds.{said_number}
-use Rattle.filters.specs.Records.{record_bytes}
+use Rattle.client_core.specs.Hearing.{FrameEntry, Restart, Cut}
+use Rattle.filters.specs.declared.beginning.Beginning.TheVariants.{Renewed}
 use Rattle.filters.specs.ClientSteps.{noted}
-use Rattle.filters.specs.ClientLives.{ClientAt, ClientTakes, BeginsBehind}
+use Rattle.filters.specs.ClientLives.{ClientAt, ClientTakes, BeginsBehind, MayBegin, restarts, starts, opening_bytes}
 use Rattle.filters.specs.Lives.{RecordParts, Lives}
 use Rattle.filters.specs.Cuts.{CutsBehind}
+use Rattle.filters.specs.NodeCuts.{CutsAnswer}
 
--- The bytes of a save.
-abbrev pub saved : List ℕ → List ℕ
-saved note = record_bytes (said_number Save) note
-
--- The note is as it was, or all of its save is in these bytes.
-abbrev pub HasSaved : ClientAt → ClientAt → List ℕ → Type 0
-HasSaved before after part =
-    (after.note ≡ before.note) ⊎ ((more : List ℕ) × (part ≡ saved after.note ++ more))
-
--- Of an answer only a part is there. Where that has the save, if there is one, the client is as
--- behind the record: what was sent counts as sent, and what is cut off as lost. Else just a part of
--- the save is there, and it is as if the record had not come.
-abbrev pub CutsAnswer : ClientAt → ClientAt → List ℕ → ClientAt → Type 0
-CutsAnswer before after part left =
-    ((left ≡ after) × HasSaved before after part)
-    ⊎ ((left ≡ before)
-    × ((more : List ℕ) × (saved after.note ≡ part ++ more) × (0 < length more)))
-
--- A client is cut so, and the next life over the note that it leaves begins behind its list and the
--- cut.
-pub record GoesOnFrom (o : Opening) (first : ClientAt) (records : List RecordParts)
-    (front : List ℕ) : Type 0 where
+-- A client is cut so, and the next life over the note that it leaves, with a mirror or without one,
+-- may begin, and begins behind its list and the cut.
+pub record GoesOnFrom (mirror : Bool) (o : Opening) (first : ClientAt)
+    (records : List RecordParts) (front : List ℕ) : Type 0 where
   pub left : ClientAt
-  pub cuts : CutsBehind (ClientTakes o) CutsAnswer first records front left
-  pub next : BeginsBehind o.servers left.note o
-      (record { list = Restart false ∷ (Cut ∷ left.list); note = left.note })
+  pub cuts : CutsBehind (ClientTakes o) (CutsAnswer (λ (at : ClientAt). at.note)) first records front left
+  pub may : MayBegin (restarts mirror) left.note
+  pub next : BeginsBehind (restarts mirror) o.servers left.note o
+      (record { list = Restart mirror ∷ (Cut ∷ left.list); note = left.note })
 
--- Wherever the answers of a life are cut, the next one goes on from there.
+-- Wherever the answers of a life are cut, the next one goes on from there: with a mirror, where the
+-- note of this one wasn't empty.
 abbrev pub LivesGoOn : Type 0
 LivesGoOn =
-    (o : Opening) (first now : ClientAt) (records : List RecordParts) (front back : List ℕ) →
-    Says first.note (noted o first.list) → Lives (ClientTakes o) first records now (front ++ back)
-    → GoesOnFrom o first records front
+    (mirror : Bool) (o : Opening) (first now : ClientAt) (records : List RecordParts)
+    (front back : List ℕ) →
+    MayBegin (restarts mirror) first.note → Says first.note (noted o first.list)
+    → Lives (ClientTakes o) first records now (front ++ back)
+    → GoesOnFrom mirror o first records front
+
+-- A client that begins anew is cut in the answer to its note. Where that has the save, it has begun;
+-- else its note is still lost, and it is as if it had not.
+pub record IsRenewedFrom (g : ℕ) (o : Opening) (past : List FrameEntry) (front : List ℕ)
+    : Type 0 where
+  pub left : ClientAt
+  pub cuts : CutsAnswer (λ (at : ClientAt). at.note) (record { list = past; note = [] })
+      (starts (Renewed g) past []) front left
+  pub says : Says left.note (noted o left.list)
+
+-- Wherever the answer to the note of a client is cut that begins anew.
+abbrev pub RenewalsGoOn : Type 0
+RenewalsGoOn =
+    (g : ℕ) (o : Opening) (past : List FrameEntry) (front back : List ℕ) →
+    IsTrue (is_generation g) → Says [] (noted o past)
+    → opening_bytes (Renewed g) ≡ front ++ back → IsRenewedFrom g o past front

@@ -1,36 +1,39 @@
 -- What the client's filter makes of each record, by the list of all that came to its client, and
 -- how it runs.
-use Rattle.std.specs.Prelude.{◌≡◌, ◌⊎◌, ⊤, ℕ, false, List, [], ◌∷◌, ◌++◌, map, is_some, slice_get, Option, Some, None, Result, Ok, Err}
+use Rattle.std.specs.Prelude.{◌≡◌, ◌≢◌, ◌⊎◌, ⊤, ℕ, Bool, true, false, List, [], ◌∷◌, ◌++◌, map, is_some, slice_get, Option, Some, None, Result, Ok, Err, IsTrue}
 use Rattle.fc_base.specs.Layouts.{spelled_blocks}
-use Rattle.fc_base.specs.Fault.{sort_of}
 use Rattle.fc_base.specs.declared.fault.Fault.{Fault}
-use Rattle.fc_base.specs.declared.fault.Fault.TheVariants.{BadNotice, BadNote, NoMemory}
-use Rattle.fc_base.specs.declared.fault.FaultSort.TheVariants.{Memory}
+use Rattle.fc_base.specs.declared.fault.Fault.TheVariants.{BadNotice, BadNote, BadGeneration, NoMemory}
 use Rattle.disk_model.specs.Notes.{Note}
+use Rattle.disk_model.specs.declared.left.Left.TheVariants.{Saved}
 use Rattle.messages.specs.FrameBytes.{frame_spelling}
+use Rattle.messages.specs.Ranges.{is_generation}
 use Rattle.client_core.specs.declared.client.Client.{Client}
 use Rattle.client_core.specs.declared.input.Input.{Input}
 use Rattle.client_core.specs.declared.noted.Noted.{Noted}
 use Rattle.client_core.specs.declared.received.Received.{Received}
 use Rattle.client_core.specs.History.{Opening}
-use Rattle.client_core.specs.Note.{Says, spelling}
+use Rattle.client_core.specs.Note.{Says, new_note as note_anew, spelling}
 use Rattle.client_core.specs.Words.{shown_entries}
 use Rattle.client_core.specs.Life.{life}
 use Rattle.client_core.specs.Outcomes.{outcome}
 use Rattle.client_core.specs.Reports.{reports}
 use Rattle.client_core.specs.Stands.{IsBadNote}
-use Rattle.client_core.specs.Hearing.{FrameEntry, Restart, packets_heard}
+use Rattle.client_core.specs.Hearing.{FrameEntry, Restart, Renew, packets_heard}
 use Rattle.client_core.specs.FrameAnswers.{refusal, due, frames, answered_entry}
 use Rattle.client_core.specs.FrameEnds.{StandsFor}
 use Rattle.filters.specs.declared.asking.LookAsked.{LookAsked}
+use Rattle.filters.specs.declared.beginning.Beginning.{Beginning}
+use Rattle.filters.specs.declared.beginning.Beginning.TheVariants.{Alone, Mirrored, Renewed}
 use Rattle.filters.specs.declared.kinds.Told.{Told}
 use Rattle.filters.specs.declared.kinds.Told.TheVariants as told
-use Rattle.filters.specs.declared.kinds.Said.TheVariants.{Outcome, Report}
+use Rattle.filters.specs.declared.kinds.Said.TheVariants.{Save, Outcome, Report}
 use Rattle.filters.specs.Kept.{note_with}
 use Rattle.filters.specs.Kinds.{told_numbered, said_number}
 use Rattle.filters.specs.Records.{record_bytes, end_bytes}
 use Rattle.filters.specs.ClientAsks.{number_alone, look_in, input_in, outcome_number, report_names, report_counts}
 use Rattle.filters.specs.ClientSteps.{noted, after_answer, after_refusal, number_given, save_bytes, number_bytes, send_bytes}
+use Rattle.filters.specs.NodeSteps.{Leaves, WantsMemory}
 use Rattle.filters.specs.Lives.{RecordParts, Filter}
 
 -- A client at some moment: the list of all that came to it, the newest first, and its note.
@@ -68,15 +71,6 @@ at_by None o at e = record {
   note = note_with (due o at.list e) (new_note o at.list e) at.note;
 }
 at_by (Some fault) o at e = record at { list = after_refusal o at.list e }
-
--- This is answered, and the client is left so.
-abbrev pub Leaves : ClientAt → List ℕ → ClientAt → List ℕ → Type 0
-Leaves at reply now answer = (now ≡ at) × (answer ≡ reply)
-
--- For want of memory just that is answered, and nothing changes.
-abbrev pub WantsMemory : ClientAt → ClientAt → List ℕ → Type 0
-WantsMemory at now answer =
-    (fault : Fault) × (sort_of fault ≡ Memory) × Leaves at (end_bytes (Err fault)) now answer
 
 -- What is made of an input: what the list says of it; or memory is wanting.
 abbrev pub TakesInput : Opening → ClientAt → Input → ClientAt → List ℕ → Type 0
@@ -133,25 +127,84 @@ abbrev pub ClientTakes : Opening → ClientAt → RecordParts → ClientAt → L
 ClientTakes o at r now answer =
     TakesKind o at (told_numbered r.kind) r.body now answer × Says now.note (noted o now.list)
 
--- The client begins over its note, with a restart behind any list of which that says what it says.
-pub record BeginsBehind (servers : ℕ) (note : List ℕ) (o : Opening) (first : ClientAt) : Type 0 where
+-- A restart over the note, with a mirror or without one.
+abbrev pub restarts : Bool → Beginning
+restarts false = Alone
+restarts true = Mirrored
+
+-- The client is begun anew.
+abbrev pub is_renewal : Beginning → Bool
+is_renewal Alone = false
+is_renewal Mirrored = false
+is_renewal (Renewed g) = true
+
+-- A client may begin so over this note: with a mirror over one that isn't empty; anew over an empty
+-- one, in a generation that there can be.
+abbrev pub MayBegin : Beginning → List ℕ → Type 0
+MayBegin Alone note = ⊤
+MayBegin Mirrored note = note ≢ []
+MayBegin (Renewed g) note = (note ≡ []) × IsTrue (is_generation g)
+
+-- What stands in the list of a client that begins: a restart, or a renewal, which is saved.
+abbrev pub first_entry : Beginning → FrameEntry
+first_entry Alone = Restart false
+first_entry Mirrored = Restart true
+first_entry (Renewed g) = Renew g Saved
+
+-- The note of a client that begins: the one that was there, or that of its generation.
+abbrev pub first_note : Beginning → List ℕ → List ℕ
+first_note Alone note = note
+first_note Mirrored note = note
+first_note (Renewed g) note = spelling (note_anew g)
+
+-- Where a client is that begins so, behind this list and over this note.
+abbrev pub starts : Beginning → List FrameEntry → List ℕ → ClientAt
+starts beginning past note = record {
+  list = first_entry beginning ∷ past;
+  note = first_note beginning note;
+}
+
+-- The client begins over its note, behind any list of which that says what it says.
+pub record BeginsBehind (beginning : Beginning) (servers : ℕ) (note : List ℕ) (o : Opening)
+    (first : ClientAt) : Type 0 where
   pub past : List FrameEntry
   pub servers_are : o.servers ≡ servers
   pub says : Says note (noted o past)
-  pub begins : first ≡ record { list = Restart false ∷ past; note = note }
+  pub begins : first ≡ starts beginning past note
 
--- The client isn't opened: the bytes are no note, or memory is wanting.
-abbrev pub RefusesNote : List ℕ → Fault → Type 0
-RefusesNote note BadNote = IsBadNote false note
-RefusesNote note NoMemory = ⊤
-RefusesNote note fault = ⊥
+-- What is answered to the note: its save, where the client begins anew; and the end.
+abbrev pub opening_bytes : Beginning → List ℕ
+opening_bytes Alone = end_bytes (Ok tt)
+opening_bytes Mirrored = end_bytes (Ok tt)
+opening_bytes (Renewed g) =
+    record_bytes (said_number Save) (spelling (note_anew g)) ++ end_bytes (Ok tt)
+
+-- The client isn't restarted: the bytes are no note that it may have, or memory is wanting.
+abbrev pub NotRestarted : Bool → List ℕ → Fault → Type 0
+NotRestarted mirror note BadNote = IsBadNote mirror note
+NotRestarted mirror note NoMemory = ⊤
+NotRestarted mirror note fault = ⊥
+
+-- It doesn't begin anew, in this order: no generation has the number; there is a note; memory is
+-- wanting.
+abbrev pub NotRenewed : ℕ → List ℕ → Fault → Type 0
+NotRenewed g note BadGeneration = is_generation g ≡ false
+NotRenewed g note BadNote = IsTrue (is_generation g) × (note ≢ [])
+NotRenewed g note NoMemory = ⊤
+NotRenewed g note fault = ⊥
+
+-- The client isn't opened so over these bytes.
+abbrev pub RefusesNote : Beginning → List ℕ → Fault → Type 0
+RefusesNote Alone note fault = NotRestarted false note fault
+RefusesNote Mirrored note fault = NotRestarted true note fault
+RefusesNote (Renewed g) note fault = NotRenewed g note fault
 
 -- The client of so many servers as a filter. That it is opened is answered before all else.
-abbrev pub client_filter : ℕ → Filter Opening ClientAt Noted
-client_filter servers = record {
-  Says = Says;
-  Begins = λ note said. BeginsBehind servers note;
-  opening = λ said. end_bytes (Ok tt);
-  Refuses = RefusesNote;
+abbrev pub client_filter : Beginning → ℕ → Filter Opening ClientAt Noted
+client_filter beginning servers = record {
+  Says = λ note said. MayBegin beginning note × Says note said;
+  Begins = λ note said. BeginsBehind beginning servers note;
+  opening = λ said. opening_bytes beginning;
+  Refuses = RefusesNote beginning;
   Takes = ClientTakes;
 }

@@ -22,7 +22,7 @@ use Rattle.client_core.specs.Words.{words_noted}
 use Rattle.client_core.specs.Hearing.{FrameEntry, Met, packets_heard}
 use Rattle.client_core.specs.FrameAnswers.{sense, refusal, due, frames, answered_entry}
 use Rattle.client_core.specs.FrameEnds.{StandsFor}
-use Rattle.filters.specs.declared.client_filter.asks.Answered.{Answered}
+use Rattle.filters.specs.declared.answered.Answered.{Answered}
 use Rattle.filters.specs.declared.kinds.Said.TheVariants.{Save, Send, Number}
 use Rattle.filters.specs.Kinds.{said_number}
 use Rattle.filters.specs.Records.{record_bytes, end_bytes}

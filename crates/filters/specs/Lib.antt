@@ -5,10 +5,16 @@ pub mod Kept
 pub mod Lives
 pub mod Cuts
 pub mod Steps
+pub mod NodeSteps
+pub mod NodeCuts
 pub mod ClientAsks
 pub mod ClientSteps
 pub mod ClientLives
+pub mod ClientRuns
 pub mod ClientCuts
+pub mod MirrorLives
+pub mod MirrorSteps
+pub mod MirrorCuts
 pub mod ServerTells
 pub mod ServerSteps
 pub mod ServerLives

@@ -1,45 +1,56 @@
 //! The client as a filter.
 
-ghost use Rattle.std.specs.Prelude.{◌≤◌, [], Some, OnOk, IfOk, IfSome};
+ghost use Rattle.std.specs.Prelude.{◌≤◌, ◌++◌, Some, Ok, OnOk, IfOk, IfSome};
 ghost use Rattle.std.specs.Io.Buffered.{reader_remaining};
+ghost use Rattle.std.specs.Io.KnownBytes.{Appends};
 ghost use Rattle.fc_base.specs.declared.limits.TheConstants.{MAX_SERVERS};
+ghost use Rattle.client_core.specs.History.{Opening as ClientOpening};
 ghost use Rattle.filters.specs.Kept.{note_kept};
-ghost use Rattle.filters.specs.Lives.{HasRun, RunsOver, Runs};
-ghost use Rattle.filters.specs.Steps.{AnswersBy, AnswersRecord, StepsBy, parts_of};
-ghost use Rattle.filters.specs.ClientLives.{IsAt, ClientTakes, TakesKind, client_filter};
+ghost use Rattle.filters.specs.Lives.{RunsOver, Runs};
+ghost use Rattle.filters.specs.Records.{end_bytes};
+ghost use Rattle.filters.specs.Steps.{AnswersBy, AnswersRecord, parts_of};
+ghost use Rattle.filters.specs.ClientSteps.{save_bytes};
+ghost use Rattle.filters.specs.ClientLives.{ClientAt, IsAt, ClientTakes, TakesKind, client_filter, is_renewal};
 
 mod asks;
+mod begins;
 mod tells;
 
+use crate::beginning::Beginning;
 use crate::kept_notes::KeptNotes;
 use crate::kinds::Told;
-use crate::reading::{first_note, next_record};
+use crate::reading::first_note;
 use crate::record::Record;
-use crate::writing::{put_end, refuse};
+use crate::records_node::{RecordsNode, run_records};
+use crate::writing::{put_end, put_save, refuse};
+use begins::open;
 use client_core::Client;
 use fc_base::Fault;
 use std::alloc::Global;
 use std::io;
 use std::io::{BufReader, Read, Write};
 
-/// Serves as the client of so many servers, without a mirror, until the input ends, and answers the exit
+/// Serves as the client of so many servers, which begins so, until the input ends, and answers the exit
 /// status: 0, or 2 where it can't go on, which the last record says.
 ///
-/// The first record is the note. What comes behind it is answered record by record, each by records of which
-/// the last is an end. They are flushed before the next record is waited for. An error is that of a write.
+/// The first record is the note, and the first save the note of a client that begins anew. What comes behind
+/// it is answered record by record, each by records of which the last is an end. They are flushed before the
+/// next record is waited for. An error is that of a write.
 pub fn run_client<R: Read, W: Write>(
     alloc: Global,
     servers: u32,
+    beginning: Beginning,
     reader: &mut BufReader<R>,
     writer: &mut W,
 ) -> io::Result<u8>
     requires some { 1 ≤ servers }
     requires few { servers ≤ MAX_SERVERS }
     ensures { IfSome (reader_remaining R.remaining reader.old) (λ input. IfOk result
-        (Runs (client_filter servers) input (W.contents writer.old) (W.contents writer.new))) }
+        (Runs (client_filter beginning servers) input
+        (W.contents writer.old) (W.contents writer.new))) }
 {
     match first_note(alloc, reader, writer)? {
-        Ok(note) => run_over(alloc, servers, note, reader, writer),
+        Ok(note) => run_over(alloc, servers, beginning, note, reader, writer),
         Err(fault) => refuse(writer, fault),
     }
 }
@@ -48,6 +59,7 @@ pub fn run_client<R: Read, W: Write>(
 fn run_over<R: Read, W: Write>(
     alloc: Global,
     servers: u32,
+    beginning: Beginning,
     note: Vec<u8>,
     reader: &mut BufReader<R>,
     writer: &mut W,
@@ -55,16 +67,16 @@ fn run_over<R: Read, W: Write>(
     requires some { 1 ≤ servers }
     requires few { servers ≤ MAX_SERVERS }
     ensures { IfSome (reader_remaining R.remaining reader.old) (λ behind. IfOk result
-        (RunsOver (client_filter servers) note.items behind (W.contents writer.old)
-        (W.contents writer.new))) }
+        (RunsOver (client_filter beginning servers) note.items behind
+        (W.contents writer.old) (W.contents writer.new))) }
 {
-    let client = match Client::restart(alloc, servers, false, KeptNotes::new(note)) {
+    let client = match open(alloc, servers, &beginning, note) {
         Ok(client) => client,
-        Err((_, fault)) => return refuse(writer, fault),
+        Err(fault) => return refuse(writer, fault),
     };
     let mut filter = ClientFilter { alloc, client };
-    put_end(writer, Ok(()))?;
-    filter.run(reader, writer)
+    filter.put_opening(&beginning, writer)?;
+    run_records(alloc, &mut filter, reader, writer)
 }
 
 /// The client over its note.
@@ -74,51 +86,29 @@ pub(crate) struct ClientFilter {
     client: Client<KeptNotes>,
 }
 
-impl ClientFilter {
-    /// Answers records until there is none.
-    fn run<R: Read, W: Write>(
-        &mut self,
-        reader: &mut BufReader<R>,
-        writer: &mut W,
-    ) -> io::Result<u8>
-        ensures { IfSome (reader_remaining R.remaining reader.old) (λ input. IfOk result
-            (HasRun ClientTakes (IsAt note_kept self.old.client) [] input
-            (W.contents writer.old) (W.contents writer.new))) }
-    {
-        for _ in 0..u64::MAX {
-            if let Some(status) = self.step(reader, writer)? {
-                return Ok(status);
-            }
-        }
-        refuse(writer, Fault::TurnsSpent)
-    }
+impl RecordsNode for ClientFilter {
+    ghost Opening = { ClientOpening };
 
-    /// Reads a record and answers it; the exit status where there is none.
-    fn step<R: Read, W: Write>(
-        &mut self,
-        reader: &mut BufReader<R>,
-        writer: &mut W,
-    ) -> io::Result<Option<u8>>
-        ensures { IfOk result
-            (StepsBy ClientTakes (IsAt note_kept self.old.client)
-            (IsAt note_kept self.new.client)
-            (reader_remaining R.remaining reader.old) (reader_remaining R.remaining reader.new)
-            (W.contents writer.old) (W.contents writer.new)) }
+    ghost Moment = { ClientAt };
+
+    ghost Makes = { ClientTakes };
+
+    ghost StandsAt = { λ filter o at. IsAt note_kept filter.client o at };
+
+    fn answer_record<W: Write>(&mut self, came: &Record, writer: &mut W) -> io::Result<()> {
+        self.answer(came, writer)
+    }
+}
+
+impl ClientFilter {
+    /// Writes the answer to the note: what is saved as the client begins, and the end.
+    fn put_opening<W: Write>(&self, beginning: &Beginning, writer: &mut W) -> io::Result<()>
+        ensures { OnOk result (Appends (W.contents writer.old) (W.contents writer.new)
+            (save_bytes (is_renewal beginning.now) (note_kept self.now.client.core.notes).bytes
+            ++ end_bytes (Ok tt))) }
     {
-        match next_record(self.alloc, reader, writer)? {
-            Ok(Some(came)) => {
-                self.answer(&came, writer)?;
-                Ok(None)
-            }
-            Ok(None) => {
-                writer.flush()?;
-                Ok(Some(0))
-            }
-            Err(fault) => {
-                let status = refuse(writer, fault)?;
-                Ok(Some(status))
-            }
-        }
+        put_save(writer, beginning.saves(), self.client.notes().as_slice())?;
+        put_end(writer, Ok(()))
     }
 
     /// Answers a record.

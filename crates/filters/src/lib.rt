@@ -1,33 +1,40 @@
-//! Nodes as filters: a server or the client over a reader and a writer. What comes to it is read as records,
-//! and what it saves, answers, orders and sends is written as records, in that order.
+//! Nodes as filters: a server, the client or a mirror over a reader and a writer. What comes to it is read as
+//! records, and what it saves, answers, orders and sends is written as records, in that order.
 //!
 //! ```text
 //! let status = run_server(alloc, me, &mut reader, &mut writer)?;
-//! let status = run_client(alloc, servers, &mut reader, &mut writer)?;
+//! let status = run_client(alloc, servers, Beginning::Alone, &mut reader, &mut writer)?;
+//! let status = run_mirror(alloc, &mut reader, &mut writer)?;
 //! ```
 //!
 //! Begin with `specs/Records.antt`, which has the bytes, and with `specs/ClientSteps.antt`, which says what comes of
 //! what the client is asked.
 #![tactic(auto)]
 
+mod answered;
 mod asking;
+mod beginning;
 mod checking;
 mod client_filter;
 mod command;
 mod kept_notes;
 mod kinds;
 mod law;
+mod mirror_filter;
 mod names;
 mod reading;
 mod record;
+mod records_node;
 mod server_filter;
 mod telling;
 mod writing;
 
+pub use beginning::Beginning;
 pub use client_filter::run_client;
 pub use command::{Request, read_words};
 pub use kept_notes::KeptNotes;
 pub use kinds::{Said, Told};
-pub use law::cut_law;
+pub use law::{cut_law, mirror_cut_law};
+pub use mirror_filter::run_mirror;
 pub use record::MAX_BODY;
 pub use server_filter::run_server;

@@ -1,10 +1,10 @@
-//! The program `fiocut_node`: a server or the client as a filter over standard input and output. Whatever starts
-//! it makes its saves durable, carries its orders out, and carries its frames to the other nodes.
+//! The program `fiocut_node`: a server, the client or a mirror as a filter over standard input and output. Whatever
+//! starts it makes its saves durable, carries its orders out, and carries its frames to the other nodes.
 #![tactic(auto)]
 
 ghost use Rattle.filters.specs.Command.{IsRequest};
 
-use filters::{Request, read_words, run_client, run_server};
+use filters::{Request, read_words, run_client, run_mirror, run_server};
 use program_io::{REFUSED, refuse_words};
 use std::io;
 use std::io::{BufReader, BufWriter, Write};
@@ -52,7 +52,10 @@ fn answer_by<R: AllocGlobal + Input, W: Write>(
     };
     match request {
         Request::Server(me) => run_server(alloc, me, &mut reader, writer),
-        Request::Client(servers) => run_client(alloc, servers, &mut reader, writer),
+        Request::Client(servers, beginning) => {
+            run_client(alloc, servers, beginning, &mut reader, writer)
+        }
+        Request::Mirror => run_mirror(alloc, &mut reader, writer),
     }
 }
 

@@ -6,8 +6,8 @@ use fake_io::{failing, failing_at, in_steps, interrupted, page_with};
 use std::alloc::Global;
 use std::test::Fail;
 
-/// What is no note, or no record: of both nodes.
-static OF_BOTH: [(&str, &str); 7] = [
+/// What is no note, or no record: of each node.
+static OF_EACH: [(&str, &str); 7] = [
     ("nothing", "< end 5f"),
     ("a part of a head", "! 01 00*7\n< end 5f"),
     ("a part of a note", "! 01 8:2 46\n< end 5f"),
@@ -49,8 +49,9 @@ fn all_end(alloc: Global, node: Node, rows: &[(&'static str, &str)]) -> Result<(
 
 #[test]
 fn inputs_without_a_note(rt: HostRuntime) -> Result<(), Fail> {
-    all_end(rt.alloc(), Node::Server(0), &OF_BOTH)?;
-    all_end(rt.alloc(), Node::Client(1), &OF_BOTH)?;
+    all_end(rt.alloc(), Node::Server(0), &OF_EACH)?;
+    all_end(rt.alloc(), Node::Client(1), &OF_EACH)?;
+    all_end(rt.alloc(), Node::Mirror, &OF_EACH)?;
     all_end(rt.alloc(), Node::Server(0), &OF_A_SERVER)
 }
 
@@ -103,6 +104,8 @@ fn failed_writes(rt: HostRuntime) -> Result<(), Fail> {
         (Node::Server(0), super::server::WRITES),
         (Node::Server(0), super::server::CHECKS),
         (Node::Client(1), super::client::CHECKS),
+        (Node::Mirror, super::mirror::KEEPS),
+        (Node::Renewed(1, 1), super::mirrored::BEGINS),
     ];
     for (node, rows) in lives {
         let life = life_of(rt.alloc(), rows)?;

@@ -37,6 +37,8 @@ fn answers_are_flushed(rt: HostRuntime) -> Result<(), Fail> {
         (Node::Server(0), super::server::CHECKS, 6),
         (Node::Client(1), super::client::WRITES, 14),
         (Node::Client(1), super::client::CHECKS, 13),
+        (Node::Mirror, super::mirror::KEEPS, 9),
+        (Node::Renewed(1, 1), super::mirrored::BEGINS, 16),
     ];
     for (node, rows, flushes) in lives {
         if !is_shown(rt.alloc(), node, rows, flushes) {

@@ -1,13 +1,23 @@
 //! The frames of a run of one job at server 0, and what else rows name: as another program made them.
 
+use super::mirror_frames;
+
 /// The digits of the frame with this name; none for no frame.
 pub fn digits_of(name: &str) -> &'static str {
-    for (known, digits) in FRAMES.iter() {
+    match digits_in(&FRAMES, name) {
+        Some(digits) => digits,
+        None => digits_in(&mirror_frames::FRAMES, name).unwrap_or("none"),
+    }
+}
+
+/// The digits of the frame of these with this name.
+fn digits_in(frames: &[(&'static str, &'static str)], name: &str) -> Option<&'static str> {
+    for (known, digits) in frames.iter() {
         if *known == name {
-            return digits;
+            return Some(*digits);
         }
     }
-    "none"
+    None
 }
 
 /// The job file with this name: the one by which the run writes, and the one by which it is checked.

@@ -18,7 +18,7 @@ const TICK: [u8; 9] = [11, 0, 0, 0, 0, 0, 0, 0, 0];
 fn opened(node: Node) -> &'static str {
     match node {
         Node::Server(_) => "41 8:20 46434e31 8:1 8:0 49 8:1 00",
-        Node::Client(_) => "49 8:1 00",
+        _ => "49 8:1 00",
     }
 }
 
@@ -28,8 +28,8 @@ fn by_kind(node: Node, kind: u8) -> &'static str {
         return "49 8:1 28";
     }
     match node {
-        Node::Server(_) => "49 8:1 5e",
         Node::Client(_) => by_kind_at_the_client(kind),
+        _ => "49 8:1 5e",
     }
 }
 
@@ -90,7 +90,7 @@ fn agrees(alloc: Global, node: Node, place: usize, byte: u8) -> Result<bool, All
 
 #[test]
 fn changed_heads(rt: HostRuntime) -> Result<(), Fail> {
-    for node in [Node::Server(0), Node::Client(1)] {
+    for node in [Node::Server(0), Node::Client(1), Node::Mirror] {
         for place in 0..9usize {
             for byte in 0..=255u8 {
                 if !agrees(rt.alloc(), node, place, byte)? {

@@ -48,6 +48,8 @@ fn fronts_of_lives(rt: HostRuntime) -> Result<(), Fail> {
         ("its check", Node::Server(0), super::server::CHECKS),
         ("client", Node::Client(1), super::client::WRITES),
         ("its verify", Node::Client(1), super::client::CHECKS),
+        ("mirror", Node::Mirror, super::mirror::KEEPS),
+        ("renewed", Node::Renewed(1, 2), super::mirrored::RENEWS),
     ];
     for (name, node, rows) in lives {
         if !fronts_agree(rt.alloc(), node, rows)? {

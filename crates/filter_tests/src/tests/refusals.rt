@@ -127,6 +127,77 @@ static AT_THE_CLIENT: &str = "
     < end 00
 ";
 
+/// To a mirror: all but frames; bytes that are no frame, as another program refuses them; and frames that aren't for it,
+/// or that only a client takes.
+static AT_A_MIRROR: &str = "
+    > note
+    < end 00
+    > 0
+    < end 5e
+    > 14
+    < end 5e
+    > 66
+    < end 5e
+    > 255 00
+    < end 5e
+    > note
+    < end 5e
+    > done 8:1 4:0 8:0
+    < end 5e
+    > failed 8:1 4:0 8:0
+    < end 5e
+    > blocks 8:1 4:0 4:0 stamp:0:0
+    < end 5e
+    > unread 8:1 4:0 4:0
+    < end 5e
+    > begin text:write
+    < end 5e
+    > trigger 8:1 01
+    < end 5e
+    > stop 8:1
+    < end 5e
+    > verify 8:1 text:read
+    < end 5e
+    > tick
+    < end 5e
+    > look 8:1 4:0 01
+    < end 5e
+    > show 8:0
+    < end 5e
+    > frame
+    < end 28
+    > frame 00*16
+    < end 29
+    > frame 46430114000000080000000900000008 00*7
+    < end 28
+    > frame 46430114000000080000000900000008 8:1 00
+    < end 2d
+    > frame 46430114000000080000000900000008 8:0
+    < end 2b
+    > frame 46430114000000080000000900000008 8:4294967296
+    < end 2b
+    > frame 46430116000000080000000900000008 8:1
+    < end 2a
+    > frame frame:Jobs
+    < end 45
+    > frame frame:Granted1
+    < end 45
+    > frame frame:Copy2
+    < end 45
+    > frame 46430114000000000000000900000008 8:1
+    < end 45
+    > frame 46430114000000090000000900000008 8:1
+    < end 45
+    > frame 46430103000000080000000900000008 8:1
+    < end 45
+    > frame 46430115000000080000000900000008 8:1
+    < end 45
+    > frame frame:Fetch1
+    < save 46434d31 8:1 4:0
+    < send frame:Granted1
+    < end 00
+";
+
 #[test]
 fn refused_records(rt: HostRuntime) -> Result<(), Fail> {
     if !lives_by(rt.alloc(), Node::Server(0), AT_A_SERVER, 0) {
@@ -134,6 +205,9 @@ fn refused_records(rt: HostRuntime) -> Result<(), Fail> {
     }
     if !lives_by(rt.alloc(), Node::Client(1), AT_THE_CLIENT, 0) {
         return Err(Fail::new("the client"));
+    }
+    if !lives_by(rt.alloc(), Node::Mirror, AT_A_MIRROR, 0) {
+        return Err(Fail::new("a mirror"));
     }
     Ok(())
 }

@@ -11,21 +11,11 @@ ghost use Rattle.filters.specs.ClientAsks.{input_in};
 ghost use Rattle.filters.specs.ClientSteps.{InputEnds, BodyEnds};
 
 use super::ClientFilter;
+use crate::answered::Answered;
 use crate::asking::{number_alone, trigger_in};
 use crate::kinds::Told;
 use fc_base::{Fault, RunNo, split_u64};
-use messages::{Act, Frame, Frames, decode_frame};
-
-/// What the client answers.
-#[derive(Drop)]
-pub(crate) struct Answered {
-    /// Whether it has saved its note.
-    pub saves: bool,
-    /// The number of a run or of an attempt that it gives.
-    pub number: Option<u64>,
-    /// The frames that it sends.
-    pub frames: Frames,
-}
+use messages::{Act, Frame, decode_frame};
 
 impl ClientFilter {
     /// Asks the client what a record says.

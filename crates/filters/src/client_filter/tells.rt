@@ -6,16 +6,16 @@ ghost use Rattle.std.specs.Io.KnownBytes.{Appends};
 ghost use Rattle.filters.specs.declared.kinds.Told.TheVariants as told;
 ghost use Rattle.filters.specs.Kept.{note_kept};
 ghost use Rattle.filters.specs.ClientAsks.{input_in};
-ghost use Rattle.filters.specs.ClientSteps.{answer_bytes, result_bytes, number_bytes};
+ghost use Rattle.filters.specs.ClientSteps.{result_bytes};
 ghost use Rattle.filters.specs.ClientLives.{IsAt, TakesBody, TakesKind, report_if};
 ghost use Rattle.filters.specs.Steps.{AnswersBy};
 
 use super::ClientFilter;
-use super::asks::Answered;
+use crate::answered::{Answered, put_result};
 use crate::asking::{look_in, number_alone};
 use crate::kinds::{Said, Told};
 use crate::telling::{outcome_number, put_report};
-use crate::writing::{put_end, put_frames, put_record, put_save, put_with};
+use crate::writing::{put_end, put_with};
 use client_core::Received;
 use fc_base::Fault;
 use std::io;
@@ -47,14 +47,7 @@ impl ClientFilter {
         ensures { OnOk result (Appends (W.contents writer.old) (W.contents writer.new)
             (result_bytes (note_kept self.now.client.core.notes).bytes answer)) }
     {
-        match answer {
-            Ok(answered) => {
-                let note = self.client.notes().as_slice();
-                put_answer(writer, note, &answered)?;
-                put_end(writer, Ok(()))
-            }
-            Err(fault) => put_end(writer, Err(fault)),
-        }
+        put_result(writer, self.client.notes().as_slice(), answer)
     }
 
     /// Writes how a request stands at a server.
@@ -105,29 +98,6 @@ fn put_if_any<W: Write>(writer: &mut W, received: Option<&Received>) -> io::Resu
 {
     match received {
         Some(received) => put_report(writer, received),
-        None => Ok(()),
-    }
-}
-
-/// Writes what is answered over this note: first what is saved, and then what may be carried out only once that
-/// is durable.
-fn put_answer<W: Write>(writer: &mut W, note: &[u8], answered: &Answered) -> io::Result<()>
-    ensures { OnOk result (Appends (W.contents writer.old) (W.contents writer.new)
-        (answer_bytes note.now answered.now)) }
-{
-    put_save(writer, answered.saves, note)?;
-    put_number(writer, answered.number)?;
-    put_frames(writer, &answered.frames)
-}
-
-/// Writes a number that is given.
-#[tactic(auto, unfolding(fc_base::specs::Layouts::bytes_of))]
-fn put_number<W: Write>(writer: &mut W, number: Option<u64>) -> io::Result<()>
-    ensures { OnOk result (Appends (W.contents writer.old) (W.contents writer.new)
-        (number_bytes number)) }
-{
-    match number {
-        Some(number) => put_record(writer, Said::Number, &number.to_be_bytes()),
         None => Ok(()),
     }
 }

@@ -9,7 +9,7 @@ pub returns-in-Ok : goal.returns-in-Ok
 returns-in-Ok g c =
     let input = reader_remaining g.R.Read.remaining c.args.reader.now in
     let rest = reader_remaining g.R.Read.remaining c.first_note.new.reader in
-    with_note (client_filter c.args.servers) input rest (g.W.Write.contents c.args.writer.now) (g.W.Write.contents c.first_note.new.writer)
+    with_note (client_filter c.args.beginning c.args.servers) input rest (g.W.Write.contents c.args.writer.now) (g.W.Write.contents c.first_note.new.writer)
     (g.W.Write.contents c.run_over.new.writer) c.in-Ok.note.items c.run_over.result (subst (ReadsNote input rest) c.in-Ok.is c.in_ok-note.ensures.read)
     c.in_ok-note.ensures.written c.run_over.ensures
 
@@ -17,6 +17,6 @@ pub returns-in-Err : goal.returns-in-Err
 returns-in-Err g c =
     let input = reader_remaining g.R.Read.remaining c.args.reader.now in
     let rest = reader_remaining g.R.Read.remaining c.first_note.new.reader in
-    without_note (client_filter c.args.servers) input (g.W.Write.contents c.args.writer.now) (g.W.Write.contents c.first_note.new.writer)
+    without_note (client_filter c.args.beginning c.args.servers) input (g.W.Write.contents c.args.writer.now) (g.W.Write.contents c.first_note.new.writer)
     (g.W.Write.contents c.refuse.new.writer) c.in-Err.fault c.refuse.result (subst (ReadsNote input rest) c.in-Err.is c.in_ok-note.ensures.read)
     c.in_ok-note.ensures.written c.refuse.ensures.status c.refuse.ensures.written

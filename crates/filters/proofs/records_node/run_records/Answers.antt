@@ -1,44 +1,45 @@
 use Rattle.std.proofs.Common.{arith, subst}
 use Rattle.std.specs.Io.Buffered.{reader_remaining}
-use Rattle.filters.specs.Kept.{note_kept}
-use Rattle.filters.specs.ClientLives.{ClientTakes, IsAt}
 use Rattle.filters.specs.Steps.{StepsBy}
 use Rattle.filters.proofs.RunLemmas.{begun, goes_on, spent, step_ends}
-use Rattle.filters.proofs.client_filter.ClientFilter.run.Goals as goal
+use Rattle.filters.proofs.records_node.run_records.Goals as goal
 
 pub loop-init : goal.loop-init
 loop-init g c =
-    begun ClientTakes (IsAt note_kept c.args.self.now.client) (reader_remaining g.R.Read.remaining c.args.reader.now) (g.W.Write.contents c.args.writer.now)
+    begun g.N.RecordsNode.Makes (g.N.RecordsNode.StandsAt c.args.node.now) (reader_remaining g.R.Read.remaining c.args.reader.now)
+    (g.W.Write.contents c.args.writer.now)
 
 pub returns-in-Some : goal.returns-in-Some
 returns-in-Some g c =
-    let begins = IsAt note_kept c.args.self.now.client in
-    let now = IsAt note_kept c.loop.self.client in
-    let next = IsAt note_kept c.step.new.self.client in
+    let makes = g.N.RecordsNode.Makes in
+    let begins = g.N.RecordsNode.StandsAt c.args.node.now in
+    let now = g.N.RecordsNode.StandsAt c.loop.node in
+    let next = g.N.RecordsNode.StandsAt c.step.new.node in
     let input = reader_remaining g.R.Read.remaining c.loop.reader in
     let new_input = reader_remaining g.R.Read.remaining c.step.new.reader in
     let text = g.W.Write.contents c.loop.writer in
     let new_text = g.W.Write.contents c.step.new.writer in
-    step_ends ClientTakes begins now next (reader_remaining g.R.Read.remaining c.args.reader.now) input new_input (g.W.Write.contents c.args.writer.now) text new_text
+    step_ends makes begins now next (reader_remaining g.R.Read.remaining c.args.reader.now) input new_input (g.W.Write.contents c.args.writer.now) text new_text
     c.loop.counter c.in-Some.status c.loop.invariant
-    (subst (StepsBy ClientTakes now next input new_input text new_text) c.in-Some.is c.in_ok-status.ensures)
+    (subst (StepsBy makes now next input new_input text new_text) c.in-Some.is c.in_ok-status.ensures)
 
 pub loop-preserved : goal.loop-preserved
 loop-preserved g c =
-    let begins = IsAt note_kept c.args.self.now.client in
-    let now = IsAt note_kept c.loop.self.client in
-    let next = IsAt note_kept c.step.new.self.client in
+    let makes = g.N.RecordsNode.Makes in
+    let begins = g.N.RecordsNode.StandsAt c.args.node.now in
+    let now = g.N.RecordsNode.StandsAt c.loop.node in
+    let next = g.N.RecordsNode.StandsAt c.step.new.node in
     let input = reader_remaining g.R.Read.remaining c.loop.reader in
     let new_input = reader_remaining g.R.Read.remaining c.step.new.reader in
     let text = g.W.Write.contents c.loop.writer in
     let new_text = g.W.Write.contents c.step.new.writer in
-    goes_on ClientTakes begins now next (reader_remaining g.R.Read.remaining c.args.reader.now) input new_input (g.W.Write.contents c.args.writer.now) text new_text
+    goes_on makes begins now next (reader_remaining g.R.Read.remaining c.args.reader.now) input new_input (g.W.Write.contents c.args.writer.now) text new_text
     c.loop.counter c.loop.invariant
-    (subst (StepsBy ClientTakes now next input new_input text new_text) c.in_default.is c.in_ok-status.ensures)
+    (subst (StepsBy makes now next input new_input text new_text) c.in_default.is c.in_ok-status.ensures)
 
 pub returns : goal.returns
 returns g c =
-    spent ClientTakes (IsAt note_kept c.args.self.now.client) (IsAt note_kept c.loop.self.client) (reader_remaining g.R.Read.remaining c.args.reader.now)
-    (reader_remaining g.R.Read.remaining c.loop.reader) (g.W.Write.contents c.args.writer.now) (g.W.Write.contents c.loop.writer)
-    (g.W.Write.contents c.refuse.new.writer)
+    spent g.N.RecordsNode.Makes (g.N.RecordsNode.StandsAt c.args.node.now) (g.N.RecordsNode.StandsAt c.loop.node)
+    (reader_remaining g.R.Read.remaining c.args.reader.now) (reader_remaining g.R.Read.remaining c.loop.reader) (g.W.Write.contents c.args.writer.now)
+    (g.W.Write.contents c.loop.writer) (g.W.Write.contents c.refuse.new.writer)
     c.loop.counter c.refuse.result (omega (arith, c.loop-test.false, c.loop.auto.counter-end)) c.loop.invariant c.refuse.ensures.status c.refuse.ensures.written

@@ -1,29 +1,28 @@
 use Rattle.std.proofs.Common.{Ok, subst}
 use Rattle.std.specs.Io.Buffered.{reader_remaining}
-use Rattle.filters.specs.Kept.{note_kept}
-use Rattle.filters.specs.ClientLives.{ClientTakes, IsAt}
 use Rattle.filters.specs.Steps.{ReadsRecord, parts_of}
 use Rattle.filters.proofs.RunLemmas.{fails, flushed}
-use Rattle.filters.proofs.client_filter.ClientFilter.step.Goals as goal
+use Rattle.filters.proofs.records_node.step.Goals as goal
 
-pub returns-in_ok-answer-in-Ok-Some : goal.returns-in_ok-answer-in-Ok-Some
-returns-in_ok-answer-in-Ok-Some g c =
+pub returns-in_ok-answer_record-in-Ok-Some : goal.returns-in_ok-answer_record-in-Ok-Some
+returns-in_ok-answer_record-in-Ok-Some g c =
     let old = reader_remaining g.R.Read.remaining c.args.reader.now in
     let new = reader_remaining g.R.Read.remaining c.next_record.new.reader in
     let some = subst (ReadsRecord old new) c.in-Ok-Some.is c.in_ok-came.ensures.read in
     let came = parts_of c.in-Ok-Some.came in (
       came,
       subst (λ r. ReadsRecord old new (Ok r)) c.in-Ok-Some.field-0-is some,
-      flushed ClientTakes (IsAt note_kept c.args.self.now.client) (IsAt note_kept c.answer.new.self.client) came (g.W.Write.contents c.args.writer.now)
-          (g.W.Write.contents c.next_record.new.writer) (g.W.Write.contents c.answer.new.writer) c.in_ok-came.ensures.written
-          c.in_ok-answer-in-Ok-Some.ensures,
+      flushed g.N.RecordsNode.Makes (g.N.RecordsNode.StandsAt c.args.node.now) (g.N.RecordsNode.StandsAt c.answer_record.new.self) came
+          (g.W.Write.contents c.args.writer.now) (g.W.Write.contents c.next_record.new.writer) (g.W.Write.contents c.answer_record.new.writer)
+          c.in_ok-came.ensures.written c.in_ok-answer_record-in-Ok-Some.ensures,
     )
 
 pub returns-in_ok-status-in-Err : goal.returns-in_ok-status-in-Err
 returns-in_ok-status-in-Err g c =
     let old = reader_remaining g.R.Read.remaining c.args.reader.now in
     let new = reader_remaining g.R.Read.remaining c.next_record.new.reader in
-    let now = IsAt note_kept c.args.self.now.client in
-    fails ClientTakes now now old new (g.W.Write.contents c.args.writer.now) (g.W.Write.contents c.next_record.new.writer) (g.W.Write.contents c.refuse.new.writer)
+    let now = g.N.RecordsNode.StandsAt c.args.node.now in
+    fails g.N.RecordsNode.Makes now now old new (g.W.Write.contents c.args.writer.now) (g.W.Write.contents c.next_record.new.writer)
+    (g.W.Write.contents c.refuse.new.writer)
     c.in-Err.fault c.in_ok-status-in-Err.status (subst (ReadsRecord old new) c.in-Err.is c.in_ok-came.ensures.read) c.in_ok-came.ensures.written
     c.in_ok-status-in-Err.ensures.written c.in_ok-status-in-Err.ensures.status

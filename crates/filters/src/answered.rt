@@ -1,0 +1,64 @@
+//! What the client or the mirror answers to an input, and how that is written.
+
+ghost use Rattle.std.specs.Prelude.{OnOk};
+ghost use Rattle.std.specs.Io.KnownBytes.{Appends};
+ghost use Rattle.filters.specs.ClientSteps.{answer_bytes, result_bytes, number_bytes};
+
+use crate::kinds::Said;
+use crate::writing::{put_end, put_frames, put_record, put_save};
+use fc_base::Fault;
+use messages::Frames;
+use std::io;
+use std::io::Write;
+
+/// What the client or the mirror answers.
+#[derive(Drop)]
+pub(crate) struct Answered {
+    /// Whether it has saved its note.
+    pub saves: bool,
+    /// The number of a run or of an attempt that the client gives.
+    pub number: Option<u64>,
+    /// The frames that it sends.
+    pub frames: Frames,
+}
+
+/// Writes what is answered over this note, or why there is no answer.
+pub(crate) fn put_result<W: Write>(
+    writer: &mut W,
+    note: &[u8],
+    answer: Result<Answered, Fault>,
+) -> io::Result<()>
+    ensures { OnOk result (Appends (W.contents writer.old) (W.contents writer.new)
+        (result_bytes note.now answer)) }
+{
+    match answer {
+        Ok(answered) => {
+            put_answer(writer, note, &answered)?;
+            put_end(writer, Ok(()))
+        }
+        Err(fault) => put_end(writer, Err(fault)),
+    }
+}
+
+/// Writes what is answered over this note: first what is saved, and then what may be carried out only once that
+/// is durable.
+fn put_answer<W: Write>(writer: &mut W, note: &[u8], answered: &Answered) -> io::Result<()>
+    ensures { OnOk result (Appends (W.contents writer.old) (W.contents writer.new)
+        (answer_bytes note.now answered.now)) }
+{
+    put_save(writer, answered.saves, note)?;
+    put_number(writer, answered.number)?;
+    put_frames(writer, &answered.frames)
+}
+
+/// Writes a number that is given.
+#[tactic(auto, unfolding(fc_base::specs::Layouts::bytes_of))]
+fn put_number<W: Write>(writer: &mut W, number: Option<u64>) -> io::Result<()>
+    ensures { OnOk result (Appends (W.contents writer.old) (W.contents writer.new)
+        (number_bytes number)) }
+{
+    match number {
+        Some(number) => put_record(writer, Said::Number, &number.to_be_bytes()),
+        None => Ok(()),
+    }
+}

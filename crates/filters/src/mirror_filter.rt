@@ -1,0 +1,166 @@
+//! A mirror as a filter.
+
+ghost use Rattle.std.specs.Prelude.{List, Some, OnOk, IfOk, IfSome};
+ghost use Rattle.std.specs.Io.KnownBytes.{Appends};
+ghost use Rattle.std.specs.Io.Buffered.{reader_remaining};
+ghost use Rattle.mirror_core.specs.declared.noted.Noted.{Noted as MirrorOpening};
+ghost use Rattle.mirror_core.specs.History.{Entry};
+ghost use Rattle.mirror_core.specs.Stands.{StandsFor};
+ghost use Rattle.filters.specs.Kept.{note_kept};
+ghost use Rattle.filters.specs.Lives.{RunsOver, Runs};
+ghost use Rattle.filters.specs.Steps.{AnswersBy, AnswersRecord, parts_of};
+ghost use Rattle.filters.specs.ClientSteps.{result_bytes};
+ghost use Rattle.filters.specs.MirrorLives.{MirrorAt, IsAt, MirrorTakes, TakesBody, TakesKind, frame_in, mirror_filter};
+ghost use Rattle.filters.specs.MirrorSteps.{FrameEnds, BodyEnds};
+
+use crate::answered::{Answered, put_result};
+use crate::kept_notes::KeptNotes;
+use crate::kinds::Told;
+use crate::reading::first_note;
+use crate::record::Record;
+use crate::records_node::{RecordsNode, run_records};
+use crate::writing::{put_end, refuse};
+use fc_base::Fault;
+use messages::{Frame, decode_frame};
+use mirror_core::Mirror;
+use std::alloc::Global;
+use std::io;
+use std::io::{BufReader, Read, Write};
+
+/// Serves as the mirror, until the input ends, and answers the exit status: 0, or 2 where it can't go on,
+/// which the last record says.
+///
+/// The first record is the note. What comes behind it is answered record by record, each by records of which
+/// the last is an end. They are flushed before the next record is waited for. An error is that of a write.
+pub fn run_mirror<R: Read, W: Write>(
+    alloc: Global,
+    reader: &mut BufReader<R>,
+    writer: &mut W,
+) -> io::Result<u8>
+    ensures { IfSome (reader_remaining R.remaining reader.old) (λ input. IfOk result
+        (Runs mirror_filter input (W.contents writer.old) (W.contents writer.new))) }
+{
+    match first_note(alloc, reader, writer)? {
+        Ok(note) => run_over(alloc, note, reader, writer),
+        Err(fault) => refuse(writer, fault),
+    }
+}
+
+/// Serves over this note.
+fn run_over<R: Read, W: Write>(
+    alloc: Global,
+    note: Vec<u8>,
+    reader: &mut BufReader<R>,
+    writer: &mut W,
+) -> io::Result<u8>
+    ensures { IfSome (reader_remaining R.remaining reader.old) (λ behind. IfOk result
+        (RunsOver mirror_filter note.items behind (W.contents writer.old)
+        (W.contents writer.new))) }
+{
+    let mirror = match Mirror::restart(alloc, KeptNotes::new(note)) {
+        Ok(mirror) => mirror,
+        Err((_, fault)) => return refuse(writer, fault),
+    };
+    let mut filter = MirrorFilter { alloc, mirror };
+    put_end(writer, Ok(()))?;
+    run_records(alloc, &mut filter, reader, writer)
+}
+
+/// The mirror over its note.
+#[derive(Drop)]
+pub(crate) struct MirrorFilter {
+    alloc: Global,
+    mirror: Mirror<KeptNotes>,
+}
+
+impl RecordsNode for MirrorFilter {
+    ghost Opening = { MirrorOpening };
+
+    ghost Moment = { MirrorAt };
+
+    ghost Makes = { MirrorTakes };
+
+    ghost StandsAt = { λ filter o at. IsAt note_kept filter.mirror o at };
+
+    fn answer_record<W: Write>(&mut self, came: &Record, writer: &mut W) -> io::Result<()> {
+        self.answer(came, writer)
+    }
+}
+
+impl MirrorFilter {
+    /// Answers a record.
+    fn answer<W: Write>(&mut self, came: &Record, writer: &mut W) -> io::Result<()>
+        ensures { OnOk result
+            (AnswersRecord MirrorTakes (IsAt note_kept self.old.mirror)
+            (IsAt note_kept self.new.mirror) (parts_of came.now)
+            (W.contents writer.old) (W.contents writer.new)) }
+    {
+        let body = came.body.as_slice();
+        match Told::numbered(came.kind) {
+            Some(kind) => self.answer_kind(kind, body, writer),
+            None => put_end(writer, Err(Fault::BadNotice)),
+        }
+    }
+
+    /// Answers a record of this kind.
+    fn answer_kind<W: Write>(&mut self, kind: Told, body: &[u8], writer: &mut W) -> io::Result<()>
+        ensures { OnOk result
+            (AnswersBy (λ o at now answer. TakesKind o at (Some kind) body.now now answer)
+            (IsAt note_kept self.old.mirror) (IsAt note_kept self.new.mirror)
+            (W.contents writer.old) (W.contents writer.new)) }
+    {
+        match kind {
+            Told::Frame => self.answer_frame(body, writer),
+            _ => put_end(writer, Err(Fault::BadNotice)),
+        }
+    }
+
+    /// Answers a frame.
+    fn answer_frame<W: Write>(&mut self, body: &[u8], writer: &mut W) -> io::Result<()>
+        ensures { OnOk result
+            (AnswersBy (λ o at now answer. TakesBody o at (frame_in body.now) now answer)
+            (IsAt note_kept self.old.mirror) (IsAt note_kept self.new.mirror)
+            (W.contents writer.old) (W.contents writer.new)) }
+    {
+        let answer = self.take(body);
+        self.write_answer(answer, writer)
+    }
+
+    /// Writes an answer, or why there is none.
+    fn write_answer<W: Write>(
+        &self,
+        answer: Result<Answered, Fault>,
+        writer: &mut W,
+    ) -> io::Result<()>
+        ensures { OnOk result (Appends (W.contents writer.old) (W.contents writer.new)
+            (result_bytes (note_kept self.now.mirror.notes).bytes answer)) }
+    {
+        put_result(writer, self.mirror.notes().as_slice(), answer)
+    }
+
+    /// Takes the frame that these bytes are.
+    fn take(&mut self, bytes: &[u8]) -> Result<Answered, Fault>
+        ensures { (o : MirrorOpening) (past : List Entry) → StandsFor note_kept self.old.mirror o past →
+            BodyEnds note_kept o past (frame_in bytes.now) self.old.mirror self.new.mirror result }
+    {
+        match decode_frame(self.alloc, bytes) {
+            Ok(frame) => self.deliver(&frame),
+            Err(fault) => Err(fault),
+        }
+    }
+
+    /// Delivers a frame.
+    #[tactic(auto, using(crate::proofs::NodeLemmas::not_taken))]
+    fn deliver(&mut self, frame: &Frame) -> Result<Answered, Fault>
+        ensures { (o : MirrorOpening) (past : List Entry) → StandsFor note_kept self.old.mirror o past →
+            FrameEnds note_kept o past frame.now self.old.mirror self.new.mirror result }
+    {
+        let saves = self.mirror.would_save(frame);
+        let frames = self.mirror.deliver(frame)?;
+        Ok(Answered {
+            saves,
+            number: None,
+            frames,
+        })
+    }
+}
