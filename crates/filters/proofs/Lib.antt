@@ -14,6 +14,8 @@ pub mod ClientCutLemmas
 pub mod MirrorLemmas
 pub mod MirrorCutLemmas
 pub mod ServerLemmas
+pub mod OrderLemmas
 pub mod TurnLemmas
 pub mod ServerTakeLemmas
 pub mod ServerBeginLemmas
+pub mod ServerCutLemmas

@@ -1,10 +1,11 @@
 -- What is answered to a record by a server's filter, from how its server's calls end.
-use Rattle.std.proofs.Common.{length, length-append, ◌+◌, ◌≡◌, ℕ, List, [], ◌++◌, map, Option, None, Some, Result, Ok, Err, refl, sym, ap, ◌∙◌, subst, inl, inr, arith}
+use Rattle.std.proofs.Common.{length, length-append, ◌+◌, ◌≤◌, ◌≡◌, ℕ, Bool, false, List, [], ◌++◌, map, Option, None, Some, Result, Ok, Err, refl, sym, ap, ◌∙◌, subst, inl, inr, arith}
 use Rattle.std.specs.Prelude.{is_some}
 use Rattle.std.specs.Int.{w32, w64}
 use Rattle.std.specs.Io.KnownBytes.{Appends}
 use Rattle.std.proofs.KnownBytes.{Appends-trans}
 use Rattle.fc_base.specs.Layouts.{bytes_of}
+use Rattle.fc_base.specs.declared.limits.TheConstants.{MAX_WRITES}
 use Rattle.fc_base.specs.declared.record.JobParts.{JobParts}
 use Rattle.fc_base.specs.declared.report.ReportParts.{ReportParts}
 use Rattle.write_order.specs.Stamps.{written_bytes}
@@ -16,6 +17,7 @@ use Rattle.fc_base.specs.declared.fault.FaultSort.TheVariants as sorts
 use Rattle.disk_model.specs.Notes.{Note}
 use Rattle.disk_model.specs.Steps.{Ends, Faults}
 use Rattle.engine.specs.declared.issue.Issue.{Issue as Answer}
+use Rattle.engine.specs.Answers.{is_write}
 use Rattle.job_file.specs.declared.job.Job.{Job}
 use Rattle.messages.specs.FrameBytes.{frame_spelling}
 use Rattle.server_core.specs.declared.input.Input.{Input}
@@ -29,6 +31,7 @@ use Rattle.server_core.specs.FrameAnswers.{due, frames, issue, answered_entry}
 use Rattle.server_core.specs.FrameEnds.{StandsFor, steps}
 use Rattle.server_core.specs.Handles.{outs_of_issue}
 use Rattle.server_core.specs.Memory.{TakesNone}
+use Rattle.server_core.specs.Laws.{LooksAtAll}
 use Rattle.filters.specs.declared.kept_notes.KeptNotes.{KeptNotes}
 use Rattle.filters.specs.declared.server_filter.writes.Handed.{Handed}
 use Rattle.filters.specs.Kept.{note_kept}
@@ -40,8 +43,9 @@ use Rattle.filters.specs.ServerTells.{act_bytes, order_name}
 use Rattle.filters.specs.ServerSteps.{IsHanded, NotHanded, HandsOut, BodyHands, handed_bytes}
 use Rattle.filters.specs.ServerLives.{ServerAt, IsAt, Asks, Tells, order_bytes, want_bytes, handed_by, TakesTurn, TakesBody, TakesBy, at_by, new_note, noted, handed, order_if, ordered, ordered_by}
 use Rattle.filters.specs.Steps.{AnswersBy}
-use Rattle.filters.specs.ServerRuns.{WritesHanded}
+use Rattle.filters.specs.ServerRuns.{Asked, WritesHanded}
 use Rattle.filters.proofs.TakeLemmas.{saved_so, note_so}
+use Rattle.filters.proofs.OrderLemmas.{gave, refused_gives}
 
 -- What is written of what is handed out is what the list says.
 handed_is : {T : Type 0} (note : T → Note) (o : Opening) (past : List FrameEntry) (e : Input) (old new : Server T) (h : Handed)
@@ -96,7 +100,8 @@ body_taken asked old mid new (Ok h) first text hands (written, wrote, turns) = r
           inl (subst (λ w. TakesBy w o at e t.0 (handed_bytes (note_kept mid.core.notes).bytes h ++ (written ++ end_bytes (Ok tt)))) (sym is.answers.free)
               (record {
                 written = written;
-                turns = t.2;
+                turns = t.2.0;
+                ordered = t.2.1;
                 all = ap (λ l. l ++ (written ++ end_bytes (Ok tt))) (handed_is note_kept o at.list e old mid h is);
               })),
         )
@@ -119,12 +124,17 @@ abbrev pub written_for : Result Answer Fault → Job → List ℕ
 written_for (Ok answer) job = order_if answer job.rec
 written_for (Err fault) job = []
 
+-- Whether a job gave a write.
+abbrev pub is_given : Result Answer Fault → Bool
+is_given (Ok answer) = is_write answer
+is_given (Err fault) = false
+
 -- A job was asked for its next write.
-pub asked_turn : (o : Opening) (at : ServerAt) (j : ℕ) (job : Job) (old new : Server KeptNotes) (result : Result Answer Fault) → IsAt note_kept old o at
-    → Ends (steps note_kept o) at.list (Issue j) old new (outs_of_issue result) → TakesNone result
-    → Some job ≡ run_job o (shown_entries (packets_heard o at.list)) j
-    → (now : ServerAt) × IsAt note_kept new o now × TakesTurn o at (Asks j) now (written_for result job)
-asked_turn o at j job old new (Ok answer) (stands, was) a none there = (
+pub asked_turn : LooksAtAll → (o : Opening) (at : ServerAt) (j : ℕ) (job : Job) (old new : Server KeptNotes) (result : Result Answer Fault)
+    → IsAt note_kept old o at → Ends (steps note_kept o) at.list (Issue j) old new (outs_of_issue result) → TakesNone result
+    → Some job ≡ run_job o (shown_entries (packets_heard o at.list)) j → job.rec.total ≤ MAX_WRITES
+    → (now : ServerAt) × IsAt note_kept new o now × TakesTurn o at (Asks j) now (written_for result job) × Asked j (is_given result) o at now
+asked_turn shows o at j job old new (Ok answer) (stands, was) a none there few = (
   at_by None o at (Issue j),
   (
     a.stands,
@@ -135,17 +145,19 @@ asked_turn o at j job old new (Ok answer) (stands, was) a none there = (
     (ap (λ i. ordered i (Some job)) a.sends.issue_is ∙ ap (ordered (issue o at.list (Issue j))) there)
         ∙ sym (ap (λ w. ordered_by w o at.list j) a.free),
   ),
+  gave shows o at j job answer a.free a.sends.issue_is there few,
 )
-asked_turn o at j job old new (Err fault) (stands, was) ends none there = by (sort_of fault) ends
+asked_turn shows o at j job old new (Err fault) (stands, was) ends none there few = by (sort_of fault) ends
   where
     by : (sort : FaultSort) → Faults (steps note_kept o) at.list (Issue j) sort fault old new
-        → (now : ServerAt) × IsAt note_kept new o now × TakesTurn o at (Asks j) now []
+        → (now : ServerAt) × IsAt note_kept new o now × TakesTurn o at (Asks j) now [] × Asked j false o at now
     by sorts.Memory l = absurd (none l.why)
     by sorts.Save f = absurd (omega (arith, f.cause))
     by sorts.Refusal r = (
       at_by (Some fault) o at (Issue j),
       (r.stands, ap (λ (n : Note). n.bytes) r.same_note ∙ was),
       (sym (ap (λ w. at_by w o at (Issue j)) r.why), sym (ap (λ w. ordered_by w o at.list j) r.why)),
+      refused_gives o at j fault r.why,
     )
 
 -- The note of a server says what its list does.

@@ -1,13 +1,18 @@
 -- What a server's filter does of itself, turn by turn.
-use Rattle.std.proofs.Common.{ℕ, List, [], ◌∷◌, ◌++◌, Option, Result, append_assoc, append-nil, refl, sym, ap, ◌∙◌, subst}
+use Rattle.std.proofs.Common.{◌≡◌, ◌<◌, ◌≤◌, ◌+◌, ℕ, Bool, true, false, List, [], ◌∷◌, ◌++◌, Option, Result, Ok, Err, append_assoc, append-nil, refl, sym, ap, ◌∙◌, subst, arith, below_more}
+use Rattle.std.specs.Prelude.{IfOk, OnOk}
 use Rattle.std.specs.Io.KnownBytes.{Appends}
 use Rattle.std.proofs.KnownBytes.{Appends-nil, Appends-trans}
 use Rattle.fc_base.specs.declared.fault.Fault.{Fault}
+use Rattle.fc_base.specs.declared.limits.TheConstants.{MAX_JOBS, MAX_WRITES}
 use Rattle.server_core.specs.History.{Opening}
 use Rattle.filters.specs.Records.{end_bytes}
 use Rattle.filters.specs.Lives.{Lives}
 use Rattle.filters.specs.Steps.{AnswersBy}
+use Rattle.filters.specs.ServerOrders.{AreAllGiven, GivesNone}
 use Rattle.filters.specs.ServerLives.{ServerAt, Turn, TakesTurn, Turns, TakesCheck}
+use Rattle.filters.specs.ServerRuns.{Asked, Gave, TurnsTo}
+use Rattle.filters.proofs.OrderLemmas.{turns_keep}
 
 -- No turn.
 none_taken : (o : Opening) (at : ServerAt) → Turns o at at []
@@ -62,13 +67,149 @@ takes_more Before Mid After old mid new some more = record {
       let m = more.takes o s.0 s.1 in (m.0, m.1, both_taken o at s.0 m.0 some.answer more.answer s.2 m.2.0 m.2.1);
 }
 
+-- One turn was taken, and this holds then.
+pub takes_one_to : (P : Opening → ServerAt → ServerAt → Type 0) (Before After : Opening → ServerAt → Type 0) (turn : Turn) (old new : Option (List ℕ))
+    (bytes : List ℕ) → Appends old new bytes
+    → ((o : Opening) (at : ServerAt) → Before o at → (now : ServerAt) × After o now × TakesTurn o at turn now bytes × P o at now)
+    → AnswersBy (TurnsTo P) Before After old new
+takes_one_to P Before After turn old new bytes wrote takes = record {
+  answer = bytes;
+  written = wrote;
+  takes = λ o at h. let t = takes o at h in (
+    t.0,
+    t.1,
+    ((turn ∷ [], record { before = at; earlier = []; answer = bytes; lived = (refl, refl); takes = t.2; all = refl }), t.3),
+  );
+}
+
+-- No turn was taken, and this holds.
+pub takes_none_to : (P : Opening → ServerAt → ServerAt → Type 0) (Now : Opening → ServerAt → Type 0) (text : Option (List ℕ))
+    → ((o : Opening) (at : ServerAt) → Now o at → P o at at) → AnswersBy (TurnsTo P) Now Now text text
+takes_none_to P Now text holds =
+    record { answer = []; written = Appends-nil text; takes = λ o at h. (at, h, (none_taken o at, holds o at h)) }
+
+-- Turns were taken behind others.
+pub takes_more_to : (P Q R : Opening → ServerAt → ServerAt → Type 0) (Before Mid After : Opening → ServerAt → Type 0) (old mid new : Option (List ℕ))
+    → AnswersBy (TurnsTo P) Before Mid old mid → AnswersBy (TurnsTo Q) Mid After mid new
+    → ((o : Opening) (first at now : ServerAt) (written : List ℕ) → Turns o at now written → P o first at → Q o at now → R o first now)
+    → AnswersBy (TurnsTo R) Before After old new
+takes_more_to P Q R Before Mid After old mid new some more then = record {
+  answer = some.answer ++ more.answer;
+  written = Appends-trans old mid new some.answer more.answer some.written more.written;
+  takes = λ o at h.
+      let s = some.takes o at h in
+      let m = more.takes o s.0 s.1 in (
+        m.0,
+        m.1,
+        (
+          both_taken o at s.0 m.0 some.answer more.answer s.2.0 m.2.0.0 m.2.0.1,
+          then o at s.0 m.0 more.answer m.2.0 s.2.1 m.2.1,
+        ),
+      );
+}
+
+-- Turns were taken, of which nothing more is known.
+pub takes_any : (Before After : Opening → ServerAt → Type 0) (old new : Option (List ℕ)) → AnswersBy Turns Before After old new
+    → AnswersBy (TurnsTo (λ o at now. Unit {0})) Before After old new
+takes_any Before After old new some = record {
+  answer = some.answer;
+  written = some.written;
+  takes = λ o at h. let s = some.takes o at h in (s.0, s.1, (s.2, tt));
+}
+
+-- Jobs were asked until they give none, one behind the other.
+pub jobs_asked : (n : ℕ) (Before Mid After : Opening → ServerAt → Type 0) (old mid new : Option (List ℕ))
+    → AnswersBy (TurnsTo (λ o at now. (j : ℕ) → j < n → GivesNone o now.list j)) Before Mid old mid
+    → AnswersBy (TurnsTo (λ o at now. GivesNone o now.list n)) Mid After mid new
+    → AnswersBy (TurnsTo (λ o at now. (j : ℕ) → j < n + 1 → GivesNone o now.list j)) Before After old new
+jobs_asked n Before Mid After old mid new some more =
+    takes_more_to (λ o at now. (j : ℕ) → j < n → GivesNone o now.list j) (λ o at now. GivesNone o now.list n)
+    (λ o at now. (j : ℕ) → j < n + 1 → GivesNone o now.list j) Before Mid After old mid new some more
+    (λ o first at now written turns below here. below_more (λ j. GivesNone o now.list j) n
+    (λ j lt. turns_keep o at now written j turns (below j lt)) here)
+
+-- None was asked yet.
+pub jobs_none : (Now : Opening → ServerAt → Type 0) (text : Option (List ℕ))
+    → AnswersBy (TurnsTo (λ o at now. (j : ℕ) → j < 0 → GivesNone o now.list j)) Now Now text text
+jobs_none Now text = takes_none_to (λ o at now. (j : ℕ) → j < 0 → GivesNone o now.list j) Now text (λ o at h. λ j lt. absurd (omega arith))
+
+-- All were asked.
+pub jobs_all : (n : ℕ) (Before After : Opening → ServerAt → Type 0) (old new : Option (List ℕ)) → MAX_JOBS ≤ n
+    → AnswersBy (TurnsTo (λ o at now. (j : ℕ) → j < n → GivesNone o now.list j)) Before After old new
+    → AnswersBy (TurnsTo (λ o at now. AreAllGiven o now.list)) Before After old new
+jobs_all n Before After old new all some = record {
+  answer = some.answer;
+  written = some.written;
+  takes = λ o at h. let s = some.takes o at h in (s.0, s.1, (s.2.0, λ j lt. s.2.1 j (omega (arith, all, lt))));
+}
+
+-- Turns behind those that ordered all.
+pub ordered_then : (Before Mid After : Opening → ServerAt → Type 0) (old mid new : Option (List ℕ))
+    → AnswersBy (TurnsTo (λ o at now. AreAllGiven o now.list)) Before Mid old mid → AnswersBy Turns Mid After mid new
+    → AnswersBy (TurnsTo (λ o at now. AreAllGiven o now.list)) Before After old new
+ordered_then Before Mid After old mid new some more =
+    takes_more_to (λ o at now. AreAllGiven o now.list) (λ o at now. Unit {0}) (λ o at now. AreAllGiven o now.list) Before Mid After old mid new
+    some (takes_any Mid After mid new more) (λ o first at now written turns all so. λ j lt. turns_keep o at now written j turns (all j lt))
+
+-- A job was asked so often.
+pub asked_none : (j : ℕ) (Now : Opening → ServerAt → Type 0) (text : Option (List ℕ)) → AnswersBy (TurnsTo (Gave j 0)) Now Now text text
+asked_none j Now text = takes_none_to (Gave j 0) Now text (λ o at h. (omega arith, λ some. absurd (omega arith)))
+
+pub asked_more : (j n : ℕ) (more : Bool) (Before Mid After : Opening → ServerAt → Type 0) (old mid new : Option (List ℕ)) → more ≡ true
+    → AnswersBy (TurnsTo (Gave j n)) Before Mid old mid → AnswersBy (TurnsTo (Asked j more)) Mid After mid new
+    → AnswersBy (TurnsTo (Gave j (n + 1))) Before After old new
+asked_more j n more Before Mid After old mid new is some next =
+    takes_more_to (Gave j n) (Asked j true) (Gave j (n + 1)) Before Mid After old mid new some
+    (subst (λ (b : Bool). AnswersBy (TurnsTo (Asked j b)) Mid After mid new) is next)
+    (λ o first at now written turns gave one. (omega (arith, gave.0, one.0), λ some. one.1))
+
+pub asked_last : (j n : ℕ) (more : Bool) (Before Mid After : Opening → ServerAt → Type 0) (old mid new : Option (List ℕ)) → more ≡ false
+    → AnswersBy (TurnsTo (Gave j n)) Before Mid old mid → AnswersBy (TurnsTo (Asked j more)) Mid After mid new
+    → AnswersBy (TurnsTo (λ o at now. GivesNone o now.list j)) Before After old new
+asked_last j n more Before Mid After old mid new is some next =
+    takes_more_to (Gave j n) (Asked j false) (λ o at now. GivesNone o now.list j) Before Mid After old mid new some
+    (subst (λ (b : Bool). AnswersBy (TurnsTo (Asked j b)) Mid After mid new) is next)
+    (λ o first at now written turns gave none. none)
+
+-- It was asked once, and answered whether it gave a write.
+pub asked_so : {E : Type 0} (j : ℕ) (gives : Bool) (Before After : Opening → ServerAt → Type 0) (turn : Turn) (old new : Option (List ℕ)) (bytes : List ℕ)
+    (r : Result Bool E) → OnOk r (Appends old new bytes) → IfOk r (λ more. more ≡ gives)
+    → ((o : Opening) (at : ServerAt) → Before o at → (now : ServerAt) × After o now × TakesTurn o at turn now bytes × Asked j gives o at now)
+    → IfOk r (λ more. AnswersBy (TurnsTo (Asked j more)) Before After old new)
+asked_so j gives Before After turn old new bytes (Err e) wrote same takes = tt
+asked_so j gives Before After turn old new bytes (Ok more) wrote same takes =
+    subst (λ (b : Bool). AnswersBy (TurnsTo (Asked j b)) Before After old new) (sym same) (takes_one_to (Asked j gives) Before After turn old new bytes wrote takes)
+
+-- It can't be asked oftener than it has writes.
+pub asked_out : (j n : ℕ) (Before After : Opening → ServerAt → Type 0) (old new : Option (List ℕ)) → MAX_WRITES < n
+    → AnswersBy (TurnsTo (Gave j n)) Before After old new → AnswersBy (TurnsTo (λ o at now. GivesNone o now.list j)) Before After old new
+asked_out j n Before After old new spent some = record {
+  answer = some.answer;
+  written = some.written;
+  takes = λ o at h. let s = some.takes o at h in absurd (omega (arith, s.2.1.0, s.2.1.1 (omega (arith, spent)), spent));
+}
+
 -- And the end behind them.
-pub takes_end : (Before After : Opening → ServerAt → Type 0) (old mid new : Option (List ℕ)) (end : Result (Unit {0}) Fault) → AnswersBy Turns Before After old mid
-    → Appends mid new (end_bytes end) → AnswersBy TakesCheck Before After old new
-takes_end Before After old mid new end some wrote = record {
-  answer = some.answer ++ end_bytes end;
-  written = Appends-trans old mid new some.answer (end_bytes end) some.written wrote;
-  takes = λ o at h. let s = some.takes o at h in (s.0, s.1, record { written = some.answer; end = end; turns = s.2; all = refl });
+pub takes_end : (Before After : Opening → ServerAt → Type 0) (old mid new : Option (List ℕ))
+    → AnswersBy (TurnsTo (λ o at now. AreAllGiven o now.list)) Before After old mid → Appends mid new (end_bytes (Ok tt))
+    → AnswersBy TakesCheck Before After old new
+takes_end Before After old mid new some wrote = record {
+  answer = some.answer ++ end_bytes (Ok tt);
+  written = Appends-trans old mid new some.answer (end_bytes (Ok tt)) some.written wrote;
+  takes = λ o at h. let s = some.takes o at h in (
+    s.0,
+    s.1,
+    record { written = some.answer; end = Ok tt; turns = s.2.0; ordered = s.2.1; all = refl },
+  );
+}
+
+-- Just the fault.
+pub takes_fault : (Now : Opening → ServerAt → Type 0) (old new : Option (List ℕ)) (fault : Fault) → Appends old new (end_bytes (Err fault))
+    → AnswersBy TakesCheck Now Now old new
+takes_fault Now old new fault wrote = record {
+  answer = end_bytes (Err fault);
+  written = wrote;
+  takes = λ o at h. (at, h, record { written = []; end = Err fault; turns = none_taken o at; ordered = tt; all = refl });
 }
 
 -- Turns before what is told of a check.
@@ -85,6 +226,7 @@ takes_then Before Mid After old mid new some more = record {
         record {
           written = some.answer ++ m.2.written;
           end = m.2.end;
+          ordered = m.2.ordered;
           turns = both_taken o at s.0 m.0 some.answer m.2.written s.2 m.2.turns.0 m.2.turns.1;
           all = ap (λ l. some.answer ++ l) m.2.all ∙ sym (append_assoc some.answer m.2.written (end_bytes m.2.end));
         },

@@ -17,5 +17,7 @@ pub mod MirrorSteps
 pub mod MirrorCuts
 pub mod ServerTells
 pub mod ServerSteps
+pub mod ServerOrders
 pub mod ServerLives
+pub mod ServerCuts
 pub mod ServerRuns

@@ -1,12 +1,10 @@
 -- What a server's filter makes of each record, by the list of all that came to its server, and how
 -- it runs.
-use Rattle.std.specs.Prelude.{◌≡◌, ◌⊎◌, ⊤, ℕ, ◌+◌, ◌-◌, ◌^◌, ◌==◌, if◌then◌else◌, List, [], ◌∷◌, ◌++◌, length, drop, map, is_some, Option, Some, None, Result, Ok, Err}
+use Rattle.std.specs.Prelude.{◌≡◌, ◌⊎◌, ⊤, ℕ, ◌+◌, ◌-◌, ◌^◌, ◌==◌, if◌then◌else◌, List, [], ◌∷◌, ◌++◌, length, drop, map, is_some, Option, Some, None, Result, Ok, Err, OnOk}
 use Rattle.std.specs.Int.{w32, w64}
 use Rattle.fc_base.specs.Layouts.{bytes_of, number_in}
-use Rattle.fc_base.specs.Fault.{sort_of}
 use Rattle.fc_base.specs.declared.fault.Fault.{Fault}
 use Rattle.fc_base.specs.declared.fault.Fault.TheVariants.{BadNotice, NotInFlight, FrameBadField, BadNote, NumbersSpent, NoMemory}
-use Rattle.fc_base.specs.declared.fault.FaultSort.TheVariants.{Memory}
 use Rattle.fc_base.specs.declared.record.JobParts.{JobParts}
 use Rattle.fc_base.specs.declared.report.ReportParts.{ReportParts}
 use Rattle.write_order.specs.Stamps.{written_bytes}
@@ -41,6 +39,8 @@ use Rattle.filters.specs.Kinds.{told_numbered, said_number}
 use Rattle.filters.specs.Records.{record_bytes, end_bytes}
 use Rattle.filters.specs.ClientSteps.{save_bytes, send_bytes}
 use Rattle.filters.specs.ServerTells.{order_name, act_bytes}
+use Rattle.filters.specs.ServerOrders.{AreAllGiven}
+use Rattle.filters.specs.NodeSteps.{Leaves, WantsMemory}
 use Rattle.filters.specs.Lives.{RecordParts, Lives, Filter}
 
 -- A server at some moment: the list of all that came to it, the newest first, and its note.
@@ -119,10 +119,6 @@ want_bytes a j first count size =
     (bytes_of w64 a ++ (bytes_of w32 j ++ (bytes_of w32 first ++ (bytes_of w32 count
     ++ bytes_of w32 size))))
 
--- That is left, and this is written.
-abbrev pub Leaves : ServerAt → List ℕ → ServerAt → List ℕ → Type 0
-Leaves at bytes now answer = (now ≡ at) × (answer ≡ bytes)
-
 -- What a turn leaves and writes. A report may find no memory.
 abbrev pub TakesTurn : Opening → ServerAt → Turn → ServerAt → List ℕ → Type 0
 TakesTurn o at (Asks j) now answer =
@@ -140,16 +136,12 @@ TakesTurn o at (Tells boot a j report) now answer =
 abbrev pub Turns : Opening → ServerAt → ServerAt → List ℕ → Type 0
 Turns o at now written = (turns : List Turn) × Lives (TakesTurn o) at turns now written
 
--- For want of memory just that is answered, and nothing changes.
-abbrev pub WantsMemory : ServerAt → ServerAt → List ℕ → Type 0
-WantsMemory at now answer =
-    (fault : Fault) × (sort_of fault ≡ Memory) × Leaves at (end_bytes (Err fault)) now answer
-
--- Behind these bytes some turns follow, and the end.
+-- Behind these bytes some turns follow, until all writes are ordered that can be, and the end.
 pub record Follows (o : Opening) (at : ServerAt) (front : List ℕ) (now : ServerAt)
     (answer : List ℕ) : Type 0 where
   pub written : List ℕ
   pub turns : Turns o at now written
+  pub ordered : AreAllGiven o now.list
   pub all : answer ≡ front ++ (written ++ end_bytes (Ok tt))
 
 -- What is made of an input, by why it is refused, if it is.
@@ -195,11 +187,13 @@ end_in o past end (Some name) =
     (open_write o (shown_entries (packets_heard o past)) name.job name.seq)
 end_in o past end None = Err BadNotice
 
--- What is made of what is told of a check: some turns, and an end.
+-- What is made of what is told of a check: some turns, and an end. Where it is taken, all writes
+-- are ordered that can be.
 pub record TakesCheck (o : Opening) (at now : ServerAt) (answer : List ℕ) : Type 0 where
   pub written : List ℕ
   pub end : Result (Unit {0}) Fault
   pub turns : Turns o at now written
+  pub ordered : OnOk end (AreAllGiven o now.list)
   pub all : answer ≡ written ++ end_bytes end
 
 -- What is made of a record of this kind, if it is one.

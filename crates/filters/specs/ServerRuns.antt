@@ -1,16 +1,23 @@
 -- The steps of a server's filter. Only the proofs go by these.
-use Rattle.std.specs.Prelude.{◌≡◌, ℕ, List, ◌++◌, Option, Result, Ok, Err}
+use Rattle.std.specs.Prelude.{◌≡◌, ◌<◌, ◌≤◌, ◌+◌, ℕ, Bool, true, false, List, ◌++◌, Option, Some, None, Result, Ok, Err, slice_get}
 use Rattle.std.specs.Io.KnownBytes.{Appends}
 use Rattle.fc_base.specs.declared.fault.Fault.{Fault}
+use Rattle.fc_base.specs.declared.limits.TheConstants.{MAX_WRITES}
+use Rattle.job_file.specs.declared.job.Job.{Job}
+use Rattle.window.specs.History.{issued}
 use Rattle.server_core.specs.declared.note.Noted.{Noted}
 use Rattle.server_core.specs.declared.server.Server.{Server}
 use Rattle.server_core.specs.History.{Opening}
+use Rattle.server_core.specs.Hearing.{FrameEntry, packets_heard}
 use Rattle.server_core.specs.Note.{Says}
+use Rattle.server_core.specs.Run.{Work, history, origin_of}
+use Rattle.server_core.specs.Words.{work}
 use Rattle.filters.specs.declared.kept_notes.KeptNotes.{KeptNotes}
 use Rattle.filters.specs.declared.server_filter.writes.Handed.{Handed}
 use Rattle.filters.specs.Kept.{note_kept}
 use Rattle.filters.specs.Records.{end_bytes}
 use Rattle.filters.specs.ServerSteps.{handed_bytes}
+use Rattle.filters.specs.ServerOrders.{GivesNone, AreAllGiven}
 use Rattle.filters.specs.ServerLives.{ServerAt, IsAt, Turns, BeginsBehind, next_boot}
 
 -- A filter is opened: the note said something, now it has the next boot, and the server is where it
@@ -22,6 +29,36 @@ pub record OpenedOver (me : ℕ) (note : List ℕ) (server : Server KeptNotes) :
   pub begins : (o : Opening) (first : ServerAt) → BeginsBehind me note said o first →
       IsAt note_kept server o first
 
+-- Some turns were taken, and this holds of where the server was and is.
+abbrev pub TurnsTo : (Opening → ServerAt → ServerAt → Type 0) → Opening → ServerAt → ServerAt
+    → List ℕ → Type 0
+TurnsTo P o at now written = Turns o at now written × P o at now
+
+-- How many writes of job j of a run were issued.
+abbrev pub issued_of_job : Work → ℕ → Option Job → ℕ
+issued_of_job w j None = 0
+issued_of_job w j (Some job) = issued (history (origin_of w j job) w.since)
+
+-- The same of the present run.
+abbrev pub issued_by : Option Work → ℕ → ℕ
+issued_by None j = 0
+issued_by (Some w) j = issued_of_job w j (slice_get w.jobs j)
+
+-- The same behind a list.
+abbrev pub issued_at : Opening → List FrameEntry → ℕ → ℕ
+issued_at o past j = issued_by (work o (packets_heard o past)) j
+
+-- Job j was asked for a write: it gave one more; or it would give none.
+abbrev pub Asked : ℕ → Bool → Opening → ServerAt → ServerAt → Type 0
+Asked j true o at now =
+    (issued_at o now.list j ≡ issued_at o at.list j + 1) × (issued_at o now.list j ≤ MAX_WRITES)
+Asked j false o at now = GivesNone o now.list j
+
+-- Job j gave so many writes.
+abbrev pub Gave : ℕ → ℕ → Opening → ServerAt → ServerAt → Type 0
+Gave j n o at now =
+    (n ≤ issued_at o now.list j) × (0 < n → issued_at o now.list j ≤ MAX_WRITES)
+
 -- What is handed out is written, with what follows from it and the end; or just the fault, and the
 -- server stays as it was.
 abbrev pub WritesHanded : Result Handed Fault → Server KeptNotes → Server KeptNotes
@@ -31,6 +68,7 @@ WritesHanded (Ok h) server after old new =
     × Appends old new (handed_bytes (note_kept server.core.notes).bytes h
     ++ (written ++ end_bytes (Ok tt)))
     × ((o : Opening) (at : ServerAt) → IsAt note_kept server o at →
-    (now : ServerAt) × IsAt note_kept after o now × Turns o at now written)
+    (now : ServerAt) × IsAt note_kept after o now
+    × TurnsTo (λ o at now. AreAllGiven o now.list) o at now written)
 WritesHanded (Err fault) server after old new =
     Appends old new (end_bytes (Err fault)) × (after ≡ server)

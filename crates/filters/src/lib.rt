@@ -26,6 +26,7 @@ mod reading;
 mod record;
 mod records_node;
 mod server_filter;
+mod server_law;
 mod telling;
 mod writing;
 
@@ -38,3 +39,4 @@ pub use law::{cut_law, mirror_cut_law};
 pub use mirror_filter::run_mirror;
 pub use record::MAX_BODY;
 pub use server_filter::run_server;
+pub use server_law::server_cut_law;

@@ -8,8 +8,9 @@ ghost use Rattle.filters.specs.Kept.{note_kept};
 ghost use Rattle.filters.specs.ClientSteps.{save_bytes};
 ghost use Rattle.filters.specs.Lives.{HasRun, RunsOver, Runs};
 ghost use Rattle.filters.specs.Steps.{AnswersBy, AnswersRecord, StepsBy, parts_of};
-ghost use Rattle.filters.specs.ServerLives.{IsAt, RefusesNote, ServerTakes, TakesCheck, TakesKind, Turns, server_filter};
-ghost use Rattle.filters.specs.ServerRuns.{OpenedOver, WritesHanded};
+ghost use Rattle.filters.specs.ServerOrders.{AreAllGiven};
+ghost use Rattle.filters.specs.ServerLives.{IsAt, RefusesNote, ServerTakes, TakesCheck, TakesKind, server_filter};
+ghost use Rattle.filters.specs.ServerRuns.{OpenedOver, TurnsTo, WritesHanded};
 
 mod checks;
 mod writes;
@@ -275,7 +276,8 @@ impl ServerFilter {
     /// Orders all writes that can be, and wants the blocks of each check that may begin.
     fn go_on<W: Write>(&mut self, writer: &mut W) -> io::Result<()>
         ensures { OnOk result
-            (AnswersBy Turns (IsAt note_kept self.old.server) (IsAt note_kept self.new.server)
+            (AnswersBy (TurnsTo (λ o at now. AreAllGiven o now.list))
+            (IsAt note_kept self.old.server) (IsAt note_kept self.new.server)
             (W.contents writer.old) (W.contents writer.new)) }
     {
         for job in 0..MAX_JOBS {

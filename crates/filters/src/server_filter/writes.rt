@@ -1,8 +1,9 @@
 //! The frames that come to a server, and its writes.
 
-ghost use Rattle.std.specs.Prelude.{◌≡◌, List, length, OnOk};
+ghost use Rattle.std.specs.Prelude.{◌≡◌, List, length, OnOk, IfOk};
 ghost use Rattle.std.specs.Io.KnownBytes.{Appends};
 ghost use Rattle.fc_base.specs.declared.limits.TheConstants.{MAX_BLOCK_SIZE};
+ghost use Rattle.engine.specs.Answers.{is_write};
 ghost use Rattle.messages.specs.FrameBytes.{frame_at, frame_faults};
 ghost use Rattle.server_core.specs.declared.input.Input.TheVariants.{Deliver, WriteDone};
 ghost use Rattle.server_core.specs.History.{Opening};
@@ -11,7 +12,9 @@ ghost use Rattle.server_core.specs.FrameEnds.{StandsFor};
 ghost use Rattle.filters.specs.Kept.{note_kept};
 ghost use Rattle.filters.specs.ServerTells.{order_name, outs_bytes};
 ghost use Rattle.filters.specs.ServerSteps.{HandsOut, BodyHands, handed_bytes};
-ghost use Rattle.filters.specs.ServerLives.{IsAt, Turns, frame_in, end_in, order_bytes, order_if};
+ghost use Rattle.filters.specs.ServerOrders.{GivesNone};
+ghost use Rattle.filters.specs.ServerLives.{IsAt, frame_in, end_in, order_bytes, order_if};
+ghost use Rattle.filters.specs.ServerRuns.{Asked, TurnsTo};
 ghost use Rattle.filters.specs.Steps.{AnswersBy};
 
 use super::ServerFilter;
@@ -19,12 +22,15 @@ use crate::kinds::Said;
 use crate::names::WriteName;
 use crate::writing::{put_frames, put_head, put_record, put_save, put_u32, put_u64};
 use engine::{Issue, Ticket};
-use fc_base::{Fault, JobNo, JobRecord, MAX_DEPTH};
+use fc_base::{Fault, JobNo, JobRecord, MAX_WRITES};
 use messages::{Act, Frame, decode_frame};
-use server_core::{Input, Outs, WriteEnd};
+use server_core::{Input, Outs, WriteEnd, looks_at_all};
 use std::io;
 use std::io::Write;
 use write_order::fill_block;
+
+/// How often a job is asked for a write at the most: it gives no more than it has, and then none.
+const MOST_ASKED: u64 = MAX_WRITES + 1;
 
 /// What a server answers.
 #[derive(Drop)]
@@ -106,11 +112,13 @@ impl ServerFilter {
     /// Orders the writes of a job until none can be.
     pub(super) fn order_all<W: Write>(&mut self, job: JobNo, writer: &mut W) -> io::Result<()>
         ensures { OnOk result
-            (AnswersBy Turns (IsAt note_kept self.old.server) (IsAt note_kept self.new.server)
+            (AnswersBy (TurnsTo (λ o at now. GivesNone o now.list job))
+            (IsAt note_kept self.old.server) (IsAt note_kept self.new.server)
             (W.contents writer.old) (W.contents writer.new)) }
     {
-        for _ in 0..=MAX_DEPTH {
-            if !self.order_next(job, writer)? {
+        for _ in 0..MOST_ASKED {
+            let more = self.order_next(job, writer)?;
+            if !more {
                 return Ok(());
             }
         }
@@ -119,14 +127,17 @@ impl ServerFilter {
 
     /// Orders the next write of a job, and answers whether there was one.
     fn order_next<W: Write>(&mut self, job: JobNo, writer: &mut W) -> io::Result<bool>
-        ensures { OnOk result
-            (AnswersBy Turns (IsAt note_kept self.old.server) (IsAt note_kept self.new.server)
+        ensures { IfOk result (λ more.
+            AnswersBy (TurnsTo (Asked job more))
+            (IsAt note_kept self.old.server) (IsAt note_kept self.new.server)
             (W.contents writer.old) (W.contents writer.new)) }
     {
+        looks_at_all();
         let Some(found) = self.server.run_job(job) else {
             return Ok(false);
         };
         let rec = found.rec;
+        let _in_range = rec.total();
         match self.server.issue(job) {
             Ok(issue) => put_issue(writer, &rec, issue, &mut self.memory),
             Err(_) => Ok(false),
@@ -145,6 +156,7 @@ fn put_issue<W: Write>(
     ensures room { length memory.new ≡ MAX_BLOCK_SIZE }
     ensures order { OnOk result (Appends (W.contents writer.old) (W.contents writer.new)
         (order_if issue rec.now)) }
+    ensures more { IfOk result (λ more. more ≡ is_write issue) }
 {
     match issue {
         Issue::Write(ticket) => {

@@ -1,12 +1,16 @@
+use Rattle.std.proofs.Common.{ℕ, ◌<◌}
 use Rattle.filters.specs.Kept.{note_kept}
+use Rattle.filters.specs.ServerOrders.{GivesNone}
 use Rattle.filters.specs.ServerLives.{IsAt, Turns}
+use Rattle.filters.specs.ServerRuns.{TurnsTo}
 use Rattle.filters.specs.Steps.{AnswersBy}
 use Rattle.filters.proofs.server_filter.ServerFilter.go_on.Given as goal
 
--- Some writes were asked for, and ordered.
+-- So many jobs would be given no write any more.
 abbrev pub invariant-loop-job : goal.invariant-loop-job
 invariant-loop-job g l =
-    AnswersBy Turns (IsAt note_kept l.initial.self.server) (IsAt note_kept l.self.server) (g.W.Write.contents l.initial.writer) (g.W.Write.contents l.writer)
+    AnswersBy (TurnsTo (λ o at now. (j : ℕ) → j < l.job → GivesNone o now.list j))
+    (IsAt note_kept l.initial.self.server) (IsAt note_kept l.self.server) (g.W.Write.contents l.initial.writer) (g.W.Write.contents l.writer)
 
 -- Some checks were begun.
 abbrev pub invariant-loop-job-2 : goal.invariant-loop-job-2

@@ -1,0 +1,31 @@
+-- What is left of a server where its filter is cut at any byte of its answers, and how the next
+-- life stands on it.
+use Rattle.std.specs.Prelude.{ℕ, List, ◌∷◌, ◌++◌}
+use Rattle.disk_model.specs.declared.left.Left.TheVariants.{Saved}
+use Rattle.server_core.specs.History.{Opening}
+use Rattle.server_core.specs.Note.{Says}
+use Rattle.server_core.specs.Hearing.{Restart, Cut}
+use Rattle.filters.specs.NodeCuts.{CutsAnswer}
+use Rattle.filters.specs.ServerLives.{ServerAt, ServerTakes, BeginsBehind, noted, next_boot}
+use Rattle.filters.specs.Lives.{RecordParts, Lives}
+use Rattle.filters.specs.Cuts.{CutsBehind}
+
+-- A server is cut so: where its save is there, it is as behind the record and all turns, and what was
+-- sent and ordered counts. The next life over the note that it leaves begins behind its list and the
+-- cut.
+pub record GoesOnFrom (o : Opening) (first : ServerAt) (records : List RecordParts)
+    (front : List ℕ) : Type 0 where
+  pub left : ServerAt
+  pub cuts : CutsBehind (ServerTakes o) (CutsAnswer (λ (at : ServerAt). at.note)) first records front left
+  pub next : BeginsBehind o.me left.note (noted o left.list) o
+      (record {
+        list = Restart Saved ∷ (Cut ∷ left.list);
+        note = next_boot (noted o left.list);
+      })
+
+-- Wherever the answers of a life are cut, the next one goes on from there.
+abbrev pub LivesGoOn : Type 0
+LivesGoOn =
+    (o : Opening) (first now : ServerAt) (records : List RecordParts) (front back : List ℕ) →
+    Says first.note (noted o first.list) → Lives (ServerTakes o) first records now (front ++ back)
+    → GoesOnFrom o first records front
