@@ -14,6 +14,11 @@ pub mod ClientCutLemmas
 pub mod MirrorLemmas
 pub mod MirrorCutLemmas
 pub mod ServerLemmas
+pub mod CameLemmas
+pub mod CheckLemmas
+pub mod KeptLemmas
+pub mod FeedLemmas
+pub mod TellLemmas
 pub mod OrderLemmas
 pub mod TurnLemmas
 pub mod ServerTakeLemmas

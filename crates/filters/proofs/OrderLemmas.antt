@@ -1,5 +1,5 @@
 -- What asking for writes leaves to be asked for.
-use Rattle.std.proofs.Common.{◌≡◌, ◌<◌, ◌≤◌, ◌+◌, ◌==◌, ◌&&◌, ◌||◌, ℕ, Bool, true, false, List, [], ◌∷◌, length-append, Option, None, Some, refl, sym, ap, ◌∙◌, subst, true≢false, inl, inr, arith}
+use Rattle.std.proofs.Common.{◌≡◌, ◌<◌, ◌≤◌, ◌+◌, ◌==◌, ◌&&◌, ◌||◌, ℕ, Bool, true, false, List, [], ◌∷◌, length-append, Option, None, Some, Result, refl, sym, ap, ◌∙◌, subst, true≢false, inl, inr, arith}
 use Rattle.std.specs.Prelude.{if◌then◌else◌, is_some, nat_le, slice_get}
 use Rattle.std.specs.Option.{option_or}
 use Rattle.std.proofs.lemmas.Bool.{eq-eqb, leb-false}
@@ -29,7 +29,9 @@ use Rattle.server_core.specs.FrameAnswers.{issue, refusal}
 use Rattle.server_core.specs.Laws.{LooksAtAll, gives_write}
 use Rattle.filters.specs.Lives.{Lives}
 use Rattle.filters.specs.ServerOrders.{GivesNone}
-use Rattle.filters.specs.ServerLives.{ServerAt, Turn, Asks, Wants, Tells, TakesTurn, Turns, at_by}
+use Rattle.filters.specs.UnderWay.{UnderWay}
+use Rattle.filters.specs.ServerAt.{ServerAt, at_by, with_check}
+use Rattle.filters.specs.ServerTurns.{Turn, Asks, Begins, GoesOn, TakesTurn, TellsBy, TellsReport, Turns}
 use Rattle.filters.specs.ServerRuns.{Asked, issued_by, issued_of_job}
 
 -- What job j answers, by whether the server is on and by its run.
@@ -97,14 +99,29 @@ pub reported_keeps : (why : Option Fault) (o : Opening) (at : ServerAt) (b a i :
 reported_keeps why o at b a i r j none =
     subst (λ (l : List FrameEntry). GivesNone o l j) (sym (told_list why o at b a i r)) (told_keeps o at.list b a i r j none)
 
+tells_keeps : (why : Option Fault) (o : Opening) (at : ServerAt) (b a i : ℕ) (r : ReportParts) (end : Result (Unit {0}) Fault) (now : ServerAt) (answer : List ℕ)
+    (j : ℕ) → TellsBy why o at (CheckDone b a i r) end now answer → GivesNone o at.list j → GivesNone o now.list j
+tells_keeps None o at b a i r end now answer j (ends, (is, said)) none =
+    subst (λ (s : ServerAt). GivesNone o s.list j) (sym is) (reported_keeps None o at b a i r j none)
+tells_keeps (Some fault) o at b a i r end now answer j (ends, (is, said)) none =
+    subst (λ (s : ServerAt). GivesNone o s.list j) (sym is) (reported_keeps (Some fault) o at b a i r j none)
+
+report_keeps : (o : Opening) (at : ServerAt) (i : ℕ) (u : UnderWay) (r : ReportParts) (end : Result (Unit {0}) Fault) (now : ServerAt) (answer : List ℕ) (j : ℕ)
+    → TellsReport o at i u r end now answer → GivesNone o at.list j → GivesNone o now.list j
+report_keeps o at i u r end now answer j (inl tells) none =
+    tells_keeps (refusal o at.list (CheckDone u.boot u.attempt i r)) o (with_check i None at) u.boot u.attempt i r end now answer j tells none
+report_keeps o at i u r end now answer j (inr (fault, memory, ends, (is, said))) none = subst (λ (s : ServerAt). GivesNone o s.list j) (sym is) none
+
+goes_keeps : (o : Opening) (at : ServerAt) (i : ℕ) (u : UnderWay) (end : Result (Unit {0}) Fault) (now : ServerAt) (answer : List ℕ) (j : ℕ)
+    → GoesOn o at i u end now answer → GivesNone o at.list j → GivesNone o now.list j
+goes_keeps o at i u end now answer j (inl (first, count, wants, ends, (is, said))) none = subst (λ (s : ServerAt). GivesNone o s.list j) (sym is) none
+goes_keeps o at i u end now answer j (inr (r, over, tells)) none = report_keeps o at i u r end now answer j tells none
+
 turn_keeps : (o : Opening) (at : ServerAt) (turn : Turn) (now : ServerAt) (answer : List ℕ) (j : ℕ) → TakesTurn o at turn now answer
     → GivesNone o at.list j → GivesNone o now.list j
 turn_keeps o at (Asks k) now answer j (is, said) none =
     subst (λ (s : ServerAt). GivesNone o s.list j) (sym is) (asked_keeps (refusal o at.list (Issue k)) o at k j none)
-turn_keeps o at (Wants a i first count size) now answer j (is, said) none = subst (λ (s : ServerAt). GivesNone o s.list j) (sym is) none
-turn_keeps o at (Tells b a i r) now answer j (inl (is, said)) none =
-    subst (λ (s : ServerAt). GivesNone o s.list j) (sym is) (reported_keeps (refusal o at.list (CheckDone b a i r)) o at b a i r j none)
-turn_keeps o at (Tells b a i r) now answer j (inr (is, said)) none = subst (λ (s : ServerAt). GivesNone o s.list j) (sym is) none
+turn_keeps o at (Begins i) now answer j begins none = goes_keeps o at i begins.check begins.end now answer j begins.goes none
 
 -- What would give no write gives none behind any turns.
 pub turns_keep : (o : Opening) (first now : ServerAt) (written : List ℕ) (j : ℕ) → Turns o first now written → GivesNone o first.list j
@@ -155,9 +172,9 @@ run_gives (Some w) j job t there is = job_gives w j (slice_get w.jobs j) job t t
 
 -- ---- what a job answers
 
-is_free : (b : Bool) (none : Option Fault) → none ≡ None → (if b then none else Some Down) ≡ none → b ≡ true
-is_free true none empty is = refl
-is_free false none empty is = absurd cc
+is_free : (b : Bool) (free : Option Fault) → free ≡ None → (if b then free else Some Down) ≡ free → b ≡ true
+is_free true free empty is = refl
+is_free false free empty is = absurd cc
 
 gives_none : (on : Bool) (w : Option Work) (j : ℕ) → (on ≡ true → is_write (issue_of j w) ≡ false) → gives_write (answer_in on w j) ≡ false
 gives_none false w j none = refl

@@ -3,25 +3,27 @@ use Rattle.std.proofs.Common.{◌≡◌, ℕ, List, sym, ap, subst, arith}
 use Rattle.fc_base.specs.declared.fault.Fault.{Fault}
 use Rattle.fc_base.specs.declared.fault.Fault.TheVariants as faults
 use Rattle.disk_model.specs.Notes.{Note}
-use Rattle.server_core.specs.declared.server.Server.{Server}
 use Rattle.server_core.specs.Note.{Says}
 use Rattle.server_core.specs.Serves.{NotOpened}
 use Rattle.server_core.specs.FrameEnds.{Restarts}
 use Rattle.filters.specs.declared.kept_notes.KeptNotes.{KeptNotes}
+use Rattle.filters.specs.declared.server_filter.ServerFilter.{ServerFilter}
 use Rattle.filters.specs.Kept.{note_kept}
-use Rattle.filters.specs.ServerLives.{IsAt, RefusesNote, noted}
+use Rattle.filters.specs.ServerAt.{no_checks, noted}
+use Rattle.filters.specs.ServerLives.{RefusesNote}
+use Rattle.filters.specs.CheckRuns.{AreChecks, IsHere}
 use Rattle.filters.specs.ServerRuns.{OpenedOver}
 
 -- A server that was opened is where it begins.
-pub opened_over : (me : ℕ) (bytes : List ℕ) (notes : KeptNotes) (server : Server KeptNotes) → (note_kept notes).bytes ≡ bytes
-    → Restarts note_kept me notes server → OpenedOver me bytes server
-opened_over me bytes notes server is opens = record {
+pub opened_over : (me : ℕ) (bytes : List ℕ) (notes : KeptNotes) (filter : ServerFilter) → (note_kept notes).bytes ≡ bytes
+    → AreChecks filter.checks.items no_checks → Restarts note_kept me notes filter.server → OpenedOver me bytes filter
+opened_over me bytes notes filter is none opens = record {
   said = opens.said;
   says = subst (λ b. Says b opens.said) is opens.says;
   saved = ap (λ (n : Note). n.bytes) opens.leaves;
-  begins = λ o first h. subst (IsAt note_kept server o) (sym h.begins) (
-    opens.stands o h.past h.me_is (subst (λ b. Says b (noted o h.past)) (sym is) h.says),
-    ap (λ (n : Note). n.bytes) opens.leaves,
+  begins = λ o first h. subst (IsHere filter o) (sym h.begins) (
+    (opens.stands o h.past h.me_is (subst (λ b. Says b (noted o h.past)) (sym is) h.says), ap (λ (n : Note). n.bytes) opens.leaves),
+    none,
   );
 }
 

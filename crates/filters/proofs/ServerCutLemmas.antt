@@ -1,7 +1,9 @@
 -- A server's answers that are cut.
-use Rattle.std.proofs.Common.{◌≡◌, ◌⊎◌, ℕ, List, [], ◌∷◌, ◌++◌, length, Option, None, Some, Result, Ok, Err}
+use Rattle.std.proofs.Common.{◌≡◌, ◌⊎◌, ◌==◌, ◌&&◌, ℕ, Bool, true, false, take, drop, List, [], ◌∷◌, ◌++◌, length, Option, None, Some, Result, Ok, Err}
 use Rattle.std.proofs.Common.{refl, sym, ap, ◌∙◌, subst, inl, inr, arith}
+use Rattle.std.specs.Prelude.{nat_lt}
 use Rattle.fc_base.specs.declared.fault.Fault.{Fault}
+use Rattle.fc_base.specs.declared.limits.TheConstants.{MAX_BLOCKS}
 use Rattle.fc_base.specs.declared.report.ReportParts.{ReportParts}
 use Rattle.server_core.specs.declared.event.WriteEnd.TheVariants as ends
 use Rattle.server_core.specs.declared.input.Input.{Input}
@@ -12,12 +14,17 @@ use Rattle.server_core.specs.declared.note.Noted.{Noted}
 use Rattle.server_core.specs.Hearing.{Cut}
 use Rattle.messages.specs.FrameBytes.{frame_at, frame_faults}
 use Rattle.server_core.specs.FrameAnswers.{refusal, due}
+use Rattle.filters.specs.declared.names.BlockName.{BlockName}
+use Rattle.filters.specs.declared.names.TheConstants.{BLOCK_NAME}
 use Rattle.filters.specs.declared.kinds.Told.{Told}
 use Rattle.filters.specs.declared.kinds.Told.TheVariants as told
 use Rattle.filters.specs.Kinds.{told_numbered}
 use Rattle.filters.specs.Records.{end_bytes}
-use Rattle.filters.specs.ServerLives.{ServerAt, ServerTakes, TakesBody, TakesBy, TakesKind, TakesTurn, Turn, Turns, Asks, Wants, Tells}
-use Rattle.filters.specs.ServerLives.{at_by, end_in, frame_in, new_note, noted, write_in}
+use Rattle.filters.specs.UnderWay.{UnderWay, report_before, with_blocks}
+use Rattle.filters.specs.ServerAt.{ServerAt, at_by, new_note, noted, with_check}
+use Rattle.filters.specs.ServerTurns.{Turn, Asks, Begins, GoesOn, TakesTurn, TellsBy, TellsReport, Turns}
+use Rattle.filters.specs.ServerChecks.{FeedsBy, FeedsIf, GivesUpBy, GivesUpIf, block_in, named}
+use Rattle.filters.specs.ServerLives.{EndsBy, ServerTakes, TakesBody, TakesBy, TakesKind, end_in, frame_in, write_in}
 use Rattle.filters.specs.ServerCuts.{LivesGoOn}
 use Rattle.filters.specs.Lives.{RecordParts, Lives}
 use Rattle.filters.proofs.NodeCutLemmas.{SaysFirst, due_first, cut_anywhere, left_keeps}
@@ -35,11 +42,25 @@ tell_note (Some fault) o at b a j r = refl
 note_of : (now at : ServerAt) → now ≡ at → now.note ≡ at.note
 note_of now at is = ap (λ (s : ServerAt). s.note) is
 
+tells_note : (why : Option Fault) (o : Opening) (at : ServerAt) (b a j : ℕ) (r : ReportParts) (end : Result (Unit {0}) Fault) (now : ServerAt) (answer : List ℕ)
+    → TellsBy why o at (CheckDone b a j r) end now answer → now.note ≡ at.note
+tells_note None o at b a j r end now answer (ends, (is, said)) = note_of now _ is ∙ tell_note None o at b a j r
+tells_note (Some fault) o at b a j r end now answer (ends, (is, said)) = note_of now _ is ∙ tell_note (Some fault) o at b a j r
+
+report_note : (o : Opening) (at : ServerAt) (j : ℕ) (u : UnderWay) (r : ReportParts) (end : Result (Unit {0}) Fault) (now : ServerAt) (answer : List ℕ)
+    → TellsReport o at j u r end now answer → now.note ≡ at.note
+report_note o at j u r end now answer (inl tells) =
+    tells_note (refusal o at.list (CheckDone u.boot u.attempt j r)) o (with_check j None at) u.boot u.attempt j r end now answer tells
+report_note o at j u r end now answer (inr (fault, memory, ends, (is, said))) = note_of now _ is
+
+goes_note : (o : Opening) (at : ServerAt) (j : ℕ) (u : UnderWay) (end : Result (Unit {0}) Fault) (now : ServerAt) (answer : List ℕ)
+    → GoesOn o at j u end now answer → now.note ≡ at.note
+goes_note o at j u end now answer (inl (first, count, wants, ends, (is, said))) = note_of now _ is
+goes_note o at j u end now answer (inr (r, over, tells)) = report_note o at j u r end now answer tells
+
 turn_note : (o : Opening) (at : ServerAt) (turn : Turn) (now : ServerAt) (answer : List ℕ) → TakesTurn o at turn now answer → now.note ≡ at.note
 turn_note o at (Asks j) now answer (is, said) = note_of now _ is ∙ ask_note (refusal o at.list (Issue j)) o at j
-turn_note o at (Wants a j first count size) now answer (is, said) = note_of now _ is
-turn_note o at (Tells b a j r) now answer (inl (is, said)) = note_of now _ is ∙ tell_note (refusal o at.list (CheckDone b a j r)) o at b a j r
-turn_note o at (Tells b a j r) now answer (inr (is, said)) = note_of now _ is
+turn_note o at (Begins j) now answer begins = goes_note o at j begins.check begins.end now answer begins.goes
 
 pub turns_note : (o : Opening) (first now : ServerAt) (written : List ℕ) → Turns o first now written → now.note ≡ first.note
 turns_note o first now written (turns, lived) = by turns now written lived
@@ -72,14 +93,46 @@ body_first o before (Ok e) after answer (inl takes) = input_first o (refusal o b
 body_first o before (Ok e) after answer (inr (fault, memory, (is, said))) = inl (note_of after before is)
 body_first o before (Err why) after answer (is, said) = inl (note_of after before is)
 
+-- What is told of a check saves nothing.
+fed_note : (o : Opening) (at : ServerAt) (u : Option UnderWay) (name : BlockName) (bytes : List ℕ) (end : Result (Unit {0}) Fault) (now : ServerAt) (answer : List ℕ)
+    → FeedsBy u o at name bytes end now answer → now.note ≡ at.note
+fed_note o at None name bytes end now answer (ends, (is, said)) = note_of now at is
+fed_note o at (Some u) name bytes end now answer (inl (given, wanted, goes)) = goes_note o at name.job (with_blocks u given bytes) end now answer goes
+fed_note o at (Some u) name bytes end now answer (inr (none, (ends, (is, said)))) = note_of now at is
+
+feeds_note : (short : Bool) (o : Opening) (at : ServerAt) (body : List ℕ) (end : Result (Unit {0}) Fault) (now : ServerAt) (answer : List ℕ)
+    → FeedsIf short o at body end now answer → now.note ≡ at.note
+feeds_note true o at body end now answer (ends, (is, said)) = note_of now at is
+feeds_note false o at body end now answer feeds =
+    fed_note o at (named at (block_in (take BLOCK_NAME body))) (block_in (take BLOCK_NAME body)) (drop BLOCK_NAME body) end now answer feeds
+
+given_up_note : (o : Opening) (at : ServerAt) (u : Option UnderWay) (name : BlockName) (end : Result (Unit {0}) Fault) (now : ServerAt) (answer : List ℕ)
+    → GivesUpBy u o at name end now answer → now.note ≡ at.note
+given_up_note o at None name end now answer (ends, (is, said)) = note_of now at is
+given_up_note o at (Some u) name end now answer tells = report_note o at name.job u (report_before u name.block) end now answer tells
+
+gives_up_note : (good : Bool) (o : Opening) (at : ServerAt) (body : List ℕ) (end : Result (Unit {0}) Fault) (now : ServerAt) (answer : List ℕ)
+    → GivesUpIf good o at body end now answer → now.note ≡ at.note
+gives_up_note false o at body end now answer (ends, (is, said)) = note_of now at is
+gives_up_note true o at body end now answer gives = given_up_note o at (named at (block_in body)) (block_in body) end now answer gives
+
+ends_note : (end : Result (Unit {0}) Fault) (o : Opening) (at : ServerAt) (front : List ℕ) (now : ServerAt) (answer : List ℕ)
+    → EndsBy end o at front now answer → now.note ≡ at.note
+ends_note (Ok taken) o at front now answer follows = turns_note o at now follows.written follows.turns
+ends_note (Err fault) o at front now answer (is, said) = note_of now at is
+
 kind_first : (o : Opening) (before : ServerAt) (kind : Option Told) (body : List ℕ) (after : ServerAt) (answer : List ℕ)
     → TakesKind o before kind body after answer → SaysFirst note before after answer
 kind_first o before (Some told.Frame) body after answer takes =
     body_first o before (frame_in (frame_faults body) (frame_at body)) after answer takes
 kind_first o before (Some told.Done) body after answer takes = body_first o before (end_in o before.list ends.Done (write_in body)) after answer takes
 kind_first o before (Some told.Failed) body after answer takes = body_first o before (end_in o before.list ends.Failed (write_in body)) after answer takes
-kind_first o before (Some told.Blocks) body after answer takes = inl (turns_note o before after takes.written takes.turns)
-kind_first o before (Some told.Unread) body after answer takes = inl (turns_note o before after takes.written takes.turns)
+kind_first o before (Some told.Blocks) body after answer takes =
+    inl (ends_note takes.end o takes.mid takes.front after answer takes.ends
+    ∙ feeds_note (nat_lt (length body) BLOCK_NAME) o before body takes.end takes.mid takes.front takes.comes)
+kind_first o before (Some told.Unread) body after answer takes =
+    inl (ends_note takes.end o takes.mid takes.front after answer takes.ends
+    ∙ gives_up_note ((length body == BLOCK_NAME) && nat_lt (block_in body).block MAX_BLOCKS) o before body takes.end takes.mid takes.front takes.comes)
 kind_first o before _ body after answer (is, said) = inl (note_of after before is)
 
 takes_first : (o : Opening) (before after : ServerAt) (r : RecordParts) (answer : List ℕ) → ServerTakes o before r after answer

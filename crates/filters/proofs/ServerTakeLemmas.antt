@@ -1,6 +1,7 @@
 -- What is answered to a record by a server's filter, from how its server's calls end.
 use Rattle.std.proofs.Common.{length, length-append, ◌+◌, ◌≤◌, ◌≡◌, ℕ, Bool, false, List, [], ◌++◌, map, Option, None, Some, Result, Ok, Err, refl, sym, ap, ◌∙◌, subst, inl, inr, arith}
-use Rattle.std.specs.Prelude.{is_some}
+use Rattle.std.specs.Prelude.{is_some, Vec}
+use Rattle.std.specs.declared.alloc.Global.{Global}
 use Rattle.std.specs.Int.{w32, w64}
 use Rattle.std.specs.Io.KnownBytes.{Appends}
 use Rattle.std.proofs.KnownBytes.{Appends-trans}
@@ -27,12 +28,14 @@ use Rattle.server_core.specs.History.{Opening}
 use Rattle.server_core.specs.Note.{Says}
 use Rattle.server_core.specs.Answers.{shown_entries, run_job}
 use Rattle.server_core.specs.Hearing.{FrameEntry, packets_heard}
-use Rattle.server_core.specs.FrameAnswers.{due, frames, issue, answered_entry}
+use Rattle.server_core.specs.FrameAnswers.{due, frames, issue, refusal, answered_entry}
 use Rattle.server_core.specs.FrameEnds.{StandsFor, steps}
 use Rattle.server_core.specs.Handles.{outs_of_issue}
 use Rattle.server_core.specs.Memory.{TakesNone}
 use Rattle.server_core.specs.Laws.{LooksAtAll}
+use Rattle.filters.specs.declared.checking.Checking.{Checking}
 use Rattle.filters.specs.declared.kept_notes.KeptNotes.{KeptNotes}
+use Rattle.filters.specs.declared.server_filter.ServerFilter.{ServerFilter}
 use Rattle.filters.specs.declared.server_filter.writes.Handed.{Handed}
 use Rattle.filters.specs.Kept.{note_kept}
 use Rattle.filters.specs.declared.kinds.Said.TheVariants.{Order, Want}
@@ -41,7 +44,11 @@ use Rattle.filters.specs.Records.{head_bytes, record_bytes, end_bytes}
 use Rattle.filters.specs.ClientSteps.{save_bytes, send_bytes}
 use Rattle.filters.specs.ServerTells.{act_bytes, order_name}
 use Rattle.filters.specs.ServerSteps.{IsHanded, NotHanded, HandsOut, BodyHands, handed_bytes}
-use Rattle.filters.specs.ServerLives.{ServerAt, IsAt, Asks, Tells, order_bytes, want_bytes, handed_by, TakesTurn, TakesBody, TakesBy, at_by, new_note, noted, handed, order_if, ordered, ordered_by}
+use Rattle.filters.specs.UnderWay.{UnderWay}
+use Rattle.filters.specs.ServerAt.{ServerAt, IsAt, at_by, handed, new_note, noted}
+use Rattle.filters.specs.ServerTurns.{Asks, TakesTurn, TellsBy, TellsIt, order_bytes, order_if, ordered, ordered_by, want_bytes}
+use Rattle.filters.specs.ServerLives.{TakesBody, TakesBy}
+use Rattle.filters.specs.CheckRuns.{AreChecks, IsHere}
 use Rattle.filters.specs.Steps.{AnswersBy}
 use Rattle.filters.specs.ServerRuns.{Asked, WritesHanded}
 use Rattle.filters.proofs.TakeLemmas.{saved_so, note_so}
@@ -66,58 +73,74 @@ at_taken note o at e old new h was is = (
   note_so (due o at.list e) (new_note o at.list e) at.note (note old.core.notes) (note new.core.notes) is.answers.leaves was,
 )
 
+-- No input changes which checks are under way.
+by_checks : (why : Option Fault) (o : Opening) (at : ServerAt) (e : Input) → (at_by why o at e).checks ≡ at.checks
+by_checks None o at e = refl
+by_checks (Some fault) o at e = refl
+
 -- A body that isn't taken.
-not_taken : {T : Type 0} (note : T → Note) (o : Opening) (at : ServerAt) (e : Input) (old new : Server T) (sort : FaultSort) (fault : Fault)
-    → sort_of fault ≡ sort → (note old.core.notes).bytes ≡ at.note → NotHanded note o at.list e sort fault old new
-    → (now : ServerAt) × IsAt note new o now × TakesBody o at (Ok e) now (end_bytes (Err fault))
-not_taken note o at e old new sorts.Memory fault is was (same, stands) =
-    (at, (stands, ap (λ (n : Note). n.bytes) same ∙ was), inr (fault, is, (refl, refl)))
-not_taken note o at e old new sorts.Save fault is was ends = absurd ends
-not_taken note o at e old new sorts.Refusal fault is was r = (
+not_taken_here : (o : Opening) (at : ServerAt) (e : Input) (old mid : ServerFilter) (sort : FaultSort) (fault : Fault) → sort_of fault ≡ sort
+    → (note_kept old.server.core.notes).bytes ≡ at.note → AreChecks mid.checks.items at.checks
+    → NotHanded note_kept o at.list e sort fault old.server mid.server
+    → (now : ServerAt) × IsHere mid o now × TakesBody o at (Ok e) now (end_bytes (Err fault))
+not_taken_here o at e old mid sorts.Memory fault is was checks (same, stands) =
+    (at, ((stands, ap (λ (n : Note). n.bytes) same ∙ was), checks), inr (fault, is, (refl, refl)))
+not_taken_here o at e old mid sorts.Save fault is was checks ends = absurd ends
+not_taken_here o at e old mid sorts.Refusal fault is was checks r = (
   at_by (Some fault) o at e,
-  (r.stands, ap (λ (n : Note). n.bytes) r.same_note ∙ was),
+  ((r.stands, ap (λ (n : Note). n.bytes) r.same_note ∙ was), checks),
   inl (subst (λ w. TakesBy w o at e (at_by (Some fault) o at e) (end_bytes (Err fault))) (sym r.why) (refl, refl)),
 )
 
 -- What is made of a body, by how the call ends and what is written of it.
-pub body_taken : (asked : Opening → List FrameEntry → Result Input Fault) (old mid new : Server KeptNotes) (result : Result Handed Fault)
+pub body_taken : (asked : Opening → List FrameEntry → Result Input Fault) (old mid new : ServerFilter) (result : Result Handed Fault)
     (first text : Option (List ℕ))
-    → ((o : Opening) (past : List FrameEntry) → StandsFor note_kept old o past → BodyHands note_kept o past (asked o past) old mid result)
-    → WritesHanded result mid new first text
-    → AnswersBy (λ o at now answer. TakesBody o at (asked o at.list) now answer) (IsAt note_kept old) (IsAt note_kept new) first text
-body_taken asked old mid new (Ok h) first text hands (written, wrote, turns) = record {
-  answer = handed_bytes (note_kept mid.core.notes).bytes h ++ (written ++ end_bytes (Ok tt));
+    → ((o : Opening) (past : List FrameEntry) → StandsFor note_kept old.server o past
+    → BodyHands note_kept o past (asked o past) old.server mid.server result)
+    → mid.checks ≡ old.checks → WritesHanded result mid new first text
+    → AnswersBy (λ o at now answer. TakesBody o at (asked o at.list) now answer) (IsHere old) (IsHere new) first text
+body_taken asked old mid new (Ok h) first text hands kept (written, wrote, turns) = record {
+  answer = handed_bytes (note_kept mid.server.core.notes).bytes h ++ (written ++ end_bytes (Ok tt));
   written = wrote;
-  takes = λ o at stands. by o at stands.1 (asked o at.list) (hands o at.list stands.0);
+  takes = λ o at here. by o at here (asked o at.list) (hands o at.list here.0.0);
 }
   where
-    by : (o : Opening) (at : ServerAt) → (note_kept old.core.notes).bytes ≡ at.note → (a : Result Input Fault) → BodyHands note_kept o at.list a old mid (Ok h)
-        → (now : ServerAt) × IsAt note_kept new o now × TakesBody o at a now (handed_bytes (note_kept mid.core.notes).bytes h ++ (written ++ end_bytes (Ok tt)))
-    by o at was (Ok e) is =
-        let t = turns o (at_by None o at e) (at_taken note_kept o at e old mid h was is) in (
+    by : (o : Opening) (at : ServerAt) → IsHere old o at → (a : Result Input Fault) → BodyHands note_kept o at.list a old.server mid.server (Ok h)
+        → (now : ServerAt) × IsHere new o now × TakesBody o at a now (handed_bytes (note_kept mid.server.core.notes).bytes h ++ (written ++ end_bytes (Ok tt)))
+    by o at here (Ok e) is =
+        let checks = subst (λ (cs : Vec (Option Checking) Global). AreChecks cs.items at.checks) (sym kept) here.1 in
+        let t = turns o (at_by None o at e) (at_taken note_kept o at e old.server mid.server h here.0.1 is, checks) in (
           t.0,
           t.1,
-          inl (subst (λ w. TakesBy w o at e t.0 (handed_bytes (note_kept mid.core.notes).bytes h ++ (written ++ end_bytes (Ok tt)))) (sym is.answers.free)
+          inl (subst (λ w. TakesBy w o at e t.0 (handed_bytes (note_kept mid.server.core.notes).bytes h ++ (written ++ end_bytes (Ok tt)))) (sym is.answers.free)
               (record {
                 written = written;
                 turns = t.2.0;
                 ordered = t.2.1;
-                all = ap (λ l. l ++ (written ++ end_bytes (Ok tt))) (handed_is note_kept o at.list e old mid h is);
+                all = ap (λ l. l ++ (written ++ end_bytes (Ok tt))) (handed_is note_kept o at.list e old.server mid.server h is);
               })),
         )
-    by o at was (Err why) is = absurd is
-body_taken asked old mid new (Err fault) first text hands (wrote, same) = record {
+    by o at here (Err why) is = absurd is
+body_taken asked old mid new (Err fault) first text hands kept (wrote, same) = record {
   answer = end_bytes (Err fault);
   written = wrote;
-  takes = λ o at stands. subst (λ (s : Server KeptNotes). (now : ServerAt) × IsAt note_kept s o now × TakesBody o at (asked o at.list) now (end_bytes (Err fault)))
-      (sym same) (by o at stands (asked o at.list) (hands o at.list stands.0));
+  takes = λ o at here. subst (λ (f : ServerFilter). (now : ServerAt) × IsHere f o now × TakesBody o at (asked o at.list) now (end_bytes (Err fault)))
+      (sym same) (by o at here (asked o at.list) (hands o at.list here.0.0));
 }
   where
-    by : (o : Opening) (at : ServerAt) → IsAt note_kept old o at → (a : Result Input Fault) → BodyHands note_kept o at.list a old mid (Err fault)
-        → (now : ServerAt) × IsAt note_kept mid o now × TakesBody o at a now (end_bytes (Err fault))
-    by o at stands (Ok e) is = not_taken note_kept o at e old mid (sort_of fault) fault refl stands.1 is
-    by o at stands (Err why) (is, kept) =
-        (at, subst (λ (s : Server KeptNotes). IsAt note_kept s o at) (sym kept) stands, (refl, ap (λ (f : Fault). end_bytes (Err f)) is))
+    by : (o : Opening) (at : ServerAt) → IsHere old o at → (a : Result Input Fault) → BodyHands note_kept o at.list a old.server mid.server (Err fault)
+        → (now : ServerAt) × IsHere mid o now × TakesBody o at a now (end_bytes (Err fault))
+    by o at here (Ok e) is =
+        let checks = subst (λ (cs : Vec (Option Checking) Global). AreChecks cs.items at.checks) (sym kept) here.1 in
+        not_taken_here o at e old mid (sort_of fault) fault refl here.0.1 checks is
+    by o at here (Err why) (is, stays) = (
+      at,
+      (
+        subst (λ (s : Server KeptNotes). IsAt note_kept s o at) (sym stays) here.0,
+        subst (λ (cs : Vec (Option Checking) Global). AreChecks cs.items at.checks) (sym kept) here.1,
+      ),
+      (refl, ap (λ (f : Fault). end_bytes (Err f)) is),
+    )
 
 -- What is written for what a job answers.
 abbrev pub written_for : Result Answer Fault → Job → List ℕ
@@ -160,41 +183,63 @@ asked_turn shows o at j job old new (Err fault) (stands, was) ends none there fe
       refused_gives o at j fault r.why,
     )
 
+-- The same of a filter, whose checks stay.
+pub asked_here : LooksAtAll → (o : Opening) (at : ServerAt) (j : ℕ) (job : Job) (old new : ServerFilter) (result : Result Answer Fault)
+    → new.checks ≡ old.checks → IsHere old o at → Ends (steps note_kept o) at.list (Issue j) old.server new.server (outs_of_issue result) → TakesNone result
+    → Some job ≡ run_job o (shown_entries (packets_heard o at.list)) j → job.rec.total ≤ MAX_WRITES
+    → (now : ServerAt) × IsHere new o now × TakesTurn o at (Asks j) now (written_for result job) × Asked j (is_given result) o at now
+asked_here shows o at j job old new result kept here ends none there few =
+    let t = asked_turn shows o at j job old.server new.server result here.0 ends none there few in
+    let stay : t.0.checks ≡ at.checks =
+    ap (λ (s : ServerAt). s.checks) t.2.0 ∙ by_checks (refusal o at.list (Issue j)) o at (Issue j) in (
+      t.0,
+      (
+        t.1,
+        subst (λ (under : ℕ → Option UnderWay). AreChecks new.checks.items under) (sym stay)
+            (subst (λ (cs : Vec (Option Checking) Global). AreChecks cs.items at.checks) (sym kept) here.1),
+      ),
+      t.2,
+      t.3,
+    )
+
 -- The note of a server says what its list does.
 pub note_says : {T : Type 0} (note : T → Note) (server : Server T) (o : Opening) (at : ServerAt) → IsAt note server o at → Says at.note (noted o at.list)
 note_says note server o at (stands, is) = subst (λ bytes. Says bytes (noted o at.list)) is stands.core.durable
 
--- What is written where a report was told.
+-- What is written where a report was told, and how that ends.
 abbrev pub handed_if : Result Handed Fault → List ℕ → List ℕ
 handed_if (Ok h) note = handed_bytes note h
 handed_if (Err fault) note = []
 
+abbrev pub end_of : Result Handed Fault → Result (Unit {0}) Fault
+end_of (Ok h) = Ok tt
+end_of (Err fault) = Err fault
+
 -- A report was told.
-pub told_turn : (o : Opening) (at : ServerAt) (boot a j : ℕ) (report : ReportParts) (old new : Server KeptNotes) (result : Result Handed Fault)
+pub told_it : (o : Opening) (at : ServerAt) (boot a j : ℕ) (report : ReportParts) (old new : Server KeptNotes) (result : Result Handed Fault)
     → IsAt note_kept old o at → HandsOut note_kept o at.list (CheckDone boot a j report) old new result
-    → (now : ServerAt) × IsAt note_kept new o now × TakesTurn o at (Tells boot a j report) now (handed_if result (note_kept new.core.notes).bytes)
-told_turn o at boot a j report old new (Ok h) (stands, was) is =
+    → (now : ServerAt) × IsAt note_kept new o now
+    × TellsIt o at (CheckDone boot a j report) (end_of result) now (handed_if result (note_kept new.core.notes).bytes) × (now.checks ≡ at.checks)
+told_it o at boot a j report old new (Ok h) (stands, was) is =
     let e = CheckDone boot a j report in (
       at_by None o at e,
       at_taken note_kept o at e old new h was is,
-      inl (
-        sym (ap (λ w. at_by w o at e) is.answers.free),
-        handed_is note_kept o at.list e old new h is ∙ sym (ap (λ w. handed_by w o at.list e) is.answers.free),
-      ),
+      inl (subst (λ w. TellsBy w o at e (Ok tt) (at_by None o at e) (handed_bytes (note_kept new.core.notes).bytes h)) (sym is.answers.free)
+          (refl, (refl, handed_is note_kept o at.list e old new h is))),
+      refl,
     )
-told_turn o at boot a j report old new (Err fault) (stands, was) ends = by (sort_of fault) ends
+told_it o at boot a j report old new (Err fault) (stands, was) ends = by (sort_of fault) refl ends
   where
-    by : (sort : FaultSort) → NotHanded note_kept o at.list (CheckDone boot a j report) sort fault old new
-        → (now : ServerAt) × IsAt note_kept new o now × TakesTurn o at (Tells boot a j report) now []
-    by sorts.Memory (same, stays) = (at, (stays, ap (λ (n : Note). n.bytes) same ∙ was), inr (refl, refl))
-    by sorts.Save f = absurd f
-    by sorts.Refusal r = (
+    by : (sort : FaultSort) → sort_of fault ≡ sort → NotHanded note_kept o at.list (CheckDone boot a j report) sort fault old new
+        → (now : ServerAt) × IsAt note_kept new o now × TellsIt o at (CheckDone boot a j report) (Err fault) now [] × (now.checks ≡ at.checks)
+    by sorts.Memory is (same, stays) = (at, (stays, ap (λ (n : Note). n.bytes) same ∙ was), inr (fault, is, refl, (refl, refl)), refl)
+    by sorts.Save is f = absurd f
+    by sorts.Refusal is r = (
       at_by (Some fault) o at (CheckDone boot a j report),
       (r.stands, ap (λ (n : Note). n.bytes) r.same_note ∙ was),
-      inl (
-        sym (ap (λ w. at_by w o at (CheckDone boot a j report)) r.why),
-        sym (ap (λ w. handed_by w o at.list (CheckDone boot a j report)) r.why),
-      ),
+      inl (subst (λ w. TellsBy w o at (CheckDone boot a j report) (Err fault) (at_by (Some fault) o at (CheckDone boot a j report)) []) (sym r.why)
+          (refl, (refl, refl))),
+      refl,
     )
 
 -- ---- orders, and blocks that are wanted

@@ -10,7 +10,9 @@ use Rattle.filters.specs.Records.{end_bytes}
 use Rattle.filters.specs.Lives.{Lives}
 use Rattle.filters.specs.Steps.{AnswersBy}
 use Rattle.filters.specs.ServerOrders.{AreAllGiven, GivesNone}
-use Rattle.filters.specs.ServerLives.{ServerAt, Turn, TakesTurn, Turns, TakesCheck}
+use Rattle.filters.specs.ServerAt.{ServerAt}
+use Rattle.filters.specs.ServerTurns.{Turn, TakesTurn, Turns}
+use Rattle.filters.specs.ServerLives.{EndsBy, TakesCheck}
 use Rattle.filters.specs.ServerRuns.{Asked, Gave, TurnsTo}
 use Rattle.filters.proofs.OrderLemmas.{turns_keep}
 
@@ -192,30 +194,40 @@ asked_out j n Before After old new spent some = record {
 -- And the end behind them.
 pub takes_end : (Before After : Opening → ServerAt → Type 0) (old mid new : Option (List ℕ))
     → AnswersBy (TurnsTo (λ o at now. AreAllGiven o now.list)) Before After old mid → Appends mid new (end_bytes (Ok tt))
-    → AnswersBy TakesCheck Before After old new
+    → AnswersBy (λ o at now written. EndsBy (Ok tt) o at [] now written) Before After old new
 takes_end Before After old mid new some wrote = record {
   answer = some.answer ++ end_bytes (Ok tt);
   written = Appends-trans old mid new some.answer (end_bytes (Ok tt)) some.written wrote;
   takes = λ o at h. let s = some.takes o at h in (
     s.0,
     s.1,
-    record { written = some.answer; end = Ok tt; turns = s.2.0; ordered = s.2.1; all = refl },
+    record { written = some.answer; turns = s.2.0; ordered = s.2.1; all = refl },
   );
 }
 
 -- Just the fault.
 pub takes_fault : (Now : Opening → ServerAt → Type 0) (old new : Option (List ℕ)) (fault : Fault) → Appends old new (end_bytes (Err fault))
-    → AnswersBy TakesCheck Now Now old new
-takes_fault Now old new fault wrote = record {
-  answer = end_bytes (Err fault);
-  written = wrote;
-  takes = λ o at h. (at, h, record { written = []; end = Err fault; turns = none_taken o at; ordered = tt; all = refl });
-}
+    → AnswersBy (λ o at now written. EndsBy (Err fault) o at [] now written) Now Now old new
+takes_fault Now old new fault wrote =
+    record { answer = end_bytes (Err fault); written = wrote; takes = λ o at h. (at, h, (refl, refl)) }
 
--- Turns before what is told of a check.
-pub takes_then : (Before Mid After : Opening → ServerAt → Type 0) (old mid new : Option (List ℕ)) → AnswersBy Turns Before Mid old mid
-    → AnswersBy TakesCheck Mid After mid new → AnswersBy TakesCheck Before After old new
-takes_then Before Mid After old mid new some more = record {
+behind : (end : Result (Unit {0}) Fault) (o : Opening) (mid : ServerAt) (front : List ℕ) (now : ServerAt) (written : List ℕ)
+    → EndsBy end o mid [] now written → EndsBy end o mid front now (front ++ written)
+behind (Ok taken) o mid front now written follows = record {
+  written = follows.written;
+  turns = follows.turns;
+  ordered = follows.ordered;
+  all = ap (λ l. front ++ l) follows.all;
+}
+behind (Err fault) o mid front now written (is, said) = (is, ap (λ l. front ++ l) said)
+
+-- What is made of what is told of a check, and the end.
+pub takes_then : (Comes : Opening → ServerAt → Result (Unit {0}) Fault → ServerAt → List ℕ → Type 0) (end : Result (Unit {0}) Fault)
+    (Before Mid After : Opening → ServerAt → Type 0) (old mid new : Option (List ℕ))
+    → AnswersBy (λ o at now answer. Comes o at end now answer) Before Mid old mid
+    → AnswersBy (λ o at now written. EndsBy end o at [] now written) Mid After mid new
+    → AnswersBy (λ o at now answer. TakesCheck (Comes o at) o now answer) Before After old new
+takes_then Comes end Before Mid After old mid new some more = record {
   answer = some.answer ++ more.answer;
   written = Appends-trans old mid new some.answer more.answer some.written more.written;
   takes = λ o at h.
@@ -224,11 +236,11 @@ takes_then Before Mid After old mid new some more = record {
         m.0,
         m.1,
         record {
-          written = some.answer ++ m.2.written;
-          end = m.2.end;
-          ordered = m.2.ordered;
-          turns = both_taken o at s.0 m.0 some.answer m.2.written s.2 m.2.turns.0 m.2.turns.1;
-          all = ap (λ l. some.answer ++ l) m.2.all ∙ sym (append_assoc some.answer m.2.written (end_bytes m.2.end));
+          end = end;
+          mid = s.0;
+          front = some.answer;
+          comes = s.2;
+          ends = behind end o s.0 some.answer m.0 more.answer m.2;
         },
       );
 }

@@ -17,7 +17,12 @@ pub mod MirrorSteps
 pub mod MirrorCuts
 pub mod ServerTells
 pub mod ServerSteps
+pub mod UnderWay
+pub mod ServerAt
 pub mod ServerOrders
+pub mod ServerTurns
+pub mod ServerChecks
 pub mod ServerLives
 pub mod ServerCuts
+pub mod CheckRuns
 pub mod ServerRuns

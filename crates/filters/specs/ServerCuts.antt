@@ -6,7 +6,8 @@ use Rattle.server_core.specs.History.{Opening}
 use Rattle.server_core.specs.Note.{Says}
 use Rattle.server_core.specs.Hearing.{Restart, Cut}
 use Rattle.filters.specs.NodeCuts.{CutsAnswer}
-use Rattle.filters.specs.ServerLives.{ServerAt, ServerTakes, BeginsBehind, noted, next_boot}
+use Rattle.filters.specs.ServerAt.{ServerAt, no_checks, noted}
+use Rattle.filters.specs.ServerLives.{ServerTakes, BeginsBehind, next_boot}
 use Rattle.filters.specs.Lives.{RecordParts, Lives}
 use Rattle.filters.specs.Cuts.{CutsBehind}
 
@@ -21,6 +22,7 @@ pub record GoesOnFrom (o : Opening) (first : ServerAt) (records : List RecordPar
       (record {
         list = Restart Saved ∷ (Cut ∷ left.list);
         note = next_boot (noted o left.list);
+        checks = no_checks;
       })
 
 -- Wherever the answers of a life are cut, the next one goes on from there.

@@ -6,28 +6,30 @@ use Rattle.fc_base.specs.declared.limits.TheConstants.{MAX_WRITES}
 use Rattle.job_file.specs.declared.job.Job.{Job}
 use Rattle.window.specs.History.{issued}
 use Rattle.server_core.specs.declared.note.Noted.{Noted}
-use Rattle.server_core.specs.declared.server.Server.{Server}
 use Rattle.server_core.specs.History.{Opening}
 use Rattle.server_core.specs.Hearing.{FrameEntry, packets_heard}
 use Rattle.server_core.specs.Note.{Says}
 use Rattle.server_core.specs.Run.{Work, history, origin_of}
 use Rattle.server_core.specs.Words.{work}
-use Rattle.filters.specs.declared.kept_notes.KeptNotes.{KeptNotes}
+use Rattle.filters.specs.declared.server_filter.ServerFilter.{ServerFilter}
 use Rattle.filters.specs.declared.server_filter.writes.Handed.{Handed}
 use Rattle.filters.specs.Kept.{note_kept}
 use Rattle.filters.specs.Records.{end_bytes}
 use Rattle.filters.specs.ServerSteps.{handed_bytes}
 use Rattle.filters.specs.ServerOrders.{GivesNone, AreAllGiven}
-use Rattle.filters.specs.ServerLives.{ServerAt, IsAt, Turns, BeginsBehind, next_boot}
+use Rattle.filters.specs.ServerAt.{ServerAt}
+use Rattle.filters.specs.ServerTurns.{Turns}
+use Rattle.filters.specs.ServerLives.{BeginsBehind, next_boot}
+use Rattle.filters.specs.CheckRuns.{IsHere}
 
 -- A filter is opened: the note said something, now it has the next boot, and the server is where it
 -- begins.
-pub record OpenedOver (me : ℕ) (note : List ℕ) (server : Server KeptNotes) : Type 0 where
+pub record OpenedOver (me : ℕ) (note : List ℕ) (filter : ServerFilter) : Type 0 where
   pub said : Noted
   pub says : Says note said
-  pub saved : (note_kept server.core.notes).bytes ≡ next_boot said
+  pub saved : (note_kept filter.server.core.notes).bytes ≡ next_boot said
   pub begins : (o : Opening) (first : ServerAt) → BeginsBehind me note said o first →
-      IsAt note_kept server o first
+      IsHere filter o first
 
 -- Some turns were taken, and this holds of where the server was and is.
 abbrev pub TurnsTo : (Opening → ServerAt → ServerAt → Type 0) → Opening → ServerAt → ServerAt
@@ -60,15 +62,15 @@ Gave j n o at now =
     (n ≤ issued_at o now.list j) × (0 < n → issued_at o now.list j ≤ MAX_WRITES)
 
 -- What is handed out is written, with what follows from it and the end; or just the fault, and the
--- server stays as it was.
-abbrev pub WritesHanded : Result Handed Fault → Server KeptNotes → Server KeptNotes
-    → Option (List ℕ) → Option (List ℕ) → Type 0
-WritesHanded (Ok h) server after old new =
+-- filter stays as it was.
+abbrev pub WritesHanded : Result Handed Fault → ServerFilter → ServerFilter → Option (List ℕ)
+    → Option (List ℕ) → Type 0
+WritesHanded (Ok h) filter after old new =
     (written : List ℕ)
-    × Appends old new (handed_bytes (note_kept server.core.notes).bytes h
+    × Appends old new (handed_bytes (note_kept filter.server.core.notes).bytes h
     ++ (written ++ end_bytes (Ok tt)))
-    × ((o : Opening) (at : ServerAt) → IsAt note_kept server o at →
-    (now : ServerAt) × IsAt note_kept after o now
+    × ((o : Opening) (at : ServerAt) → IsHere filter o at →
+    (now : ServerAt) × IsHere after o now
     × TurnsTo (λ o at now. AreAllGiven o now.list) o at now written)
-WritesHanded (Err fault) server after old new =
-    Appends old new (end_bytes (Err fault)) × (after ≡ server)
+WritesHanded (Err fault) filter after old new =
+    Appends old new (end_bytes (Err fault)) × (after ≡ filter)

@@ -1,8 +1,12 @@
 //! A check of a job's file under way, whose blocks come as they are wanted.
 
-ghost use Rattle.std.specs.Prelude.{◌≡◌, ◌<◌, ◌≤◌, false, length};
-ghost use Rattle.fc_base.specs.declared.limits.TheConstants.{MAX_BLOCKS};
+ghost use Rattle.std.specs.Prelude.{◌≡◌, ◌<◌, ◌≤◌, ◌+◌, ◌*◌, ℕ, List, true, false, length, IfOk};
+ghost use Rattle.std.specs.Option.{option_copied};
+ghost use Rattle.fc_base.specs.declared.limits.TheConstants.{MAX_BLOCK_SIZE as BLOCK_SIZE, MAX_BLOCKS};
+ghost use Rattle.fc_base.specs.declared.report.ReportEnd.TheVariants.{ReadFault};
 ghost use Rattle.recheck.specs.Check.{has_ended};
+ghost use Rattle.recheck.specs.Faults.{is_checked};
+ghost use Rattle.recheck.specs.Report.{report_with};
 
 use fc_base::{Attempt, CheckReport, Fault, JobNo, JobRecord, Key};
 use recheck::{Recheck, faults_end_checks};
@@ -20,11 +24,14 @@ pub(crate) struct Checking {
     pub job: JobNo,
     pub next: u32,
     pub count: u32,
-    pub size: usize,
+    pub size: u32,
     blocks: u32,
     check: Recheck,
     ghost blocks_are: { check.expected.job.blocks ≡ blocks },
     ghost size_is: { check.expected.job.bs ≡ size },
+    ghost some: { 0 < size },
+    ghost fits: { size ≤ BLOCK_SIZE },
+    ghost within: { next + count ≤ blocks },
     ghost at: { check.next ≤ next },
     ghost goes_on: { has_ended check ≡ false },
 }
@@ -39,6 +46,9 @@ pub(crate) enum Went {
 }
 
 impl Checking {
+    ghost use Rattle.filters.specs.UnderWay.{UnderWay, next_block, with_blocks};
+    ghost use Rattle.filters.specs.CheckRuns.{Fed, Goes, HasCome, IsBegun, IsKept, IsNext, IsSome, with_came};
+
     /// A check that begins: no blocks are wanted yet.
     pub(crate) fn start(
         alloc: Global,
@@ -48,10 +58,12 @@ impl Checking {
         rec: &JobRecord,
         state: Option<&VerifyState>,
         fatal: bool,
-    ) -> Result<Checking, Fault> {
-        faults_end_checks();
+    ) -> Result<Checking, Fault>
+        ensures { IfOk result
+            (IsBegun boot attempt key rec.now (option_copied state.entry) fatal) }
+    {
         let job = key.job;
-        let size = rec.bs() as usize;
+        let size = rec.bs();
         let blocks = rec.blocks();
         let check = Recheck::new(alloc, rec, key, state, fatal)?;
         Ok(Checking {
@@ -67,7 +79,10 @@ impl Checking {
     }
 
     /// Looks which blocks are wanted next: none any more where the check is whole.
-    pub(crate) fn seek(self) -> Went {
+    pub(crate) fn seek(self) -> Went
+        ensures { (j : ℕ) (u : UnderWay) → HasCome j self u → self.next ≡ next_block u.came
+            → Goes j u result }
+    {
         let Checking {
             boot,
             attempt,
@@ -78,14 +93,11 @@ impl Checking {
             blocks,
             check,
         } = self;
-        if next >= blocks {
-            return Went::Ended(check.finish());
-        }
         let first = first_wanted(&check, next, blocks);
         if first >= blocks {
             return Went::Ended(check.finish());
         }
-        let count = wanted_from(&check, first, blocks, AT_ONCE / size.max(1) as u32);
+        let count = wanted_from(&check, first, blocks, AT_ONCE / size);
         Went::On(Checking {
             boot,
             attempt,
@@ -98,10 +110,15 @@ impl Checking {
         })
     }
 
-    /// Checks the next block by its bytes.
+    /// Checks the next block, which is wanted, by its bytes.
     fn feed(self, bytes: &[u8]) -> Went
-        requires { length bytes.now ≡ self.size }
+        requires bytes { length bytes.now ≡ self.size }
+        requires wanted { 0 < self.count }
+        ensures feeds { (j : ℕ) (u : UnderWay) → HasCome j self u
+            → Fed j (with_came u self.next bytes.now) result }
+        ensures next { IsNext self result }
     {
+        faults_end_checks();
         let Checking {
             boot,
             attempt,
@@ -113,9 +130,6 @@ impl Checking {
             check,
         } = self;
         let mut check = check;
-        if next >= blocks {
-            return Went::Ended(check.finish());
-        }
         check.feed(next, bytes);
         if check.ended() {
             return Went::Ended(check.finish());
@@ -125,23 +139,26 @@ impl Checking {
             attempt,
             job,
             next: next + 1,
-            count,
+            count: count - 1,
             size,
             blocks,
             check,
         })
     }
 
-    /// Checks the blocks that were wanted, by their bytes, and looks which are wanted next.
-    pub(crate) fn feed_all(self, bytes: &[u8]) -> Went {
+    /// Checks so many of the blocks that are wanted, by their bytes, and looks which are wanted next.
+    pub(crate) fn feed_all(self, given: u32, bytes: &[u8]) -> Went
+        requires some { 0 < given }
+        requires wanted { given ≤ self.count }
+        requires bytes { length bytes.now ≡ given * self.size }
+        ensures { (j : ℕ) (u : UnderWay) → IsKept j self u
+            → Goes j (with_blocks u given bytes.now) result }
+    {
+        let size = self.size as usize;
         let mut now = self;
-        let mut rest = bytes;
-        for _ in 0..now.count {
-            if rest.len() < now.size {
-                break;
-            }
-            let (block, behind) = rest.split_at(now.size);
-            rest = behind;
+        for fed in 0..given {
+            let from = fed as usize * size;
+            let block = &bytes[from..from + size];
             now = match now.feed(block) {
                 Went::On(next) => next,
                 Went::Ended(report) => return Went::Ended(report),
@@ -151,25 +168,35 @@ impl Checking {
     }
 
     /// The report where the next block couldn't be read.
-    pub(crate) fn give_up(self, block: u32) -> CheckReport
-        requires { block < MAX_BLOCKS }
+    pub(crate) fn give_up(self) -> CheckReport
+        requires { self.next < MAX_BLOCKS }
+        ensures { result ≡ report_with self.check.found (ReadFault self.next) }
     {
-        self.check.finish_at(block)
+        let next = self.next;
+        self.check.finish_at(next)
     }
 
-    /// Whether so many bytes are some of the blocks that are wanted, the first ones.
-    pub(crate) fn wants(&self, bytes: usize) -> bool {
-        self.size > 0
-            && bytes > 0
-            && bytes.is_multiple_of(self.size)
-            && bytes / self.size <= self.count as usize
+    /// How many blocks so many bytes are, where they are some of those that are wanted, the first ones.
+    pub(crate) fn some_of(&self, bytes: usize) -> Option<u32>
+        ensures { IsSome self.now bytes result }
+    {
+        let size = self.size as usize;
+        let given = bytes / size;
+        if given > 0 && given * size == bytes && given <= self.count as usize {
+            Some(given as u32)
+        } else {
+            None
+        }
     }
 }
 
 /// The first block from this one on that has to be checked; as many as there are, where none has to.
 fn first_wanted(check: &Recheck, from: u32, blocks: u32) -> u32
     requires { from ≤ blocks }
-    ensures { from ≤ result }
+    ensures from { from ≤ result }
+    ensures within { result ≤ blocks }
+    ensures none { (b : ℕ) → from ≤ b → b < result → is_checked check.now.expected b ≡ false }
+    ensures found { result < blocks → is_checked check.now.expected result ≡ true }
 {
     for block in from..blocks {
         if check.wants(block) {
@@ -182,6 +209,12 @@ fn first_wanted(check: &Recheck, from: u32, blocks: u32) -> u32
 /// How many blocks from this one on have to be checked, one behind the other, of so many at the most.
 fn wanted_from(check: &Recheck, first: u32, blocks: u32, most: u32) -> u32
     requires { first ≤ blocks }
+    ensures few { result ≤ most }
+    ensures within { first + result ≤ blocks }
+    ensures checked { (b : ℕ) → first ≤ b → b < first + result
+        → is_checked check.now.expected b ≡ true }
+    ensures all { result < most → first + result < blocks
+        → is_checked check.now.expected (first + result) ≡ false }
 {
     let room = blocks - first;
     for count in 0..room.min(most) {

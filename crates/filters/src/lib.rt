@@ -37,6 +37,7 @@ pub use kept_notes::KeptNotes;
 pub use kinds::{Said, Told};
 pub use law::{cut_law, mirror_cut_law};
 pub use mirror_filter::run_mirror;
+pub use names::{BLOCK_NAME, BlockName};
 pub use record::MAX_BODY;
 pub use server_filter::run_server;
 pub use server_law::server_cut_law;

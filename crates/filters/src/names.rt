@@ -1,6 +1,7 @@
 //! The numbers in the bodies of records.
 
-ghost use Rattle.std.specs.Prelude.{◌≡◌};
+ghost use Rattle.std.specs.Prelude.{◌≡◌, length};
+ghost use Rattle.filters.specs.ServerChecks.{block_in};
 ghost use Rattle.filters.specs.ServerLives.{write_in};
 
 use fc_base::{Attempt, JobNo, RunNo, Seq, split_u32, split_u64};
@@ -30,26 +31,31 @@ pub(crate) fn write_name(bytes: &[u8]) -> Option<WriteName>
     })
 }
 
-/// Which block of a check is told of.
+/// Which block of a check is told of, in a record of blocks that come or of one that can't be read.
 #[derive(Clone, Copy, Debug)]
-pub(crate) struct BlockName {
+pub struct BlockName {
+    /// The attempt of the check.
     pub attempt: Attempt,
+    /// The job that is checked.
     pub job: JobNo,
+    /// The block, counted from 0.
     pub block: u32,
 }
 
-/// The block that the first 16 bytes name, and what stands behind them; `None` where they are fewer.
-pub(crate) fn block_name(bytes: &[u8]) -> Option<(BlockName, &[u8])> {
-    if bytes.len() < 16 {
-        return None;
-    }
+/// How many bytes name a block of a check.
+pub const BLOCK_NAME: usize = 16;
+
+/// The block that these 16 bytes name.
+pub(crate) fn block_name(bytes: &[u8]) -> BlockName
+    requires { length bytes.now ≡ BLOCK_NAME }
+    ensures { result ≡ block_in bytes.now }
+{
     let (attempt, rest) = split_u64(bytes);
     let (job, rest) = split_u32(rest);
-    let (block, rest) = split_u32(rest);
-    let name = BlockName {
+    let (block, _) = split_u32(rest);
+    BlockName {
         attempt: Attempt(attempt),
         job: JobNo(job),
         block,
-    };
-    Some((name, rest))
+    }
 }

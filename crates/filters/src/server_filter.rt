@@ -3,14 +3,15 @@
 ghost use Rattle.std.specs.Prelude.{◌≡◌, ◌<◌, true, Some, [], length, OnOk, IfOk, IfErr, IfSome};
 ghost use Rattle.std.specs.Io.Buffered.{reader_remaining};
 ghost use Rattle.std.specs.Io.KnownBytes.{Appends};
-ghost use Rattle.fc_base.specs.declared.limits.TheConstants.{MAX_SERVERS, MAX_BLOCK_SIZE as BLOCK_SIZE};
+ghost use Rattle.fc_base.specs.declared.limits.TheConstants.{MAX_SERVERS, MAX_BLOCK_SIZE as BLOCK_SIZE, MAX_JOBS as JOBS};
 ghost use Rattle.filters.specs.Kept.{note_kept};
 ghost use Rattle.filters.specs.ClientSteps.{save_bytes};
 ghost use Rattle.filters.specs.Lives.{HasRun, RunsOver, Runs};
 ghost use Rattle.filters.specs.Steps.{AnswersBy, AnswersRecord, StepsBy, parts_of};
 ghost use Rattle.filters.specs.ServerOrders.{AreAllGiven};
-ghost use Rattle.filters.specs.ServerLives.{IsAt, RefusesNote, ServerTakes, TakesCheck, TakesKind, server_filter};
-ghost use Rattle.filters.specs.ServerRuns.{OpenedOver, TurnsTo, WritesHanded};
+ghost use Rattle.filters.specs.ServerAt.{no_checks as none_under_way};
+ghost use Rattle.filters.specs.ServerChecks.{Feeds, GivesUp};
+ghost use Rattle.filters.specs.ServerLives.{EndsBy, RefusesNote, ServerTakes, TakesCheck, TakesKind, server_filter};
 
 mod checks;
 mod writes;
@@ -82,6 +83,7 @@ pub(crate) struct ServerFilter {
     checks: Vec<Option<Checking>>,
     memory: Vec<u8>,
     ghost whole: { length memory.items ≡ BLOCK_SIZE },
+    ghost wide: { length checks.items ≡ JOBS },
 }
 
 /// Room for the bytes of any block.
@@ -91,26 +93,32 @@ fn room_for_a_block(alloc: Global) -> Result<Vec<u8>, AllocError>
     vec![in alloc; 0; MAX_BLOCK_SIZE as usize]
 }
 
-/// No check of any job.
-fn no_checks(alloc: Global) -> Result<Vec<Option<Checking>>, AllocError> {
-    let mut checks = Vec::with_capacity(alloc, MAX_JOBS as usize)?;
-    for _ in 0..MAX_JOBS {
-        checks.push(None)?;
-    }
-    Ok(checks)
-}
-
 impl ServerFilter {
+    ghost use Rattle.filters.specs.CheckRuns.{AreChecks, IsHere};
+    ghost use Rattle.filters.specs.ServerRuns.{OpenedOver, TurnsTo, WritesHanded};
+
+    /// No check of any job.
+    fn no_checks(alloc: Global) -> Result<Vec<Option<Checking>>, AllocError>
+        ensures wide { IfOk result (λ checks. length checks.items ≡ JOBS) }
+        ensures none { IfOk result (λ checks. AreChecks checks.items none_under_way) }
+    {
+        let mut checks = Vec::with_capacity(alloc, MAX_JOBS as usize)?;
+        for _ in 0..MAX_JOBS {
+            checks.push(None)?;
+        }
+        Ok(checks)
+    }
+
     /// The filter over this note, in which the next boot is saved.
     fn open(alloc: Global, me: ServerNo, note: Vec<u8>) -> Result<ServerFilter, Fault>
         requires { me < MAX_SERVERS }
-        ensures ok { IfOk result (λ filter. OpenedOver me note.items filter.server) }
+        ensures ok { IfOk result (λ filter. OpenedOver me note.items filter) }
         ensures err { IfErr result (RefusesNote note.items) }
     {
         let Ok(memory) = room_for_a_block(alloc) else {
             return Err(Fault::NoMemory);
         };
-        let Ok(checks) = no_checks(alloc) else {
+        let Ok(checks) = ServerFilter::no_checks(alloc) else {
             return Err(Fault::NoMemory);
         };
         match Server::restart(alloc, me, KeptNotes::new(note)) {
@@ -131,7 +139,7 @@ impl ServerFilter {
         writer: &mut W,
     ) -> io::Result<u8>
         ensures { IfSome (reader_remaining R.remaining reader.old) (λ input. IfOk result
-            (HasRun ServerTakes (IsAt note_kept self.old.server) [] input
+            (HasRun ServerTakes (IsHere self.old) [] input
             (W.contents writer.old) (W.contents writer.new))) }
     {
         for _ in 0..u64::MAX {
@@ -149,8 +157,7 @@ impl ServerFilter {
         writer: &mut W,
     ) -> io::Result<Option<u8>>
         ensures { IfOk result
-            (StepsBy ServerTakes (IsAt note_kept self.old.server)
-            (IsAt note_kept self.new.server)
+            (StepsBy ServerTakes (IsHere self.old) (IsHere self.new)
             (reader_remaining R.remaining reader.old) (reader_remaining R.remaining reader.new)
             (W.contents writer.old) (W.contents writer.new)) }
     {
@@ -181,8 +188,7 @@ impl ServerFilter {
     /// Answers a record.
     fn answer<W: Write>(&mut self, came: &Record, writer: &mut W) -> io::Result<()>
         ensures { OnOk result
-            (AnswersRecord ServerTakes (IsAt note_kept self.old.server)
-            (IsAt note_kept self.new.server) (parts_of came.now)
+            (AnswersRecord ServerTakes (IsHere self.old) (IsHere self.new) (parts_of came.now)
             (W.contents writer.old) (W.contents writer.new)) }
     {
         let body = came.body.as_slice();
@@ -196,7 +202,7 @@ impl ServerFilter {
     fn answer_kind<W: Write>(&mut self, kind: Told, body: &[u8], writer: &mut W) -> io::Result<()>
         ensures { OnOk result
             (AnswersBy (λ o at now answer. TakesKind o at (Some kind) body.now now answer)
-            (IsAt note_kept self.old.server) (IsAt note_kept self.new.server)
+            (IsHere self.old) (IsHere self.new)
             (W.contents writer.old) (W.contents writer.new)) }
     {
         match kind {
@@ -225,7 +231,7 @@ impl ServerFilter {
         writer: &mut W,
     ) -> io::Result<()>
         ensures { OnOk result
-            (WritesHanded answer self.old.server self.new.server
+            (WritesHanded answer self.old self.new
             (W.contents writer.old) (W.contents writer.new)) }
     {
         match answer {
@@ -241,7 +247,8 @@ impl ServerFilter {
     /// Answers blocks that a check wants: by those that it wants behind them, or by what its report makes of it.
     fn answer_blocks<W: Write>(&mut self, body: &[u8], writer: &mut W) -> io::Result<()>
         ensures { OnOk result
-            (AnswersBy TakesCheck (IsAt note_kept self.old.server) (IsAt note_kept self.new.server)
+            (AnswersBy (λ o at now answer. TakesCheck (Feeds o at body.now) o now answer)
+            (IsHere self.old) (IsHere self.new)
             (W.contents writer.old) (W.contents writer.new)) }
     {
         let answer = self.blocks(body, writer)?;
@@ -251,7 +258,8 @@ impl ServerFilter {
     /// Answers that a block couldn't be read.
     fn answer_unread<W: Write>(&mut self, body: &[u8], writer: &mut W) -> io::Result<()>
         ensures { OnOk result
-            (AnswersBy TakesCheck (IsAt note_kept self.old.server) (IsAt note_kept self.new.server)
+            (AnswersBy (λ o at now answer. TakesCheck (GivesUp o at body.now) o now answer)
+            (IsHere self.old) (IsHere self.new)
             (W.contents writer.old) (W.contents writer.new)) }
     {
         let answer = self.unread(body, writer)?;
@@ -261,7 +269,8 @@ impl ServerFilter {
     /// Writes what follows from what was told of a check, and the end.
     fn write_end<W: Write>(&mut self, answer: Result<(), Fault>, writer: &mut W) -> io::Result<()>
         ensures { OnOk result
-            (AnswersBy TakesCheck (IsAt note_kept self.old.server) (IsAt note_kept self.new.server)
+            (AnswersBy (λ o at now written. EndsBy answer o at [] now written)
+            (IsHere self.old) (IsHere self.new)
             (W.contents writer.old) (W.contents writer.new)) }
     {
         match answer {
@@ -277,7 +286,7 @@ impl ServerFilter {
     fn go_on<W: Write>(&mut self, writer: &mut W) -> io::Result<()>
         ensures { OnOk result
             (AnswersBy (TurnsTo (λ o at now. AreAllGiven o now.list))
-            (IsAt note_kept self.old.server) (IsAt note_kept self.new.server)
+            (IsHere self.old) (IsHere self.new)
             (W.contents writer.old) (W.contents writer.new)) }
     {
         for job in 0..MAX_JOBS {

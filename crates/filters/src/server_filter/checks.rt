@@ -1,54 +1,57 @@
 //! The checks of a server, whose blocks come as they are wanted.
 
-ghost use Rattle.std.specs.Prelude.{◌≡◌, ℕ, List, OnOk};
+ghost use Rattle.std.specs.Prelude.{◌≡◌, ◌<◌, ℕ, List, OnOk, IfOk, IfSome, set};
 ghost use Rattle.std.specs.Io.KnownBytes.{Appends};
+ghost use Rattle.fc_base.specs.declared.limits.TheConstants.{MAX_JOBS as JOBS};
 ghost use Rattle.server_core.specs.declared.input.Input.TheVariants.{CheckDone};
 ghost use Rattle.server_core.specs.History.{Opening};
-ghost use Rattle.server_core.specs.Hearing.{FrameEntry};
+ghost use Rattle.server_core.specs.Hearing.{FrameEntry, packets_heard};
+ghost use Rattle.server_core.specs.Answers.{shown_entries};
+ghost use Rattle.server_core.specs.Check.{progress};
 ghost use Rattle.server_core.specs.FrameEnds.{StandsFor};
 ghost use Rattle.filters.specs.Kept.{note_kept};
 ghost use Rattle.filters.specs.ServerSteps.{HandsOut};
-ghost use Rattle.filters.specs.ServerLives.{IsAt, Turns, want_bytes};
+ghost use Rattle.filters.specs.ServerTurns.{Turns, ready_by, want_bytes};
+ghost use Rattle.filters.specs.ServerChecks.{Feeds, GivesUp};
+ghost use Rattle.filters.specs.CheckRuns.{GoesSo, IsHere, IsNewCheck, TakesOut, TellsSo, kept_in, is_same_check};
 ghost use Rattle.filters.specs.Steps.{AnswersBy};
 
 use super::ServerFilter;
 use super::writes::Handed;
 use crate::checking::{Checking, Went};
 use crate::kinds::Said;
-use crate::names::block_name;
+use crate::names::{BLOCK_NAME, BlockName, block_name};
 use crate::writing::{put_head, put_u32, put_u64};
-use fc_base::{Attempt, CheckReport, Fault, JobNo, Key, MAX_BLOCKS};
+use fc_base::{Attempt, CheckReport, Fault, JobNo, Key, MAX_BLOCKS, MAX_JOBS};
 use server_core::{Input, Progress};
 use std::io;
 use std::io::Write;
+use verify_state::VerifyState;
 
 impl ServerFilter {
     /// Begins the check of a job, where it may be made and isn't under way. Where memory is wanting it begins
     /// behind a later record.
     pub(super) fn begin_check<W: Write>(&mut self, job: JobNo, writer: &mut W) -> io::Result<()>
+        requires { job < JOBS }
         ensures { OnOk result
-            (AnswersBy Turns (IsAt note_kept self.old.server) (IsAt note_kept self.new.server)
+            (AnswersBy Turns (IsHere self.old) (IsHere self.new)
             (W.contents writer.old) (W.contents writer.new)) }
     {
-        match self.new_check(job) {
-            Some(checking) => {
-                let boot = checking.boot;
-                let attempt = checking.attempt;
-                let went = checking.seek();
-                let _answer = self.go(boot, attempt, job, went, writer)?;
-                Ok(())
-            }
-            None => Ok(()),
-        }
+        let Some(checking) = self.new_check(job) else {
+            return Ok(());
+        };
+        let boot = checking.boot;
+        let attempt = checking.attempt;
+        let went = checking.seek();
+        let _answer = self.go(boot, attempt, job, went, writer)?;
+        Ok(())
     }
 
     /// The check of a job that may be made and isn't under way.
-    fn new_check(&self, job: JobNo) -> Option<Checking> {
-        let state = match self.server.check_progress(job) {
-            Some(Progress::Full) => None,
-            Some(Progress::With(state)) => Some(*state),
-            _ => return None,
-        };
+    fn new_check(&self, job: JobNo) -> Option<Checking>
+        ensures { IfSome result (IsNewCheck self.now job) }
+    {
+        let state = self.ready(job)?;
         let status = self.server.status();
         if self.is_under_way(status.boot, status.attempt, job) {
             return None;
@@ -68,11 +71,28 @@ impl ServerFilter {
             state.as_ref(),
             found.fatal,
         );
-        started.ok()
+        match started {
+            Ok(checking) => Some(checking),
+            Err(_) => None,
+        }
+    }
+
+    /// The state that the check of a job is made with, where it may be made: none for a full pass.
+    fn ready(&self, job: JobNo) -> Option<Option<VerifyState>>
+        ensures { (o : Opening) (past : List FrameEntry) → StandsFor note_kept self.now.server o past →
+            result ≡ ready_by (progress o (shown_entries (packets_heard o past)) job) }
+    {
+        match self.server.check_progress(job) {
+            Some(Progress::Full) => Some(None),
+            Some(Progress::With(state)) => Some(Some(*state)),
+            _ => None,
+        }
     }
 
     /// Whether blocks of this check are wanted.
-    fn is_under_way(&self, boot: u64, attempt: Attempt, job: JobNo) -> bool {
+    fn is_under_way(&self, boot: u64, attempt: Attempt, job: JobNo) -> bool
+        ensures { result ≡ is_same_check boot attempt (kept_in self.now.checks.items job) }
+    {
         match self.checks.get(job.0 as usize) {
             Some(Some(now)) => now.attempt == attempt && now.boot == boot,
             _ => false,
@@ -88,32 +108,51 @@ impl ServerFilter {
         went: Went,
         writer: &mut W,
     ) -> io::Result<Result<(), Fault>>
-        ensures { OnOk result
-            (AnswersBy Turns (IsAt note_kept self.old.server) (IsAt note_kept self.new.server)
+        requires { job < JOBS }
+        ensures { IfOk result (λ end.
+            GoesSo self.old boot attempt job went end self.new
             (W.contents writer.old) (W.contents writer.new)) }
     {
         match went {
             Went::On(checking) => {
                 want(writer, &checking)?;
-                self.keep(checking);
+                self.put(job, Some(checking));
                 Ok(Ok(()))
             }
-            Went::Ended(report) => match self.report(boot, attempt, job, report) {
-                Ok(handed) => {
-                    self.put_handed(&handed, writer)?;
-                    Ok(Ok(()))
-                }
-                Err(fault) => Ok(Err(fault)),
-            },
+            Went::Ended(report) => self.tell(boot, attempt, job, report, writer),
         }
     }
 
-    /// Keeps a check that is under way.
-    fn keep(&mut self, checking: Checking)
-        ensures { self.new.server ≡ self.old.server }
+    /// Keeps the check of a job that is under way, or that none is.
+    fn put(&mut self, job: JobNo, check: Option<Checking>)
+        requires { job < JOBS }
+        ensures server { self.new.server ≡ self.old.server }
+        ensures checks { self.new.checks.items ≡ set self.old.checks.items job check }
     {
-        if let Some(slot) = self.checks.get_mut(checking.job.0 as usize) {
-            *slot = Some(checking);
+        self.checks[job.0 as usize] = check;
+    }
+
+    /// Tells the server the report of a check, which is no longer under way.
+    fn tell<W: Write>(
+        &mut self,
+        boot: u64,
+        attempt: Attempt,
+        job: JobNo,
+        report: CheckReport,
+        writer: &mut W,
+    ) -> io::Result<Result<(), Fault>>
+        requires { job < JOBS }
+        ensures { IfOk result (λ end.
+            TellsSo self.old boot attempt job report end self.new
+            (W.contents writer.old) (W.contents writer.new)) }
+    {
+        self.put(job, None);
+        match self.report(boot, attempt, job, report) {
+            Ok(handed) => {
+                self.put_handed(&handed, writer)?;
+                Ok(Ok(()))
+            }
+            Err(fault) => Ok(Err(fault)),
         }
     }
 
@@ -125,9 +164,10 @@ impl ServerFilter {
         job: JobNo,
         report: CheckReport,
     ) -> Result<Handed, Fault>
-        ensures { (o : Opening) (past : List FrameEntry) → StandsFor note_kept self.old.server o past →
+        ensures hands { (o : Opening) (past : List FrameEntry) → StandsFor note_kept self.old.server o past →
             HandsOut note_kept o past (CheckDone boot attempt job report)
             self.old.server self.new.server result }
+        ensures checks { self.new.checks ≡ self.old.checks }
     {
         let told = Input::CheckDone {
             boot,
@@ -141,16 +181,20 @@ impl ServerFilter {
         }
     }
 
-    /// Takes out the check of a job in an attempt, where it wants this block next.
-    fn take_out(&mut self, attempt: Attempt, job: JobNo, block: u32) -> Option<Checking>
-        ensures { self.new.server ≡ self.old.server }
+    /// Takes out the check that is named: of this job and attempt, where it wants this block next.
+    fn take_out(&mut self, name: BlockName) -> Option<Checking>
+        ensures server { self.new.server ≡ self.old.server }
+        ensures checks { TakesOut self.old.checks.items name self.new.checks.items result }
     {
-        let slot = self.checks.get_mut(job.0 as usize)?;
-        let fits = match slot {
-            Some(now) => now.attempt == attempt && now.next == block,
-            None => false,
+        let fits = match self.checks.get(name.job.0 as usize) {
+            Some(Some(now)) => now.attempt == name.attempt && now.next == name.block,
+            _ => false,
         };
-        if fits { slot.take() } else { None }
+        if fits {
+            self.checks[name.job.0 as usize].take()
+        } else {
+            None
+        }
     }
 
     /// Takes blocks that a check wants: some, from the first one on.
@@ -159,23 +203,32 @@ impl ServerFilter {
         body: &[u8],
         writer: &mut W,
     ) -> io::Result<Result<(), Fault>>
-        ensures { OnOk result
-            (AnswersBy Turns (IsAt note_kept self.old.server) (IsAt note_kept self.new.server)
+        ensures { IfOk result (λ end.
+            AnswersBy (λ o at now answer. Feeds o at body.now end now answer)
+            (IsHere self.old) (IsHere self.new)
             (W.contents writer.old) (W.contents writer.new)) }
     {
-        let Some((name, bytes)) = block_name(body) else {
-            return Ok(Err(Fault::BadNotice));
-        };
-        let Some(checking) = self.take_out(name.attempt, name.job, name.block) else {
-            return Ok(Err(Fault::NotInFlight));
-        };
-        if !checking.wants(bytes.len()) {
-            self.keep(checking);
+        if body.len() < BLOCK_NAME {
             return Ok(Err(Fault::BadNotice));
         }
+        let (front, bytes) = body.split_at(BLOCK_NAME);
+        let name = block_name(front);
+        let attempt = name.attempt;
+        let job = name.job;
+        let Some(checking) = self.take_out(name) else {
+            return Ok(Err(Fault::NotInFlight));
+        };
         let boot = checking.boot;
-        let went = checking.feed_all(bytes);
-        self.go(boot, name.attempt, name.job, went, writer)
+        match checking.some_of(bytes.len()) {
+            Some(given) => {
+                let went = checking.feed_all(given, bytes);
+                self.go(boot, attempt, job, went, writer)
+            }
+            None => {
+                self.put(job, Some(checking));
+                Ok(Err(Fault::BadNotice))
+            }
+        }
     }
 
     /// Takes that the first block which a check wants couldn't be read.
@@ -184,35 +237,39 @@ impl ServerFilter {
         body: &[u8],
         writer: &mut W,
     ) -> io::Result<Result<(), Fault>>
-        ensures { OnOk result
-            (AnswersBy Turns (IsAt note_kept self.old.server) (IsAt note_kept self.new.server)
+        ensures { IfOk result (λ end.
+            AnswersBy (λ o at now answer. GivesUp o at body.now end now answer)
+            (IsHere self.old) (IsHere self.new)
             (W.contents writer.old) (W.contents writer.new)) }
     {
-        let Some((name, rest)) = block_name(body) else {
-            return Ok(Err(Fault::BadNotice));
-        };
-        if !rest.is_empty() || name.block >= MAX_BLOCKS {
+        if body.len() != BLOCK_NAME {
             return Ok(Err(Fault::BadNotice));
         }
-        let Some(checking) = self.take_out(name.attempt, name.job, name.block) else {
+        let name = block_name(body);
+        if name.block >= MAX_BLOCKS {
+            return Ok(Err(Fault::BadNotice));
+        }
+        let attempt = name.attempt;
+        let job = name.job;
+        let Some(checking) = self.take_out(name) else {
             return Ok(Err(Fault::NotInFlight));
         };
         let boot = checking.boot;
-        let went = Went::Ended(checking.give_up(name.block));
-        self.go(boot, name.attempt, name.job, went, writer)
+        let report = checking.give_up();
+        self.tell(boot, attempt, job, report, writer)
     }
 }
 
 /// Writes that blocks are wanted.
 fn want<W: Write>(writer: &mut W, checking: &Checking) -> io::Result<()>
-    ensures { OnOk result ((size : ℕ) × Appends (W.contents writer.old) (W.contents writer.new)
-        (want_bytes checking.now.attempt checking.now.job checking.now.next checking.now.count size)) }
+    ensures { OnOk result (Appends (W.contents writer.old) (W.contents writer.new)
+        (want_bytes checking.now.attempt checking.now.job checking.now.next checking.now.count
+        checking.now.size)) }
 {
-    let size = u32::try_from(checking.size).unwrap_or(0);
     put_head(writer, Said::Want, 24)?;
     put_u64(writer, checking.attempt.0)?;
     put_u32(writer, checking.job.0)?;
     put_u32(writer, checking.next)?;
     put_u32(writer, checking.count)?;
-    put_u32(writer, size)
+    put_u32(writer, checking.size)
 }

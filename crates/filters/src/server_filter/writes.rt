@@ -13,8 +13,10 @@ ghost use Rattle.filters.specs.Kept.{note_kept};
 ghost use Rattle.filters.specs.ServerTells.{order_name, outs_bytes};
 ghost use Rattle.filters.specs.ServerSteps.{HandsOut, BodyHands, handed_bytes};
 ghost use Rattle.filters.specs.ServerOrders.{GivesNone};
-ghost use Rattle.filters.specs.ServerLives.{IsAt, frame_in, end_in, order_bytes, order_if};
+ghost use Rattle.filters.specs.ServerTurns.{order_bytes, order_if};
+ghost use Rattle.filters.specs.ServerLives.{frame_in, end_in};
 ghost use Rattle.filters.specs.ServerRuns.{Asked, TurnsTo};
+ghost use Rattle.filters.specs.CheckRuns.{IsHere};
 ghost use Rattle.filters.specs.Steps.{AnswersBy};
 
 use super::ServerFilter;
@@ -44,9 +46,10 @@ pub(crate) struct Handed {
 impl ServerFilter {
     /// Takes the frame that these bytes are.
     pub(super) fn deliver(&mut self, bytes: &[u8]) -> Result<Handed, Fault>
-        ensures { (o : Opening) (past : List FrameEntry) → StandsFor note_kept self.old.server o past →
+        ensures hands { (o : Opening) (past : List FrameEntry) → StandsFor note_kept self.old.server o past →
             BodyHands note_kept o past (frame_in (frame_faults bytes.now) (frame_at bytes.now))
             self.old.server self.new.server result }
+        ensures checks { self.new.checks ≡ self.old.checks }
     {
         match decode_frame(self.alloc, bytes) {
             Ok(frame) => self.take(frame),
@@ -57,8 +60,9 @@ impl ServerFilter {
     /// Takes a frame.
     #[tactic(auto, using(crate::proofs::ServerLemmas::not_handed))]
     fn take(&mut self, frame: Frame) -> Result<Handed, Fault>
-        ensures { (o : Opening) (past : List FrameEntry) → StandsFor note_kept self.old.server o past →
+        ensures hands { (o : Opening) (past : List FrameEntry) → StandsFor note_kept self.old.server o past →
             HandsOut note_kept o past (Deliver frame) self.old.server self.new.server result }
+        ensures checks { self.new.checks ≡ self.old.checks }
     {
         let saves = self.server.would_save(&frame);
         let outs = self.server.step(Input::Deliver(frame))?;
@@ -71,9 +75,10 @@ impl ServerFilter {
         name: Option<WriteName>,
         end: WriteEnd,
     ) -> Result<Handed, Fault>
-        ensures { (o : Opening) (past : List FrameEntry) → StandsFor note_kept self.old.server o past →
+        ensures hands { (o : Opening) (past : List FrameEntry) → StandsFor note_kept self.old.server o past →
             BodyHands note_kept o past (end_in o past end name)
             self.old.server self.new.server result }
+        ensures checks { self.new.checks ≡ self.old.checks }
     {
         let Some(WriteName { run, job, seq }) = name else {
             return Err(Fault::BadNotice);
@@ -93,8 +98,9 @@ impl ServerFilter {
     /// Takes the end of an open write.
     #[tactic(auto, using(crate::proofs::ServerLemmas::not_handed))]
     fn end_open(&mut self, ticket: Ticket, end: WriteEnd) -> Result<Handed, Fault>
-        ensures { (o : Opening) (past : List FrameEntry) → StandsFor note_kept self.old.server o past →
+        ensures hands { (o : Opening) (past : List FrameEntry) → StandsFor note_kept self.old.server o past →
             HandsOut note_kept o past (WriteDone ticket end) self.old.server self.new.server result }
+        ensures checks { self.new.checks ≡ self.old.checks }
     {
         let outs = self.server.step(Input::WriteDone(ticket, end))?;
         Ok(Handed { saves: false, outs })
@@ -113,7 +119,7 @@ impl ServerFilter {
     pub(super) fn order_all<W: Write>(&mut self, job: JobNo, writer: &mut W) -> io::Result<()>
         ensures { OnOk result
             (AnswersBy (TurnsTo (λ o at now. GivesNone o now.list job))
-            (IsAt note_kept self.old.server) (IsAt note_kept self.new.server)
+            (IsHere self.old) (IsHere self.new)
             (W.contents writer.old) (W.contents writer.new)) }
     {
         for _ in 0..MOST_ASKED {
@@ -129,7 +135,7 @@ impl ServerFilter {
     fn order_next<W: Write>(&mut self, job: JobNo, writer: &mut W) -> io::Result<bool>
         ensures { IfOk result (λ more.
             AnswersBy (TurnsTo (Asked job more))
-            (IsAt note_kept self.old.server) (IsAt note_kept self.new.server)
+            (IsHere self.old) (IsHere self.new)
             (W.contents writer.old) (W.contents writer.new)) }
     {
         looks_at_all();

@@ -28,6 +28,8 @@ unread note o past server fault (f ∷ fs) at (inl (is, none)) some stands = abs
 unread note o past server fault (f ∷ fs) at (inr first) some stands = (sym (ap (λ (a : Option Fault). unwrap_or a f) first), refl)
 
 pub returns-in-Err : goal.returns-in-Err
-returns-in-Err c o past stands =
-    unread note_kept o past c.args.self.now.server c.in-Err.fault (frame_faults c.args.bytes.now) (frame_at c.args.bytes.now) c.in-Err.ensures.answer
-    (says_one c.args.bytes.now) stands
+returns-in-Err c = record {
+  hands = λ o past stands. unread note_kept o past c.args.self.now.server c.in-Err.fault (frame_faults c.args.bytes.now) (frame_at c.args.bytes.now)
+      c.in-Err.ensures.answer (says_one c.args.bytes.now) stands;
+  checks = refl;
+}

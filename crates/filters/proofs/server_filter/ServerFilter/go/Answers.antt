@@ -1,34 +1,24 @@
-use Rattle.std.proofs.Common.{Ok, Err, [], refl, sym, subst}
-use Rattle.std.proofs.KnownBytes.{Appends-nil}
-use Rattle.filters.specs.Kept.{note_kept}
-use Rattle.filters.specs.ServerSteps.{handed_bytes}
-use Rattle.filters.specs.ServerLives.{IsAt, Tells, Wants, want_bytes}
-use Rattle.filters.proofs.ServerTakeLemmas.{told_turn}
-use Rattle.filters.proofs.TurnLemmas.{takes_one}
+use Rattle.std.proofs.Common.{Ok, arith, sym, subst}
+use Rattle.std.specs.Prelude.{IfOk}
+use Rattle.filters.specs.declared.checking.Went.{Went}
+use Rattle.filters.specs.declared.checking.Went.TheVariants.{Ended}
+use Rattle.filters.specs.CheckRuns.{GoesSo, TellsSo}
+use Rattle.filters.proofs.KeptLemmas.{if_ok_so, went_on, went_over}
 use Rattle.filters.proofs.server_filter.ServerFilter.go.Goals as goal
 
 pub returns-in_ok-want-in-On : goal.returns-in_ok-want-in-On
 returns-in_ok-want-in-On g c =
-    let check = c.in-On.checking in
-    let size = c.in_ok-want-in-On.ensures.0 in
-    takes_one (IsAt note_kept c.args.self.now.server) (IsAt note_kept c.keep.new.self.server)
-    (Wants check.attempt check.job check.next check.count size)
-    (g.W.Write.contents c.args.writer.now) (g.W.Write.contents c.want.new.writer) (want_bytes check.attempt check.job check.next check.count size)
-    c.in_ok-want-in-On.ensures.1
-    (λ o at h. (at, subst (λ s. IsAt note_kept s o at) (sym c.keep.ensures) h, (refl, refl)))
-
-pub returns-in_ok-put_handed-in-Ok : goal.returns-in_ok-put_handed-in-Ok
-returns-in_ok-put_handed-in-Ok g c =
-    let old = c.args.self.now.server in
-    let new = c.report.new.self.server in
-    takes_one (IsAt note_kept old) (IsAt note_kept new) (Tells c.args.boot c.args.attempt c.args.job c.in-Ended.report) (g.W.Write.contents c.args.writer.now)
-    (g.W.Write.contents c.put_handed.new.writer) (handed_bytes (note_kept new.core.notes).bytes c.in-Ok.handed) c.in_ok-put_handed-in-Ok.ensures
-    (λ o at h. told_turn o at c.args.boot c.args.attempt c.args.job c.in-Ended.report old new (Ok c.in-Ok.handed) h (c.in-Ok.ensures o at.list h.0))
-
-pub returns-in-Err : goal.returns-in-Err
-returns-in-Err g c =
-    let old = c.args.self.now.server in
-    let new = c.report.new.self.server in
     let text = g.W.Write.contents c.args.writer.now in
-    takes_one (IsAt note_kept old) (IsAt note_kept new) (Tells c.args.boot c.args.attempt c.args.job c.in-Ended.report) text text [] (Appends-nil text)
-    (λ o at h. told_turn o at c.args.boot c.args.attempt c.args.job c.in-Ended.report old new (Err c.in-Err.fault) h (c.in-Err.ensures o at.list h.0))
+    let new = g.W.Write.contents c.want.new.writer in
+    subst (λ (w : Went). GoesSo c.args.self.now c.args.boot c.args.attempt c.args.job w (Ok tt) c.put.new.self text new) (sym c.in-On.is)
+    (went_on c.args.self.now c.put.new.self c.args.boot c.args.attempt c.args.job c.in-On.checking text new c.put.ensures.server c.put.ensures.checks (omega arith)
+    c.in-On.checking.size_is c.in_ok-want-in-On.ensures)
+
+pub returns-in-Ended : goal.returns-in-Ended
+returns-in-Ended g c =
+    let text = g.W.Write.contents c.args.writer.now in
+    let new = g.W.Write.contents c.tell.new.writer in
+    subst (λ (w : Went). IfOk c.tell.result (λ end. GoesSo c.args.self.now c.args.boot c.args.attempt c.args.job w end c.tell.new.self text new)) (sym c.in-Ended.is)
+    (if_ok_so c.tell.result (λ end. TellsSo c.args.self.now c.args.boot c.args.attempt c.args.job c.in-Ended.report end c.tell.new.self text new)
+    (λ end. GoesSo c.args.self.now c.args.boot c.args.attempt c.args.job (Ended c.in-Ended.report) end c.tell.new.self text new) c.tell.ensures
+    (λ end tells. went_over c.args.self.now c.tell.new.self c.args.boot c.args.attempt c.args.job c.in-Ended.report end text new tells))

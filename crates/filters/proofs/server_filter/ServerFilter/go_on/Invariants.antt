@@ -1,7 +1,7 @@
 use Rattle.std.proofs.Common.{ℕ, ◌<◌}
-use Rattle.filters.specs.Kept.{note_kept}
 use Rattle.filters.specs.ServerOrders.{GivesNone}
-use Rattle.filters.specs.ServerLives.{IsAt, Turns}
+use Rattle.filters.specs.CheckRuns.{IsHere}
+use Rattle.filters.specs.ServerTurns.{Turns}
 use Rattle.filters.specs.ServerRuns.{TurnsTo}
 use Rattle.filters.specs.Steps.{AnswersBy}
 use Rattle.filters.proofs.server_filter.ServerFilter.go_on.Given as goal
@@ -10,9 +10,9 @@ use Rattle.filters.proofs.server_filter.ServerFilter.go_on.Given as goal
 abbrev pub invariant-loop-job : goal.invariant-loop-job
 invariant-loop-job g l =
     AnswersBy (TurnsTo (λ o at now. (j : ℕ) → j < l.job → GivesNone o now.list j))
-    (IsAt note_kept l.initial.self.server) (IsAt note_kept l.self.server) (g.W.Write.contents l.initial.writer) (g.W.Write.contents l.writer)
+    (IsHere l.initial.self) (IsHere l.self) (g.W.Write.contents l.initial.writer) (g.W.Write.contents l.writer)
 
 -- Some checks were begun.
 abbrev pub invariant-loop-job-2 : goal.invariant-loop-job-2
 invariant-loop-job-2 g l =
-    AnswersBy Turns (IsAt note_kept l.initial.self.server) (IsAt note_kept l.self.server) (g.W.Write.contents l.initial.writer) (g.W.Write.contents l.writer)
+    AnswersBy Turns (IsHere l.initial.self) (IsHere l.self) (g.W.Write.contents l.initial.writer) (g.W.Write.contents l.writer)

@@ -5,7 +5,7 @@ use Rattle.filters.proofs.server_filter.ServerFilter.open.Goals as goal
 
 pub returns-in-Ok-restart-clause-ok : goal.returns-in-Ok-restart-clause-ok
 returns-in-Ok-restart-clause-ok c =
-    opened_over c.args.me c.args.note.items c.new.result c.in-Ok-restart.server c.new.ensures c.in-Ok-restart.ensures
+    opened_over c.args.me c.args.note.items c.new.result _ c.new.ensures c.in-Ok-no_checks.ensures.none c.in-Ok-restart.ensures
 
 pub returns-in-Err-clause-err : goal.returns-in-Err-clause-err
 returns-in-Err-clause-err c =

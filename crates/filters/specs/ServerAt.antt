@@ -1,0 +1,65 @@
+-- A server's filter at some moment, and what an input leaves of its server and hands out.
+use Rattle.std.specs.Prelude.{◌≡◌, ℕ, ◌==◌, if◌then◌else◌, List, ◌∷◌, ◌++◌, map, is_some, Option, Some, None}
+use Rattle.fc_base.specs.declared.fault.Fault.{Fault}
+use Rattle.disk_model.specs.Notes.{Note}
+use Rattle.disk_model.specs.declared.left.Left.TheVariants.{NoSave}
+use Rattle.messages.specs.FrameBytes.{frame_spelling}
+use Rattle.server_core.specs.declared.input.Input.{Input}
+use Rattle.server_core.specs.declared.note.Noted.{Noted}
+use Rattle.server_core.specs.declared.server.Server.{Server}
+use Rattle.server_core.specs.History.{Opening}
+use Rattle.server_core.specs.Note.{spelling}
+use Rattle.server_core.specs.Words.{words_noted}
+use Rattle.server_core.specs.Hearing.{FrameEntry, Met, packets_heard}
+use Rattle.server_core.specs.FrameAnswers.{due, frames, act, answered_entry}
+use Rattle.server_core.specs.FrameEnds.{StandsFor}
+use Rattle.filters.specs.Kept.{note_with}
+use Rattle.filters.specs.ClientSteps.{save_bytes, send_bytes}
+use Rattle.filters.specs.ServerTells.{act_bytes}
+use Rattle.filters.specs.UnderWay.{UnderWay}
+pub use Rattle.filters.specs.NodeSteps.{Leaves}
+
+-- A server's filter at some moment: the list of all that came to its server, the newest first; its
+-- note; and which check of each job is under way.
+pub record ServerAt : Type 0 where
+  pub list : List FrameEntry
+  pub note : List ℕ
+  pub checks : ℕ → Option UnderWay
+
+-- A server is at this moment.
+abbrev pub IsAt : {T : Type 0} → (T → Note) → Server T → Opening → ServerAt → Type 0
+IsAt note server o at =
+    StandsFor note server o at.list × ((note server.core.notes).bytes ≡ at.note)
+
+-- No check is under way.
+abbrev pub no_checks : ℕ → Option UnderWay
+no_checks j = None
+
+-- The check of job j is this one now, if it is under way.
+abbrev pub with_check : ℕ → Option UnderWay → ServerAt → ServerAt
+with_check j u at = record at { checks = λ i. if i == j then u else at.checks i }
+
+-- What the note says behind a list.
+abbrev pub noted : Opening → List FrameEntry → Noted
+noted o past = words_noted o (packets_heard o past)
+
+-- The note as an input that is taken leaves it, if it is to be saved.
+abbrev pub new_note : Opening → List FrameEntry → Input → List ℕ
+new_note o past e = spelling (noted o (answered_entry o past e ∷ past))
+
+-- The server behind an input, by why it is refused, if it is: it stands in the list either way.
+abbrev pub at_by : Option Fault → Opening → ServerAt → Input → ServerAt
+at_by None o at e = record at {
+  list = answered_entry o at.list e ∷ at.list;
+  note = note_with (due o at.list e) (new_note o at.list e) at.note;
+}
+at_by (Some fault) o at e = record at { list = Met e NoSave ∷ at.list }
+
+-- What is handed out for an input that is taken: the note, where something is due to be saved; the
+-- frames; and the cut.
+abbrev pub handed : Opening → List FrameEntry → Input → List ℕ
+handed o past e =
+    save_bytes (is_some (due o past e)) (new_note o past e)
+    ++ (send_bytes (map frame_spelling (frames o past (answered_entry o past e)))
+    ++ act_bytes (act o past e))
+

@@ -1,0 +1,90 @@
+-- What a server's filter makes of the blocks that come to its checks.
+use Rattle.std.specs.Prelude.{◌≡◌, ◌⊎◌, ◌<◌, ◌≤◌, ℕ, ◌*◌, ◌==◌, ◌&&◌, nat_lt, Bool, true, false, if◌then◌else◌, List, [], length, take, drop, Option, Some, None, Result, Err}
+use Rattle.std.specs.Int.{w32, w64}
+use Rattle.fc_base.specs.Layouts.{number_in}
+use Rattle.fc_base.specs.declared.fault.Fault.{Fault}
+use Rattle.fc_base.specs.declared.fault.Fault.TheVariants.{BadNotice, NotInFlight}
+use Rattle.fc_base.specs.declared.limits.TheConstants.{MAX_BLOCKS}
+use Rattle.server_core.specs.History.{Opening}
+use Rattle.filters.specs.declared.names.BlockName.{BlockName}
+use Rattle.filters.specs.declared.names.TheConstants.{BLOCK_NAME}
+use Rattle.filters.specs.UnderWay.{UnderWay, report_before, with_blocks}
+use Rattle.filters.specs.ServerAt.{ServerAt, Leaves}
+use Rattle.filters.specs.ServerTurns.{GoesOn, TellsReport}
+
+-- The block of a check that sixteen bytes name: its attempt in eight, its job in four, and its
+-- number in four.
+abbrev pub block_in : List ℕ → BlockName
+block_in bytes = record {
+  attempt = number_in w64 bytes;
+  job = number_in w32 (drop 8 bytes);
+  block = number_in w32 (drop 4 (drop 8 bytes));
+}
+
+-- A check, where it is of the attempt that is named, and wants the block that is named first.
+abbrev pub if_named : BlockName → Option UnderWay → Option UnderWay
+if_named name None = None
+if_named name (Some u) =
+    if (u.attempt == name.attempt) && (u.first == name.block) then Some u else None
+
+-- The check that is named.
+abbrev pub named : ServerAt → BlockName → Option UnderWay
+named at name = if_named name (at.checks name.job)
+
+-- So many bytes are so many of the blocks that a check wants, the first ones.
+pub record AreWanted (u : UnderWay) (len given : ℕ) : Type 0 where
+  pub some : 0 < given
+  pub wanted : given ≤ u.count
+  pub whole : len ≡ given * u.expected.job.bs
+
+-- What is told isn't taken, for this fault, and nothing changes.
+abbrev pub NotTaken : Fault → ServerAt → Result (Unit {0}) Fault → ServerAt → List ℕ → Type 0
+NotTaken fault at end now answer = (end ≡ Err fault) × Leaves at [] now answer
+
+-- What is made of blocks that come to this check, if it is one: they are some of the first that it
+-- wants, and it goes on with them; or they aren't.
+abbrev pub FeedsBy : Option UnderWay → Opening → ServerAt → BlockName → List ℕ
+    → Result (Unit {0}) Fault → ServerAt → List ℕ → Type 0
+FeedsBy None o at name bytes end now answer = NotTaken NotInFlight at end now answer
+FeedsBy (Some u) o at name bytes end now answer =
+    ((given : ℕ) × AreWanted u (length bytes) given
+    × GoesOn o at name.job (with_blocks u given bytes) end now answer)
+    ⊎ (((given : ℕ) → AreWanted u (length bytes) given → ⊥) × NotTaken BadNotice at end now answer)
+
+-- What is made of a body with blocks, by whether it is too short for a name: behind that stand the
+-- bytes of the blocks from the named one on.
+abbrev pub FeedsIf : Bool → Opening → ServerAt → List ℕ → Result (Unit {0}) Fault → ServerAt
+    → List ℕ → Type 0
+FeedsIf true o at body end now answer = NotTaken BadNotice at end now answer
+FeedsIf false o at body end now answer =
+    FeedsBy (named at (block_in (take BLOCK_NAME body))) o at (block_in (take BLOCK_NAME body))
+    (drop BLOCK_NAME body) end now answer
+
+-- What is made of a body with blocks.
+abbrev pub Feeds : Opening → ServerAt → List ℕ → Result (Unit {0}) Fault → ServerAt → List ℕ
+    → Type 0
+Feeds o at body end now answer =
+    FeedsIf (nat_lt (length body) BLOCK_NAME) o at body end now answer
+
+-- What is made of a block that couldn't be read, which is the first that this check wants: the
+-- report of the blocks before it is told.
+abbrev pub GivesUpBy : Option UnderWay → Opening → ServerAt → BlockName → Result (Unit {0}) Fault
+    → ServerAt → List ℕ → Type 0
+GivesUpBy None o at name end now answer = NotTaken NotInFlight at end now answer
+GivesUpBy (Some u) o at name end now answer =
+    TellsReport o at name.job u (report_before u name.block) end now answer
+
+-- What is made of a body that names a block which couldn't be read, by whether it names one that
+-- there can be.
+abbrev pub GivesUpIf : Bool → Opening → ServerAt → List ℕ → Result (Unit {0}) Fault → ServerAt
+    → List ℕ → Type 0
+GivesUpIf false o at body end now answer = NotTaken BadNotice at end now answer
+GivesUpIf true o at body end now answer =
+    GivesUpBy (named at (block_in body)) o at (block_in body) end now answer
+
+-- What is made of a body that says that a block couldn't be read.
+abbrev pub GivesUp : Opening → ServerAt → List ℕ → Result (Unit {0}) Fault → ServerAt → List ℕ
+    → Type 0
+GivesUp o at body end now answer =
+    GivesUpIf ((length body == BLOCK_NAME) && nat_lt (block_in body).block MAX_BLOCKS) o at body
+    end now answer
