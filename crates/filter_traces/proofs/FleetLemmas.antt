@@ -1,0 +1,172 @@
+-- Whatever happened to a fleet is told by one trace.
+use Rattle.std.proofs.Common.{◌≡◌, refl, sym, ◌∙◌, ap, subst, ℕ, ◌≤◌, arith, Bool, true, false, ◌==◌, List, [], ◌∷◌, ◌++◌}
+use Rattle.std.specs.Prelude.{if◌then◌else◌}
+use Rattle.std.specs.List.{AllByRecursion}
+use Rattle.std.proofs.lemmas.Bool.{eqb-true}
+use Rattle.std.proofs.lemmas.Bool.Decides.{nat_tests}
+use Rattle.std.proofs.lemmas.List.{append_cancel_right}
+use Rattle.disk_model.specs.declared.left.Left.{Left}
+use Rattle.disk_model.specs.declared.left.Left.TheVariants.{Saved}
+use Rattle.messages.specs.declared.node.Node.TheVariants.{Server, Client, Mirror}
+use Rattle.messages.specs.Hearing.{Coming, heard}
+use Rattle.server_core.specs.History as server
+use Rattle.server_core.specs.Hearing.{FrameEntry as ServerEntry, Restart as ServerRestart}
+use Rattle.client_core.specs.History as client
+use Rattle.client_core.specs.declared.input.Input.TheVariants as inputs
+use Rattle.client_core.specs.Hearing.{FrameEntry as ClientEntry, Met, Cut, Restart, Renew, Lose}
+use Rattle.mirror_core.specs.History as mirror
+use Rattle.net_world.specs.Setup.{Setup}
+use Rattle.net_world.specs.Frames.{FrameStep, at_server, at_client, trace_heard}
+use Rattle.net_world.specs.Claims.{OfEachList, OfEachTrace}
+use Rattle.net_world.specs.Headline.{OneTaking, HeldIsTheTaken, CountsTheCompleted, QuietUntilTheCheck}
+use Rattle.filters.specs.ClientLives.{ClientAt}
+use Rattle.filters.specs.ServerAt.{ServerAt}
+use Rattle.filters.specs.MirrorLives.{MirrorAt}
+use Rattle.filter_traces.specs.Members.{Happening}
+use Rattle.filter_traces.specs.Fleets.{FleetAt, FleetStep, AtClient, AtServer, AtMirror, ClientGoes, ServerGoes, MirrorGoes, Steps, Ran, MayCome, AllMayCome, FleetBegins, first_of}
+use Rattle.filter_traces.specs.Laws.{FleetsAreTraces, IsTraceOf, HoldsOneState}
+use Rattle.filter_traces.proofs.ReadableLemmas.{Laws}
+use Rattle.filter_traces.proofs.MayLemmas.{ClientMay, AllMay, ServerMay, MirrorMay}
+use Rattle.filter_traces.proofs.TellLemmas.{Told, IsTold, retold, none_told, reads_frame, client_adds_all, server_adds_all, mirror_adds_all, with_list}
+use Rattle.filter_traces.proofs.ClientMayLemmas.{client_added}
+use Rattle.filter_traces.proofs.ServerMayLemmas.{server_added}
+use Rattle.filter_traces.proofs.MirrorMayLemmas.{mirror_added}
+
+-- A fleet is told by one trace.
+abbrev IsToldOf : Setup → FleetAt → Type 0
+IsToldOf w at = Told w (λ s. (at.servers s).list) at.client.list at.mirror.list at.sent
+
+-- ---- the first moment
+
+number_may : (w : Setup) (past : List ClientEntry) (c : ClientEntry) → MayCome w past c → ClientMay w [] past c
+number_may w past (Met (inputs.Deliver f) left) h = absurd h
+number_may w past (Met (inputs.Begin text) left) h = tt
+number_may w past (Met (inputs.Trigger run act) left) h = tt
+number_may w past (Met (inputs.Stop run) left) h = tt
+number_may w past (Met (inputs.Verify run text) left) h = tt
+number_may w past (Met inputs.Tick left) h = tt
+number_may w past Cut h = tt
+number_may w past (Restart mirrored) h = h
+number_may w past (Renew g left) h = h
+number_may w past Lose h = h
+
+all_may : (w : Setup) (older more : List ClientEntry) → AllMayCome w older more → AllMay w [] older more
+all_may w older [] h = tt
+all_may w older (c ∷ more) h = (number_may w (more ++ older) c h.0, all_may w older more h.1)
+
+first_told : Laws → (w : Setup) (first : FleetAt) → FleetBegins w first → IsToldOf w first
+first_told laws w first begins =
+    retold w (λ s. ServerRestart Saved ∷ []) (λ s. (first.servers s).list) (begins.client.numbers ++ first_of w ∷ []) first.client.list
+    (mirror.Restart ∷ []) first.mirror.list _ first.sent
+    (λ s. ap (λ (at : ServerAt). at.list) (begins.servers s)) begins.client.list_is (ap (λ (at : MirrorAt). at.list) begins.mirror) begins.client.sent_is
+    (client_adds_all laws w (λ s. ServerRestart Saved ∷ []) (first_of w ∷ []) (mirror.Restart ∷ []) [] begins.client.numbers
+    (all_may w (first_of w ∷ []) begins.client.numbers begins.client.may) ([], none_told w))
+
+-- ---- a step
+
+client_told : Laws → (w : Setup) (h : Happening) (at now : FleetAt) → w.servers ≤ 8 → ClientGoes w h at now → IsToldOf w at → IsToldOf w now
+client_told laws w h at now few g told =
+    let reads = reads_frame laws w few (λ s. (at.servers s).list) at.client.list at.mirror.list at.sent told Client h g.goes.reads in
+    let a = client_added w at.sent h at.client now.client reads g.goes.becomes in
+    let same : a.more ≡ g.goes.more = append_cancel_right a.more g.goes.more at.client.list (sym a.list_is ∙ g.goes.list_is) in
+    retold w (λ s. (at.servers s).list) (λ s. (now.servers s).list) (g.goes.more ++ at.client.list) now.client.list at.mirror.list now.mirror.list _ now.sent
+    (λ s. ap (λ (it : ServerAt). it.list) (g.servers_are s)) g.goes.list_is (ap (λ (it : MirrorAt). it.list) g.mirror_is) g.goes.sent_is
+    (client_adds_all laws w (λ s. (at.servers s).list) at.client.list at.mirror.list at.sent g.goes.more
+    (subst (AllMay w at.sent at.client.list) same a.may) told)
+
+mirror_told : Laws → (w : Setup) (h : Happening) (at now : FleetAt) → w.servers ≤ 8 → MirrorGoes w h at now → IsToldOf w at → IsToldOf w now
+mirror_told laws w h at now few g told =
+    let reads = reads_frame laws w few (λ s. (at.servers s).list) at.client.list at.mirror.list at.sent told Mirror h g.goes.reads in
+    let a = mirror_added at.sent h at.mirror now.mirror reads g.goes.becomes in
+    let same : a.more ≡ g.goes.more = append_cancel_right a.more g.goes.more at.mirror.list (sym a.list_is ∙ g.goes.list_is) in
+    retold w (λ s. (at.servers s).list) (λ s. (now.servers s).list) at.client.list now.client.list (g.goes.more ++ at.mirror.list) now.mirror.list _ now.sent
+    (λ s. ap (λ (it : ServerAt). it.list) (g.servers_are s)) (ap (λ (it : ClientAt). it.list) g.client_is) g.goes.list_is g.goes.sent_is
+    (mirror_adds_all w (λ s. (at.servers s).list) at.client.list at.mirror.list at.sent g.goes.more g.there
+    (subst (AllByRecursion (MirrorMay at.sent)) same a.may) told)
+
+never : false ≡ true → ⊥
+never h = cc
+
+itself : (s : ℕ) → (s == s) ≡ true
+itself s = grind (arith, nat_tests)
+
+own_list : (s r : ℕ) (servers : ℕ → List ServerEntry) → with_list s (servers s) servers r ≡ servers r
+own_list s r servers = by_test (s == r) refl
+  where
+    by_test : (b : Bool) → (s == r) ≡ b → (if b then servers s else servers r) ≡ servers r
+    by_test true e = ap servers (eqb-true s r e)
+    by_test false e = refl
+
+server_told : Laws → (w : Setup) (s : ℕ) (h : Happening) (at now : FleetAt) → w.servers ≤ 8 → ServerGoes w s h at now → IsToldOf w at → IsToldOf w now
+server_told laws w s h at now few g told =
+    let reads = reads_frame laws w few lists at.client.list at.mirror.list at.sent told (Server s) h g.goes.reads in
+    let a = server_added s at.sent h (at.servers s) (now.servers s) reads g.goes.becomes in
+    let same : a.more ≡ g.goes.more = append_cancel_right a.more g.goes.more (at.servers s).list (sym a.list_is ∙ g.goes.list_is) in
+    retold w (with_list s (g.goes.more ++ (at.servers s).list) lists) (λ r. (now.servers r).list) at.client.list now.client.list
+    at.mirror.list now.mirror.list _ now.sent
+    (λ r. by_test r (s == r) refl) (ap (λ (it : ClientAt). it.list) g.client_is) (ap (λ (it : MirrorAt). it.list) g.mirror_is) g.goes.sent_is
+    (server_adds_all w s lists at.client.list at.mirror.list (at.servers s).list at.sent g.goes.more (omega (arith, g.one_of, few))
+    (subst (AllByRecursion (ServerMay s at.sent)) same a.may) g.reports
+    (retold w lists (with_list s (at.servers s).list lists) at.client.list at.client.list at.mirror.list at.mirror.list at.sent at.sent
+    (λ r. own_list s r lists) refl refl refl told))
+  where
+    lists : ℕ → List ServerEntry
+    lists r = (at.servers r).list
+
+    by_test : (r : ℕ) (b : Bool) → (s == r) ≡ b → (now.servers r).list ≡ (if s == r then g.goes.more ++ (at.servers s).list else lists r)
+    by_test r true e =
+        ap (λ (k : ℕ). (now.servers k).list) (sym (eqb-true s r e))
+        ∙ (g.goes.list_is ∙ sym (ap (λ b. if b then g.goes.more ++ (at.servers s).list else lists r) e))
+    by_test r false e =
+        ap (λ (it : ServerAt). it.list) (g.others r (λ is. never (sym e ∙ (ap (λ (k : ℕ). s == k) is ∙ itself s))))
+        ∙ sym (ap (λ b. if b then g.goes.more ++ (at.servers s).list else lists r) e)
+
+step_told : Laws → (w : Setup) (step : FleetStep) (at now : FleetAt) → w.servers ≤ 8 → Steps w at step now → IsToldOf w at → IsToldOf w now
+step_told laws w (AtClient h) at now few goes told = client_told laws w h at now few goes told
+step_told laws w (AtServer s h) at now few goes told = server_told laws w s h at now few goes told
+step_told laws w (AtMirror h) at now few goes told = mirror_told laws w h at now few goes told
+
+-- ---- all steps
+
+told_of : Laws → (w : Setup) (first : FleetAt) → FleetBegins w first → (steps : List FleetStep) (now : FleetAt) → Ran w first steps now → IsToldOf w now
+told_of laws w first begins [] now is = subst (IsToldOf w) (sym is) (first_told laws w first begins)
+told_of laws w first begins (step ∷ steps) now (at, ran, goes) =
+    step_told laws w step at now begins.few goes (told_of laws w first begins steps at ran)
+
+-- The claims of all traces.
+pub record Claims : Type 0 where
+  pub once : OfEachList OneTaking
+  pub held : OfEachTrace HeldIsTheTaken
+  pub counted : OfEachTrace CountsTheCompleted
+  pub quiet : OfEachTrace QuietUntilTheCheck
+
+is_trace : (w : Setup) (at : FleetAt) (t : List FrameStep) → w.servers ≤ 8 → IsTold w (λ s. (at.servers s).list) at.client.list at.mirror.list at.sent t
+    → IsTraceOf w at t
+is_trace w at t few told = record {
+  legal = told.legal;
+  fits = record { few = few; steps = told.fits };
+  servers_are = told.servers_are;
+  client_is = told.client_is;
+  mirror_is = told.mirror_is;
+  sent_are = told.sent_is;
+}
+
+holds : Laws → Claims → (w : Setup) (at : FleetAt) (t : List FrameStep) → IsTraceOf w at t → HoldsOneState w at t
+holds laws claims w at t is =
+    let heard_legal = laws.only_sent w t is.legal is.fits in
+    record {
+      servers_are =
+          λ s. (laws.own w t).servers s ∙ ap (λ (past : List (Coming server.Entry Left)). (heard (at_server s) past).entries) (is.servers_are s);
+      client_is = (laws.own w t).client ∙ ap (λ (past : List (Coming client.Entry Left)). (heard (at_client w) past).entries) is.client_is;
+      mirror_is = (laws.own w t).mirror ∙ is.mirror_is;
+      once = claims.once w (trace_heard w t);
+      held = claims.held w (trace_heard w t) heard_legal;
+      counted = claims.counted w (trace_heard w t) heard_legal;
+      quiet = claims.quiet w (trace_heard w t) heard_legal;
+    }
+
+pub fleets_are_traces : Laws → Claims → FleetsAreTraces
+fleets_are_traces laws claims w first now steps begins ran =
+    let t = told_of laws w first begins steps now ran in
+    let is = is_trace w now t.0 begins.few t.1 in
+    record { trace = t.0; is = is; holds = holds laws claims w now t.0 is }

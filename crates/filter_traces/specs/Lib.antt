@@ -1,0 +1,4 @@
+pub mod Members
+pub mod Fleets
+pub mod Drawn
+pub mod Laws

@@ -1,0 +1,27 @@
+//! The laws of fleets of filters. The functions have nothing to run.
+
+ghost use Rattle.filter_traces.specs.Laws.{FleetsAreTraces, DrawnNotesAreOfClients};
+
+use messages::{frames_are_read_back, frames_are_readable};
+use net_world::{
+    frames_are_of_packets, one_state_of_each_job, only_sent_is_heard, sent_are_in_range,
+};
+
+/// Whatever happens to the filters of a client, its servers and its mirror, what came to their nodes is one trace, of
+/// just the frames that they sent; and they hold one state of each job: the one that its server took, which counts the
+/// writes that were completed by then, and since which no write was issued there before a check with it.
+pub fn fleet_law()
+    ensures { FleetsAreTraces }
+{
+    only_sent_is_heard();
+    sent_are_in_range();
+    frames_are_of_packets();
+    frames_are_readable();
+    frames_are_read_back();
+    one_state_of_each_job();
+}
+
+/// A note of no states, with numbers that are drawn, says what that of a client does which has given so many.
+pub fn drawn_notes_law()
+    ensures { DrawnNotesAreOfClients }
+{}
