@@ -12,6 +12,9 @@ servers = [
 # The file of the client's note. It keeps the states: not on a drive that is tested.
 note = "client.note"
 
+# The link to a mirror, where there is one: it keeps a copy of each state on another machine.
+# mirror = "ssh -o BatchMode=yes root@m fleet mirror --note mirror.note"
+
 # The commands that switch the servers' power.
 cut = "./relay off"
 off = "./relay off"
@@ -30,7 +33,7 @@ def read_book(of):
                 book = tomllib.load(it)
             except tomllib.TOMLDecodeError as error:
                 raise Refused(f"{of.book}: {error}") from None
-    for name, key in (("server", "servers"), ("note", "note"), ("cut", "cut"), ("off", "off"), ("on", "on")):
+    for name, key in (("server", "servers"), ("note", "note"), ("mirror", "mirror"), ("cut", "cut"), ("off", "off"), ("on", "on")):
         if hasattr(of, name) and getattr(of, name) is None:
             setattr(of, name, book.get(key))
     for name, option in (("server", "--server"), ("note", "--note")):

@@ -1,4 +1,4 @@
-"""The client of a fleet: the proved node, its note, and the links to the servers."""
+"""The client of a fleet: the proved node, its note, and the links to the servers and the mirror."""
 import os
 import struct
 import subprocess
@@ -6,9 +6,10 @@ import threading
 import time
 
 from links import Link
-from note import KeptNote, Refused
+from mirror import Copies
+from note import KeptNote, Refused, first_note, new_generation, numbers_of
 from queries import Answers, is_answer
-from records import BEGIN, ENDED, FRAME, GOOD, LOOK, NONE, NOTE, NO_SAVED, NUMBER, OPEN, OUTCOME, REFUSALS, REPORT, REQUESTS, SAVE, SEND, SHOW, STOP, TICK, TRIGGER, VERIFY
+from records import BEGIN, ENDED, FRAME, GOOD, LOOK, MIRROR, NONE, NOTE, NO_SAVED, NUMBER, OPEN, OUTCOME, REFUSALS, REPORT, REQUESTS, SAVE, SEND, SHOW, STOP, TICK, TRIGGER, VERIFY
 from records import Report, addressee, read_record, record
 
 # So often what isn't answered is asked for again.
@@ -19,26 +20,55 @@ class Fleet:
     """Carries out what the node says, in its order: a save is on the disk before anything behind it
     leaves this process."""
 
-    def __init__(self, note, commands, run=0):
-        """Starts the client on its note, or on a first one by which that run was begun."""
-        self.kept, self.commands = KeptNote(note), commands
-        opening = self.kept.read(run)
+    def __init__(self, note, commands, run=0, mirror=None):
+        """Starts the client on its note, or on a first one by which that run was begun. With a mirror
+        it begins anew where there is no note."""
+        self.kept, self.commands, self.copies = KeptNote(note), commands, Copies()
+        opening, more = self.open(run, mirror)
         self.lock, self.changed = threading.Lock(), threading.Condition()
         self.told, self.answered, self.answers = 0, 0, {}
         self.number, self.outcomes, self.reports, self.full_passes, self.end = None, {}, [], set(), None
-        words = [os.environ.get("NODE", "fiocut_node"), "client", str(len(commands))]
+        words = [os.environ.get("NODE", "fiocut_node"), "client", str(len(commands)), *more]
         try:
             self.process = subprocess.Popen(words, stdin=subprocess.PIPE, stdout=subprocess.PIPE, start_new_session=True)
         except OSError as error:
             raise Refused(f"{words[0]}: {error.strerror}") from None
-        self.links, self.servers = [], []
+        self.links, self.servers, self.mirror = [], [], None
         threading.Thread(target=self.run, daemon=True).start()
         fault = self.ask(NOTE, opening)
         if fault:
             raise Refused(f"{note}: the node refuses it, {fault}")
         self.links = [Link(it, lambda frame, at=at: self.hear(at, frame)) for at, it in enumerate(commands)]
         self.servers = [Answers(it) for it in self.links]
+        if mirror:
+            self.mirror = Link(mirror, self.hear_mirror)
+            self.tell(TICK)
         threading.Thread(target=self.tick, daemon=True).start()
+
+    def open(self, run, mirror):
+        """Returns the note that the node is opened over, and how."""
+        note = self.kept.read()
+        if note is None and mirror:
+            return b"", ["renew", str(new_generation())]
+        if note is None:
+            note = first_note(run)
+            self.kept.keep(note)
+        if bool(numbers_of(note)[0]) != bool(mirror):
+            raise Refused(f"{self.kept.path}: this is the note of a client with{'out' if mirror else ''} a mirror")
+        return note, ["mirror"] if mirror else []
+
+    def hear_mirror(self, frame):
+        if not is_answer(frame):
+            self.tell(FRAME, frame)
+        self.copies.hear(frame)
+
+    def has_copies(self, seconds, grace=2):
+        """Waits until all that the mirror keeps has come, so long at most. A life of the client in
+        which some of it was lost has to end: none asks twice."""
+        if self.mirror and not self.copies.await_all(numbers_of(self.kept.read())[0], seconds, grace):
+            return False
+        self.ask(TICK) # (once that is answered, all that came is in the note)
+        return True
 
     def hear(self, server, frame):
         """Hands the node a frame. What a server's harness says is none of its business."""
@@ -89,8 +119,9 @@ class Fleet:
             self.kept.keep(body)
         elif kind == SEND:
             self.note_full_pass(body)
-            if self.links: # (the node may say some before there are any: they are lost)
-                self.links[addressee(body)].send(body)
+            to = self.mirror if addressee(body) == MIRROR else self.links and self.links[addressee(body)]
+            if to: # (the node may say some before there are any: they are lost)
+                to.send(body)
         else:
             with self.changed:
                 self.note(kind, body)
@@ -164,7 +195,7 @@ class Fleet:
         return self.reports
 
     def close(self):
-        for it in self.links:
+        for it in [*self.links, *([self.mirror] if self.mirror else [])]:
             it.close()
         self.process.kill()
         self.process.wait()

@@ -1,6 +1,7 @@
 """What this harness asks a server's beside the frames of the nodes, over the same link, and what it
 is answered: how many writes have ended, and what a target holds. harness/server/queries.h has the
-bytes. No node hears of it, and no verdict rests on it: what is lost is asked again."""
+bytes. No node hears of it, and no verdict rests on it: what is lost is asked again. A mirror's says
+unasked how many copies its node sent."""
 import struct
 import threading
 import time
@@ -8,6 +9,9 @@ import time
 # The kinds of queries and answers; the head, and what says which blocks are wanted.
 QUERY_ENDS, ENDS, QUERY_BLOCKS, BLOCKS, UNREAD = range(1, 6)
 HEAD, WANTED = 16, 16
+# What a mirror's harness says behind a generation that is granted: this kind, the generation, and how
+# many copies were sent behind it.
+COPIES, COPIES_SENT = 6, struct.Struct(">QI")
 # What an answer has of a job: its number, its last run, and its writes that are done and failed.
 ROW = struct.Struct(">IQQQ")
 # So long an answer is waited for before it is asked for again, so many bytes are asked for at once,

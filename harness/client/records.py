@@ -1,5 +1,4 @@
-"""The records of `fiocut_node client` and the frames that go over links; docs/NODES.md is the
-manual."""
+"""The records of `fiocut_node` and the frames that go over links; docs/NODES.md is the manual."""
 import struct
 
 # What it reads, and what it writes.
@@ -16,6 +15,9 @@ REFUSALS = {60: "Old", 61: "Busy", 62: "NoJobs", 63: "Gone", 64: "Overwritten", 
 # kept.
 REQUESTS = {"begin": 1, "trigger": 2, "stop": 3, "verify": 4}
 NO_SAVED = 14
+# Those of the frames that a mirror sends, and where they come from.
+COPY, COPY_OK, GRANTED = 18, 19, 21
+MIRROR = 9
 
 
 def record(kind, body=b""):

@@ -81,13 +81,23 @@ def write(fleet, job_file, trigger, cut=None, wait=60, acts=False):
     fleet.trigger(run, acts)
     kept = fleet.settle("trigger", run, wait)
     tell_outcomes(f"the states of run {run}", kept)
+    written.states = [it for (of, _, _), it in sorted(states_in(fleet.kept.read()).items()) if of == run]
+    is_copied = tell_copies(fleet, written.states, wait)
     if acts:
         repeat_until_cut(fleet, run, wait)
     if cut and subprocess.run(cut, shell=True, stdin=subprocess.DEVNULL).returncode:
         raise Refused(f"{cut}: it didn't cut the power")
-    written.is_kept = all_good(kept)
-    written.states = [it for (of, _, _), it in sorted(states_in(fleet.kept.read()).items()) if of == run]
+    written.is_kept = all_good(kept) and is_copied
     return written
+
+
+def tell_copies(fleet, states, wait):
+    """Waits until the mirror keeps these states, too, and returns whether it does."""
+    if not fleet.mirror:
+        return True
+    count = fleet.copies.await_kept({(it.run, it.server, it.job) for it in states}, wait)
+    say(f"the mirror keeps {count} of {len(states)} states")
+    return count == len(states)
 
 
 def repeat_until_cut(fleet, run, wait):

@@ -1,0 +1,144 @@
+"""A fleet's mirror: the proved node over a note of its own, behind one link, which is standard input
+and output."""
+import os
+import secrets
+import struct
+import subprocess
+import sys
+import threading
+import time
+
+from note import MIRROR, KeptNote, Refused
+from queries import COPIES, COPIES_SENT, is_answer, query
+from records import COPY, COPY_OK, ENDED, FRAME, FRAME_HEAD, GRANTED, NOTE, SAVE, SEND, read_frame, read_record, record
+
+# So often a mirror looks whether another has taken its place.
+LOOKS = 0.1
+
+
+def take_place(path):
+    """Takes the place of the mirror over this note, if there is one, and has this process end once
+    another takes it: a link that hangs doesn't keep the next one out."""
+    path, mine = path + ".place", secrets.token_hex(8)
+
+    def read():
+        try:
+            with open(path, encoding="ascii") as it:
+                return it.read()
+        except OSError:
+            return ""
+
+    def watch():
+        while read() == mine:
+            time.sleep(LOOKS)
+        os._exit(0) # (a save that it was about to make wasn't answered)
+
+    with open(path + ".new", "w", encoding="ascii") as it:
+        it.write(mine)
+    os.replace(path + ".new", path)
+    threading.Thread(target=watch, daemon=True).start()
+
+
+def write_all(data):
+    while data:
+        data = data[os.write(sys.stdout.fileno(), data) :]
+
+
+class Mirror:
+    """Carries out what the node says, in its order: a save is on the disk before anything behind it
+    leaves this process."""
+
+    def __init__(self, path):
+        take_place(path)
+        self.kept = KeptNote(path, MIRROR)
+        opening = self.kept.read() or b""
+        words = [os.environ.get("NODE", "fiocut_node"), "mirror"]
+        try:
+            self.process = subprocess.Popen(words, stdin=subprocess.PIPE, stdout=subprocess.PIPE, start_new_session=True)
+        except OSError as error:
+            raise Refused(f"{words[0]}: {error.strerror}") from None
+        self.tell(NOTE, opening)
+
+    def tell(self, kind, body):
+        self.process.stdin.write(record(kind, body))
+        self.process.stdin.flush()
+
+    def hear_all(self):
+        """Hands the node what comes over the link, up to its end."""
+        try:
+            while frame := read_frame(sys.stdin.buffer):
+                if not is_answer(frame):
+                    self.tell(FRAME, frame)
+            self.process.stdin.close()
+        except OSError:
+            pass # the node has ended
+
+    def run(self):
+        """Serves until the link ends. The first end answers the note."""
+        threading.Thread(target=self.hear_all, daemon=True).start()
+        is_open, sent = False, []
+        while said := read_record(self.process.stdout):
+            kind, body = said
+            if kind == SAVE:
+                self.kept.keep(body)
+            elif kind == SEND:
+                sent.append(body)
+                write_all(body)
+            elif kind == ENDED and not is_open and body[0]:
+                raise Refused(f"{self.kept.path}: the node refuses it, {body[0]}")
+            elif kind == ENDED:
+                self.say_copies(sent)
+                is_open, sent = True, []
+
+    def say_copies(self, sent):
+        """Where a generation was granted, says behind the copies how many there were."""
+        for granted in (it for it in sent if it[3] == GRANTED):
+            generation = struct.unpack(">Q", granted[FRAME_HEAD : FRAME_HEAD + 8])[0]
+            write_all(query(COPIES, COPIES_SENT.pack(generation, sum(it[3] == COPY for it in sent))))
+
+
+class Copies:
+    """What this life of the client has from its mirror: whether its generation was granted and all
+    copies have come, and of which states the mirror has said that it keeps them."""
+
+    def __init__(self):
+        self.changed = threading.Condition()
+        self.granted, self.sent, self.came, self.kept = set(), {}, set(), set()
+
+    def hear(self, frame):
+        kind, body = frame[3], frame[FRAME_HEAD:]
+        with self.changed:
+            if is_answer(frame):
+                generation, self.sent[generation] = COPIES_SENT.unpack(body)
+            elif kind == GRANTED:
+                self.granted.add(struct.unpack(">Q", body)[0])
+            elif kind == COPY:
+                self.came.add(body)
+            elif kind == COPY_OK:
+                self.kept.add(struct.unpack(">QII", body[:16]))
+            self.changed.notify_all()
+
+    def are_whole(self, generation):
+        return generation in self.granted and len(self.came) >= self.sent.get(generation, len(self.came) + 1)
+
+    def await_all(self, generation, seconds, grace):
+        """Waits until all have come, so long at most, and where some must be lost no longer than a
+        grace behind the grant. Returns whether they have."""
+        with self.changed:
+            self.changed.wait_for(lambda: generation in self.granted, seconds)
+            self.changed.wait_for(lambda: self.are_whole(generation), grace)
+            return self.are_whole(generation)
+
+    def await_kept(self, keys, seconds):
+        """Waits until the mirror keeps these states, so long at most, and returns how many it does."""
+        with self.changed:
+            self.changed.wait_for(lambda: keys <= self.kept, seconds)
+            return len(keys & self.kept)
+
+
+def serve(path):
+    """Runs a mirror for as long as its link is there."""
+    try:
+        Mirror(path).run()
+    except BrokenPipeError:
+        pass # the link has ended, or the node

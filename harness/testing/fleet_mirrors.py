@@ -1,0 +1,120 @@
+"""Fleets with a mirror: the client's note is lost, the mirror is killed, its link is bad, or another
+takes its place."""
+import os
+import random
+import re
+import shlex
+import shutil
+import subprocess
+import time
+
+from serving import FLEET, TOP, Servers, fleet, job_file, reports
+from trying import BLOCK, QUIET, read, tell, tell_has, write
+
+BAD_LINK = f"exec {shlex.quote(f'{TOP}/tools/bad-link')}"
+
+
+def mirror(note, before="exec"):
+    """The option that leads to a mirror."""
+    command = f"{shlex.quote(FLEET)} mirror --note {note}"
+    return ["--mirror", f"{before} {command if before == 'exec' else shlex.quote(command)}"]
+
+
+def number_in(printed):
+    found = re.search(r"^run (\d+)", printed, re.M)
+    return found[1] if found else ""
+
+
+def lost_with_a_mirror():
+    """The client's note is lost behind the cut: the check goes by what the mirror kept. Where that is
+    lost, too, there is no verdict."""
+    job_file("mirror.fio")
+    servers, kept = Servers("mirror", 2), mirror("mirror.kept")
+    status, printed, said = fleet("write", "mirror.fio", "--note", "mirror.note", "--after", "0.4", *kept, *servers.links())
+    tell("a fleet with a mirror writes", (status, "the states are kept" in printed), (0, True))
+    tell_has("its mirror", said, "the mirror keeps 4 of 4 states")
+    number = number_in(printed)
+    servers.cut()
+    os.remove("mirror.note")
+    servers.restart()
+    status, printed, _ = fleet("check", "mirror.fio", "--note", "mirror.note", *kept, *servers.links())
+    found = reports(printed)
+    tell("a check by the mirror's copies", (status, number_in(printed), [it[1:] for it in found.values()]), (0, number, [(0, "whole", [])] * 4))
+    tell("all have blocks that were checked", all(it[0] > 0 for it in found.values()), True)
+    servers.cut()
+    data = bytearray(read("mirror-1-0"))
+    block = next(at for at in range(256) if any(data[at * BLOCK : (at + 1) * BLOCK]))
+    data[block * BLOCK + 9] ^= 1
+    write("mirror-1-0", bytes(data))
+    os.remove("mirror.note")
+    servers.restart()
+    status, printed, _ = fleet("check", "mirror.fio", "--note", "mirror.note", *kept, *servers.links())
+    tell("one bit of one block, by the copies", (status, {at: it[3] for at, it in reports(printed).items() if it[1]}), (1, {(1, 0): [block]}))
+    tell_has("without its mirror", fleet("check", "mirror.fio", "--note", "mirror.note", *servers.links())[2], "the note of a client with a mirror")
+    os.remove("mirror.note")
+    os.remove("mirror.kept")
+    tell_has("where both notes are lost", fleet("check", "mirror.fio", "--note", "mirror.note", *kept, *servers.links())[2], "no run was begun yet")
+    status, printed, _ = fleet("check", "mirror.fio", "--run", number, "--note", "mirror.note", *kept, *servers.links())
+    tell("its run has no verdict", (status, reports(printed)), (3, {}))
+    servers.cut()
+
+
+def killed_mirrors():
+    """Servers, the client and the mirror are killed at random moments, over bad links, and the
+    client's note is lost now and then; where a job is checked by its state, it has no fault."""
+    job_file("losses.fio", jobs=2, blocks=256, writes=100_000)
+    servers, chance, whole, losses = Servers("losses", 2), random.Random(11), 0, 0
+    links = servers.links()
+    for turn in range(8):
+        kept = mirror("losses.kept", f"{BAD_LINK} --cut 0.02")
+        writing = subprocess.Popen([FLEET, "write", "losses.fio", "--note", "losses.note", "--after", f"{chance.uniform(0.2, 0.6):.2f}", "--wait", "4", *kept, *links], **QUIET)
+        for _ in range(chance.randrange(5)):
+            time.sleep(chance.uniform(0.1, 0.8))
+            kill_one(chance.randrange(6), servers, writing, "losses.kept")
+        writing.wait()
+        servers.cut()
+        if chance.random() < 0.5 and os.path.exists("losses.note"):
+            os.remove("losses.note")
+            losses += 1
+        servers.restart()
+        status, printed, _ = fleet("check", "losses.fio", "--note", "losses.note", "--wait", "10", *kept, *links)
+        tell(f"killed mirrors, turn {turn}: no false fault", [at for at, it in reports(printed).items() if it[1]], [])
+        whole += status == 0
+    tell("notes were lost, and checks came to their end", (losses >= 2, whole >= 2), (True, True))
+    servers.cut()
+
+
+def kill_one(victim, servers, writing, kept):
+    """Kills a server, which begins again, the client, or the mirror, by its note."""
+    if victim < 2:
+        servers.kill(victim)
+        servers.start(victim)
+    elif victim == 2:
+        writing.kill()
+    else:
+        subprocess.run(["pkill", "-KILL", "-f", f"mirror --note {kept}"], **QUIET)
+
+
+def taken_places():
+    """A second mirror over a note takes the place of the first; a note that is torn or another node's
+    is refused; a later client keeps the earlier one from beginning."""
+    words = {"stdin": subprocess.PIPE, "stdout": subprocess.PIPE, "stderr": subprocess.DEVNULL}
+    first = subprocess.Popen([FLEET, "mirror", "--note", "place.kept"], **words)
+    until = time.monotonic() + 10
+    while not os.path.exists("place.kept.place") and time.monotonic() < until:
+        time.sleep(0.01)
+    second = subprocess.Popen([FLEET, "mirror", "--note", "place.kept"], **words)
+    tell("who was there before has ended", first.wait(5), 0)
+    second.stdin.close()
+    tell("and who took its place ends with its link", second.wait(5), 0)
+    job_file("place.fio", jobs=1, blocks=64, writes=512)
+    servers, kept = Servers("place", 1, jobs=1), mirror("place.kept")
+    for note in ("early.note", "late.note"):
+        tell(f"a client on {note} begins", fleet("write", "place.fio", "--note", note, "--after", "0.2", *kept, *servers.links())[0], 0)
+    status, _, said = fleet("write", "place.fio", "--note", "early.note", "--after", "0.2", "--wait", "3", *kept, *servers.links())
+    tell("the earlier one begins no more", (status, "a later client has begun" in said), (2, True))
+    servers.cut()
+    for what, note, why in (("the client's note", "late.note", "another node's note"), ("a torn note", "torn.kept", "aren't those that were kept")):
+        shutil.copy("place.kept", "torn.kept")
+        write("torn.kept", read("torn.kept")[:-1])
+        tell_has(f"a mirror on {what}", fleet("mirror", "--note", note)[2], why)
