@@ -31,7 +31,7 @@ pub static KEEPS: &str = "
 ";
 
 /// What else comes to a mirror.
-static LIVES: [(&str, &str); 4] = [
+static LIVES: [(&str, &str); 5] = [
     (
         "the next life, over the note that the last one left",
         "
@@ -59,6 +59,20 @@ static LIVES: [(&str, &str); 4] = [
         < end 00
         > frame frame:CopyOfOne
         < end 47
+        > frame frame:CopyOfTwo
+        < send frame:CopyOk
+        < end 00
+        ",
+    ),
+    (
+        "a state as it was once spelled, which is saved as it is now",
+        "
+        > note
+        < end 00
+        > frame frame:OldCopy
+        < save 46434d31 8:0 4:1 4:136 frame:first
+        < send frame:CopyOk
+        < end 00
         > frame frame:CopyOfTwo
         < send frame:CopyOk
         < end 00

@@ -2,9 +2,9 @@
 //! made them.
 
 /// In the order in which they are sent: those of the first client, whose generation is 1, and of the next one. `first1`
-/// is the state in State1; the last three are of a run without a generation: a Copy of a state that has issued two
-/// writes, one of another state of the same key, and what the mirror answers.
-pub static FRAMES: [(&str, &str); 19] = [
+/// is the state in State1; the last four are of a run without a generation: a Copy of a state that has issued two
+/// writes, one of another state of the same key, what the mirror answers, and the first as it was once spelled.
+pub static FRAMES: [(&str, &str); 20] = [
     ("Fetch1", "464301140000000800000009000000080000000000000001"),
     (
         "Granted1",
@@ -85,5 +85,11 @@ pub static FRAMES: [(&str, &str); 19] = [
     (
         "CopyOk",
         "4643011300000009000000080000001000000000000000010000000000000000",
+    ),
+    (
+        "OldCopy",
+        "4643011200000008000000090000006c464356310000000000000001_00*14_02000000000200000\
+        00000000002000000000000000100000002000000020000000000000002cfc5d07f6f03c29bbf424\
+        132963fe08d19a37d5757aaf520bf08119f05cd56d600000001_00*8",
     ),
 ];

@@ -127,8 +127,8 @@ static AT_THE_CLIENT: &str = "
     < end 00
 ";
 
-/// To a mirror: all but frames; bytes that are no frame, as another program refuses them; and frames that aren't for it,
-/// or that only a client takes.
+/// To a mirror: all but frames; bytes that are no frame, as another program refuses them; pieces, of a Copy and of a
+/// Jobs; and frames that aren't for it, or that only a client takes.
 static AT_A_MIRROR: &str = "
     > note
     < end 00
@@ -178,6 +178,10 @@ static AT_A_MIRROR: &str = "
     < end 2b
     > frame 46430116000000080000000900000008 8:1
     < end 2a
+    > frame 46430111000000080000000900000421120000000000000001_00*18_040100000000_78*1024
+    < end 2b
+    > frame 464301110000000800000009000003f9010000000000000001_00*18_07d800000400_78*983_0a
+    < end 45
     > frame frame:Jobs
     < end 45
     > frame frame:Granted1
