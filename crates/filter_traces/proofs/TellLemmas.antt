@@ -33,7 +33,6 @@ use Rattle.filters.specs.declared.kinds.Told.TheVariants as kinds
 use Rattle.filters.specs.Kinds.{told_numbered}
 use Rattle.filter_traces.specs.Members.{Happening, Answers, Ends, EndsWithin, WasSentTo, frame_bytes_if, frame_bytes_read, sent_since}
 use Rattle.filter_traces.specs.Fleets.{ReportFits, first_of}
-
 use Rattle.filter_traces.proofs.MayLemmas.{GoesTo, ClientMay, AllMay, ServerMay, MirrorMay, frame_if, frame_read, client_happens, client_allowed, server_happens, server_fits, mirror_happens, client_may_still, server_may_still, mirror_may_still}
 
 -- ---- a trace of these lists

@@ -62,4 +62,3 @@ handed o past e =
     save_bytes (is_some (due o past e)) (new_note o past e)
     ++ (send_bytes (map frame_spelling (frames o past (answered_entry o past e)))
     ++ act_bytes (act o past e))
-
