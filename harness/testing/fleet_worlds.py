@@ -39,8 +39,8 @@ def frames_of_nodes(world):
     worlds = []
 
     class Remembered(world.World):
-        def __init__(self, count):
-            super().__init__(count)
+        def __init__(self, *words):
+            super().__init__(*words)
             worlds.append(self)
 
     world.World = Remembered
