@@ -31,6 +31,11 @@ class Server:
         self.process.wait()
 
 
+def log_of(server):
+    """Returns what a server has said."""
+    return server.folder.read("log").decode(errors="replace")
+
+
 def client(folder, ports, text, *words):
     """Starts a client of these servers, with one job file for all."""
     folder.write("job.fio", text)
@@ -71,7 +76,12 @@ def lost_state(it):
         process = client(it, [server.port], READS)
         process.wait(30)
         said = it.read("said").decode(errors="replace")
-        yield f"{what}: status {process.returncode}, {'a' if 'bad magic' in said else 'no'} fault told", None
+        if state is None:
+            # (once in many runs the client has ended with status 0)
+            yield f"lost: {'failure on receiving state file' if 'failure on receiving state file' in said + log_of(server) else 'nothing'} told", None
+            yield f"(lost: status {process.returncode})", None
+        else:
+            yield f"{what}: status {process.returncode}, {'a' if 'bad magic' in said else 'no'} fault told", None
         server.stop()
 
 

@@ -9,7 +9,7 @@ import subprocess
 import time
 
 from serving import FLEET, TOP, Servers, fleet, job_file, reports
-from trying import BLOCK, QUIET, read, tell, tell_has, write
+from trying import BLOCK, QUIET, as_often, read, tell, tell_has, write
 
 BAD_LINK = f"exec {shlex.quote(f'{TOP}/tools/bad-link')}"
 
@@ -63,14 +63,15 @@ def killed_mirrors():
     """Servers, the client and the mirror are killed at random moments, over bad links, and the
     client's note is lost now and then; where a job is checked by its state, it has no fault."""
     job_file("losses.fio", jobs=2, blocks=256, writes=100_000)
-    servers, chance, whole, losses = Servers("losses", 2), random.Random(11), 0, 0
+    servers, chance, whole, losses, kills = Servers("losses", 2), random.Random(11), 0, 0, 0
     links = servers.links()
-    for turn in range(8):
+    for turn in range(8 * as_often["killed"]):
         kept = mirror("losses.kept", f"{BAD_LINK} --cut 0.02")
         writing = subprocess.Popen([FLEET, "write", "losses.fio", "--note", "losses.note", "--after", f"{chance.uniform(0.2, 0.6):.2f}", "--wait", "4", *kept, *links], **QUIET)
         for _ in range(chance.randrange(5)):
             time.sleep(chance.uniform(0.1, 0.8))
             kill_one(chance.randrange(6), servers, writing, "losses.kept")
+            kills += 1
         writing.wait()
         servers.cut()
         if chance.random() < 0.5 and os.path.exists("losses.note"):
@@ -80,6 +81,7 @@ def killed_mirrors():
         status, printed, _ = fleet("check", "losses.fio", "--note", "losses.note", "--wait", "10", *kept, *links)
         tell(f"killed mirrors, turn {turn}: no false fault", [at for at, it in reports(printed).items() if it[1]], [])
         whole += status == 0
+    print(f"killed_mirrors: {kills} kills at random and a cut each turn, {losses} notes lost, {whole} checks by all states")
     tell("notes were lost, and checks came to their end", (losses >= 2, whole >= 2), (True, True))
     servers.cut()
 

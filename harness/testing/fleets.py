@@ -12,7 +12,7 @@ import subprocess
 import time
 
 from serving import FLEET, SERVER, TOP, Servers, fleet, job_file, reports
-from trying import BLOCK, LIAR, QUIET, read, run, tell, tell_has, write
+from trying import BLOCK, LIAR, QUIET, as_often, read, run, tell, tell_has, write
 
 
 def whole_story():
@@ -69,12 +69,12 @@ def killed_nodes():
     """Servers and the client are killed at random moments, again and again; where a check comes to
     its end, it has no false fault."""
     job_file("kills.fio", jobs=2, blocks=512, writes=100_000)
-    servers, chance, whole = Servers("kills", 3), random.Random(7), 0
-    for turn in range(10):
+    servers, chance, whole, kills = Servers("kills", 3), random.Random(7), 0, 0
+    for turn in range(10 * as_often["killed"]):
         writing = subprocess.Popen([FLEET, "write", "kills.fio", "--note", "kills.note", "--after", f"{chance.uniform(0.1, 0.6):.2f}", "--wait", "3", *servers.links()], **QUIET)
         for _ in range(chance.randrange(4)):
             time.sleep(chance.uniform(0, 0.3))
-            victim = chance.randrange(4)
+            victim, kills = chance.randrange(4), kills + 1
             if victim == 3:
                 writing.kill()
             else:
@@ -87,6 +87,7 @@ def killed_nodes():
         by_state = {at: it for at, it in reports(printed).items()}
         tell(f"killed nodes, turn {turn}: no false fault", [at for at, it in by_state.items() if it[1]], [])
         whole += status == 0
+    print(f"killed_nodes: {kills} kills at random and a cut each turn, {whole} checks by all states")
     tell("checks came to their end", whole >= 2, True)
     servers.cut()
 

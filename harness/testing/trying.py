@@ -11,6 +11,8 @@ TARGET, AGENT, WITNESS, LIAR = (f"{OUT}/{it}" for it in ("drive-target", "drive-
 BLOCK = 4096
 QUIET = {"stdout": subprocess.DEVNULL, "stderr": subprocess.DEVNULL}
 counts = {"passed": 0, "failed": 0}
+# How many times as often as the gate has it nodes are killed.
+as_often = {"killed": 1}
 
 
 def tell(what, got, due):

@@ -5,4 +5,5 @@ mod ClientMayLemmas
 mod ServerMayLemmas
 mod MirrorMayLemmas
 mod FleetLemmas
+mod BeginLemmas
 mod DrawnLemmas

@@ -1,6 +1,7 @@
 -- What holds of all fleets of filters, at each moment: all that happened up to some step is what
 -- happened to a fleet.
-use Rattle.std.specs.Prelude.{◌≡◌, ℕ, List, map}
+use Rattle.std.specs.Prelude.{◌≡◌, ◌≤◌, ℕ, List, map}
+use Rattle.fc_base.specs.declared.limits.TheConstants.{MAX_SERVERS}
 use Rattle.server_core.specs.Hearing.{coming_of as server_coming, packets_heard as server_heard}
 use Rattle.client_core.specs.Hearing.{coming_of as client_coming, packets_heard as client_heard}
 use Rattle.net_world.specs.Setup.{Setup, without_mirror}
@@ -47,6 +48,11 @@ abbrev pub FleetsAreTraces : Type 0
 FleetsAreTraces =
     (w : Setup) (first now : FleetAt) (steps : List FleetStep) →
     FleetBegins w first → Ran w first steps now → IsOneTrace w now
+
+-- Each fleet can begin: one of as many servers as there may be, with a mirror and without one.
+abbrev pub FleetsCanBegin : Type 0
+FleetsCanBegin =
+    (w : Setup) → w.servers ≤ MAX_SERVERS → (first : FleetAt) × FleetBegins w first
 
 -- A note with drawn numbers says what that of a client does which has given so many.
 abbrev pub DrawnNotesAreOfClients : Type 0

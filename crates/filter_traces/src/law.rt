@@ -1,7 +1,8 @@
 //! The laws of fleets of filters. The functions have nothing to run.
 
-ghost use Rattle.filter_traces.specs.Laws.{FleetsAreTraces, DrawnNotesAreOfClients};
+ghost use Rattle.filter_traces.specs.Laws.{FleetsAreTraces, FleetsCanBegin, DrawnNotesAreOfClients};
 
+use client_core::notes_are_read_back;
 use messages::{frames_are_read_back, frames_are_readable};
 use net_world::{
     frames_are_of_packets, one_state_of_each_job, only_sent_is_heard, sent_are_in_range,
@@ -19,6 +20,13 @@ pub fn fleet_law()
     frames_are_readable();
     frames_are_read_back();
     one_state_of_each_job();
+}
+
+/// A fleet of any number of servers can begin, with a mirror and without one.
+pub fn fleets_begin_law()
+    ensures { FleetsCanBegin }
+{
+    notes_are_read_back();
 }
 
 /// A note of no states, with numbers that are drawn, says what that of a client does which has given so many.

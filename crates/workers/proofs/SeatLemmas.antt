@@ -1,18 +1,18 @@
 -- How the answers of a server leave a worker's seat.
-use Rattle.std.proofs.Common.{◌≡◌, refl, sym, ◌∙◌, ap, arith, ◌+◌, ◌≤◌, Bool, true, false, None, Some, Result, Ok, Err}
+use Rattle.std.proofs.Common.{◌≡◌, refl, sym, ◌∙◌, ap, arith, ◌+◌, ◌≤◌, Bool, true, false, Some, Result, Ok, Err}
 use Rattle.fc_base.specs.declared.fault.Fault.{Fault}
 use Rattle.fc_base.specs.declared.fault.Fault.TheVariants.{NoMemory, WrongSeat, NodeOff, OldBoot}
+use Rattle.node_history.specs.declared.answer.Answer.{Answer}
 use Rattle.node_history.specs.declared.answer.Said.{Said}
 use Rattle.node_history.specs.declared.answer.CallerAnswer.{CallerAnswer}
 use Rattle.server_cell.specs.Seated.{Seated}
 use Rattle.server_cell.specs.declared.task.Task.{Task}
 use Rattle.server_cell.specs.Cells.{ServerLog}
 use Rattle.server_cell.specs.Calls.{is_right, lacks_memory, told_by, Enters, AppliesBy, Applies}
-use Rattle.workers.specs.Seats.{IsSeatOf, says_final, is_off, ends_with}
-use Rattle.workers.specs.declared.ended.Ended.{Ended}
+use Rattle.workers.specs.Seats.{IsSeatOf, HasFailed, says_final, is_off, is_own, ends_with}
 use Rattle.workers.specs.declared.server.Asked.{Asked}
 use Rattle.workers.specs.declared.server.Asked.TheVariants as asks
-use Rattle.workers.specs.Turns.{WorkedIf, IsTaken, is_taken, events_of}
+use Rattle.workers.specs.Turns.{WorkedIf, HasAsked, IsIssued, is_last_asked, IsTaken, is_taken}
 
 -- ---- one call behind another
 
@@ -124,14 +124,6 @@ taken old seat task new after result h sure = by_seat (is_right old seat) h
     by_seat false w = absurd (let no : false ≡ true = sym (ap takes_by w.1) ∙ sure in cc)
     by_seat true w = by_answer (lacks_memory w.0) w.0 w.1 w.2
 
--- An end that was told is an event more.
-pub one_more : (ended : Ended) (asked : Asked) → events_of (Some ended) asked ≤ events_of None asked + 1
-one_more ended (asks.Write ticket rec) = omega arith
-one_more ended asks.Later = omega arith
-one_more ended asks.Never = omega arith
-one_more ended asks.Off = omega arith
-one_more ended (asks.Refused fault) = omega arith
-
 -- What was taken of a seat that has applied more meanwhile.
 pub taken_behind : (a b c : Seated) → IsSeatOf a b → IsTaken b c → IsTaken a c
 taken_behind a b c h t = record {
@@ -139,3 +131,80 @@ taken_behind a b c h t = record {
   more = omega (arith, h.grown, t.more);
   taken = t.taken;
 }
+
+-- ---- a fault
+
+-- What is told is a fault of the worker's own, or none.
+abbrev pub own_by : Result CallerAnswer Fault → Bool
+own_by (Ok told) = true
+own_by (Err fault) = is_own fault
+
+failed_by : (seat after : Seated) (answer : Result Said Fault) (fault : Fault) → Err fault ≡ told_by answer
+    → after ≡ record { server = seat.server; number = seat.number; applied = seat.applied + 1; last = Some answer } → HasFailed seat after fault
+failed_by seat after (Ok said) fault told h = absurd (let no = told in cc)
+failed_by seat after (Err other) fault told h = record {
+  same = moved seat after (Err other) h;
+  told = λ _. rw h (let so = told in cc);
+}
+
+of_itself : (seat after : Seated) (fault : Fault) → is_own fault ≡ true → after ≡ seat → HasFailed seat after fault
+of_itself seat after fault own h = record {
+  same = unmoved seat after h;
+  told = λ other. absurd (let no : true ≡ false = sym own ∙ other in cc);
+}
+
+-- A call that is answered by a fault.
+pub failed : (old : ServerLog) (seat : Seated) (task : Task) (new : ServerLog) (after : Seated) (fault : Fault)
+    → Applies old seat task new after (Err fault) → HasFailed seat after fault
+failed old seat task new after fault h = by_seat (is_right old seat) h
+  where
+    by_answer : (lacks : Bool) (answer : Result Said Fault) → Err fault ≡ told_by answer → Enters lacks old seat task new after answer
+        → HasFailed seat after fault
+    by_answer true answer told e = of_itself seat after fault (ap own_by (told ∙ ap told_by e.1)) e.0.seat_is
+    by_answer false answer told e = failed_by seat after answer fault told e.seat_is
+
+    by_seat : (right : Bool) → AppliesBy right old seat task new after (Err fault) → HasFailed seat after fault
+    by_seat false w = of_itself seat after fault (ap own_by w.1) w.0.seat_is
+    by_seat true w = by_answer (lacks_memory w.0) w.0 w.1 w.2
+
+-- ---- several calls
+
+seat_behind : (a b c : Seated) → IsSeatOf a b → IsSeatOf b c → IsSeatOf a c
+seat_behind a b c h w = record { server = w.server ∙ h.server; number = w.number ∙ h.number; grown = omega (arith, h.grown, w.grown) }
+
+worked_behind : (is : Bool) (a b c : Seated) → IsSeatOf a b → WorkedIf is b c → WorkedIf is a c
+worked_behind false a b c h w = seat_behind a b c h w
+worked_behind true a b c h w = record {
+  same = seat_behind a b c h w.same;
+  more = omega (arith, h.grown, w.more);
+  ended = w.ended;
+}
+
+failed_behind : (a b c : Seated) (fault : Fault) → IsSeatOf a b → HasFailed b c fault → HasFailed a c fault
+failed_behind a b c fault h w = record { same = seat_behind a b c h w.same; told = w.told }
+
+-- What was asked from a seat that has applied more meanwhile.
+pub asked_behind : (a b c : Seated) (result : Result Asked Fault) → IsSeatOf a b → HasAsked b c result → HasAsked a c result
+asked_behind a b c (Ok (asks.Write order)) h w = seat_behind a b c h w
+asked_behind a b c (Ok asks.Later) h w = seat_behind a b c h w
+asked_behind a b c (Ok asks.Never) h w = worked_behind true a b c h w
+asked_behind a b c (Ok asks.Off) h w = worked_behind true a b c h w
+asked_behind a b c (Ok (asks.Refused fault)) h w = failed_behind a b c fault h w
+asked_behind a b c (Err fault) h w = failed_behind a b c fault h w
+
+-- An answer of the server, as the worker is told of it.
+pub said_so : (asked : Asked) (answer : Answer) (a b : Seated) → IsIssued asked answer → WorkedIf (is_last_asked asked) a b → HasAsked a b (Ok asked)
+said_so (asks.Write order) answer a b i w = w
+said_so asks.Later answer a b i w = w
+said_so asks.Never answer a b i w = w
+said_so asks.Off answer a b i w = w
+said_so (asks.Refused fault) answer a b i w = absurd i
+
+-- However it was asked, it is the same seat.
+pub seat_asked : (a b : Seated) (result : Result Asked Fault) → HasAsked a b result → IsSeatOf a b
+seat_asked a b (Ok (asks.Write order)) w = w
+seat_asked a b (Ok asks.Later) w = w
+seat_asked a b (Ok asks.Never) w = w.same
+seat_asked a b (Ok asks.Off) w = w.same
+seat_asked a b (Ok (asks.Refused fault)) w = w.same
+seat_asked a b (Err fault) w = w.same

@@ -1,7 +1,7 @@
 -- What a worker does to its seat.
 use Rattle.std.specs.Prelude.{◌≡◌, ◌<◌, ◌≤◌, Bool, true, false, Option, None, Some, Result, Ok, Err}
 use Rattle.fc_base.specs.declared.fault.Fault.{Fault}
-use Rattle.fc_base.specs.declared.fault.Fault.TheVariants.{NodeOff}
+use Rattle.fc_base.specs.declared.fault.Fault.TheVariants.{NoMemory, WrongSeat, TurnsSpent, NodeOff}
 use Rattle.engine.specs.declared.issue.Issue.{Issue}
 use Rattle.engine.specs.declared.issue.Issue.TheVariants.{Finished, Stopped}
 use Rattle.node_history.specs.declared.answer.Answer.{Answer}
@@ -42,3 +42,17 @@ pub record HasWorked (seat back : Seated) : Type 0 where
   pub same : IsSeatOf seat back
   pub more : seat.applied < back.applied
   pub ended : ends_with back.last ≡ true
+
+-- A worker may end so whatever its server answers: memory ran out, it has no right seat, or a gate
+-- stays shut.
+abbrev pub is_own : Fault → Bool
+is_own NoMemory = true
+is_own WrongSeat = true
+is_own TurnsSpent = true
+is_own _ = false
+
+-- The worker has failed so: it is the same seat, which may have applied more, and a fault that
+-- isn't the worker's own is the last answer to it.
+pub record HasFailed (seat back : Seated) (fault : Fault) : Type 0 where
+  pub same : IsSeatOf seat back
+  pub told : is_own fault ≡ false → back.last ≡ Some (Err fault)

@@ -1,5 +1,5 @@
 -- How the calls of a worker leave its seat.
-use Rattle.std.specs.Prelude.{◌≡◌, ◌<◌, ℕ, Bool, true, false, List, Option, None, Some, Result, Ok, Err, IfSome}
+use Rattle.std.specs.Prelude.{◌≡◌, ◌<◌, ℕ, Bool, true, false, List, Option, Some, Result, Ok, Err, IfSome}
 use Rattle.std.specs.Option.{option_map}
 use Rattle.fc_base.specs.declared.fault.Fault.{Fault}
 use Rattle.fc_base.specs.declared.fault.Fault.TheVariants.{OldBoot}
@@ -13,14 +13,13 @@ use Rattle.server_core.specs.Answers.{run_job, shown_entries}
 use Rattle.server_core.specs.Hearing.{FrameEntry, packets_heard}
 use Rattle.server_cell.specs.Cells.{ServerLog, IsReplay}
 use Rattle.server_cell.specs.Seated.{Seated}
-use Rattle.workers.specs.declared.ended.Ended.{Ended}
 use Rattle.workers.specs.declared.server.Asked.{Asked}
 use Rattle.workers.specs.declared.server.Asked.TheVariants as asks
 use Rattle.workers.specs.declared.turn.TurnEnd.{TurnEnd}
 use Rattle.workers.specs.declared.turn.TurnEnd.TheVariants as turns
 use Rattle.workers.specs.declared.worker.Round.{Round}
 use Rattle.workers.specs.declared.worker.Round.TheVariants as rounds
-use Rattle.workers.specs.Seats.{IsSeatOf, HasWorked}
+use Rattle.workers.specs.Seats.{IsSeatOf, HasWorked, HasFailed}
 
 -- The seat is the same, and has worked where this is true.
 abbrev pub WorkedIf : Bool → Seated → Seated → Type 0
@@ -33,9 +32,20 @@ is_last_asked asks.Never = true
 is_last_asked asks.Off = true
 is_last_asked _ = false
 
--- The write is the one that the server issued.
+-- The server is on, as far as the answer tells.
+abbrev pub is_on : Asked → Bool
+is_on asks.Off = false
+is_on _ = true
+
+-- How many writes were issued by this answer.
+abbrev pub writes_of : Asked → ℕ
+writes_of (asks.Write order) = 1
+writes_of _ = 0
+
+-- The write is the one that the server issued; and no answer is a refusal.
 abbrev pub IsIssued : Asked → Answer → Type 0
-IsIssued (asks.Write ticket rec) answer = answer ≡ Issued (Write ticket)
+IsIssued (asks.Write order) answer = answer ≡ Issued (Write order.ticket)
+IsIssued (asks.Refused fault) answer = ⊥
 IsIssued _ answer = Unit {0}
 
 -- These are the settings of the job, in the run that the server is at.
@@ -48,23 +58,14 @@ AreSettings cell job rec =
 
 -- A write comes with the settings of its job.
 abbrev pub HasSettings : ServerLog → ℕ → Asked → Type 0
-HasSettings cell job (asks.Write ticket rec) = IfSome rec (AreSettings cell job)
+HasSettings cell job (asks.Write order) = IfSome order.rec (AreSettings cell job)
 HasSettings cell job _ = Unit {0}
 
--- How many events a worker has applied at least that is answered so: its question, unless that was
--- refused; and where it had an end to tell, that one before. A server that is off may have answered
--- the first of them so.
-abbrev pub events_of : Option Ended → Asked → ℕ
-events_of last asks.Off = 1
-events_of None (asks.Refused fault) = 0
-events_of None _ = 1
-events_of (Some ended) (asks.Refused fault) = 1
-events_of (Some ended) _ = 2
-
--- How asking for a write leaves the seat.
+-- How asking for writes leaves the seat, by the last answer.
 abbrev pub HasAsked : Seated → Seated → Result Asked Fault → Type 0
+HasAsked seat back (Ok (asks.Refused fault)) = HasFailed seat back fault
 HasAsked seat back (Ok answer) = WorkedIf (is_last_asked answer) seat back
-HasAsked seat back (Err fault) = IsSeatOf seat back
+HasAsked seat back (Err fault) = HasFailed seat back fault
 
 -- The server has taken the end of a write, or it is nothing to its boot.
 abbrev pub is_taken : Option (Result Said Fault) → Bool
@@ -83,7 +84,14 @@ pub record IsTaken (seat back : Seated) : Type 0 where
 abbrev pub HasTold : Seated → Seated → Result Bool Fault → Type 0
 HasTold seat back (Ok true) = IsTaken seat back
 HasTold seat back (Ok false) = HasWorked seat back
-HasTold seat back (Err fault) = IsSeatOf seat back
+HasTold seat back (Err fault) = HasFailed seat back fault
+
+-- How telling the ends of several writes leaves it: the server knows of all; or it is off, and that
+-- is its last answer.
+abbrev pub HasToldAll : Seated → Seated → Result Bool Fault → Type 0
+HasToldAll seat back (Ok true) = IsSeatOf seat back
+HasToldAll seat back (Ok false) = HasWorked seat back
+HasToldAll seat back (Err fault) = HasFailed seat back fault
 
 -- So it is with a job's turn.
 abbrev pub is_last_turn : TurnEnd → Bool
@@ -94,7 +102,7 @@ is_last_turn _ = false
 -- How a job's turn leaves it.
 abbrev pub HasTaken : Seated → Seated → Result TurnEnd Fault → Type 0
 HasTaken seat back (Ok turn) = WorkedIf (is_last_turn turn) seat back
-HasTaken seat back (Err fault) = IsSeatOf seat back
+HasTaken seat back (Err fault) = HasFailed seat back fault
 
 -- So it was with each job in a round.
 abbrev pub is_over : Round → Bool
@@ -104,4 +112,4 @@ is_over _ = false
 -- How a round leaves it.
 abbrev pub HasGone : Seated → Seated → Result Round Fault → Type 0
 HasGone seat back (Ok round) = WorkedIf (is_over round) seat back
-HasGone seat back (Err fault) = IsSeatOf seat back
+HasGone seat back (Err fault) = HasFailed seat back fault

@@ -1,10 +1,9 @@
 //! Gates: which writes may be carried out, and when.
 
 use engine::Ticket;
-use std::thread;
 
-/// How often a worker asks a gate for one write, and how often it tells that a write has ended where there
-/// is no memory for that, before it gives up.
+/// How often a worker asks a gate for the writes that it has in hand without one that is let through, and how
+/// often it tells that writes have ended where there is no memory for that, before it gives up.
 pub const TURNS: u32 = 1_000_000;
 
 /// What a worker asks before each write, and tells behind it. No lock is held meanwhile.
@@ -26,15 +25,4 @@ impl Gate for OpenGate {
     }
 
     fn written(&self, _ticket: &Ticket) {}
-}
-
-/// Whether the gate lets a write through within the turns.
-pub(crate) fn lets_through<G: Gate>(gate: &G, ticket: &Ticket) -> bool {
-    for _ in 0..TURNS {
-        if gate.may_write(ticket) {
-            return true;
-        }
-        thread::yield_now();
-    }
-    false
 }

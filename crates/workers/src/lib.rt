@@ -9,6 +9,7 @@
 #![tactic(auto)]
 
 mod block;
+mod desk;
 mod ended;
 mod gate;
 mod server;

@@ -1,12 +1,12 @@
 //! What a worker asks of its server, and tells it, each under the server's lock.
 
-ghost use Rattle.std.specs.Prelude.{◌≡◌, ◌≤◌, ◌+◌, Some, None, Result, IfOk, IfSome};
+ghost use Rattle.std.specs.Prelude.{◌≡◌, ◌≤◌, ◌+◌, true, length, Result, Ok, IfOk, IfSome};
 ghost use Rattle.fc_base.specs.declared.fault.Fault.{Fault};
 ghost use Rattle.node_history.specs.declared.answer.CallerAnswer.{CallerAnswer};
 ghost use Rattle.server_cell.specs.declared.task.Task.TheVariants.{Issue as IssueTask, WriteDone};
 ghost use Rattle.server_cell.specs.Calls.{Applies};
 ghost use Rattle.workers.specs.Seats.{says_final};
-ghost use Rattle.workers.specs.Turns.{is_last_asked, events_of, IsIssued, WorkedIf, HasAsked, HasTold, AreSettings, HasSettings};
+ghost use Rattle.workers.specs.Turns.{is_last_asked, is_on, writes_of, IsIssued, HasAsked, HasTold, HasToldAll, AreSettings, HasSettings};
 
 use crate::ended::Ended;
 use crate::gate::TURNS;
@@ -19,11 +19,18 @@ use std::hint::spin_loop;
 use std::sync::{Mutex, MutexGuard, Wait};
 use std::thread;
 
+/// A write that the server has issued, with the settings of its job.
+#[derive(Clone, Copy, PartialEq, Eq)]
+pub(crate) struct Order {
+    pub(crate) ticket: Ticket,
+    pub(crate) rec: Option<JobRecord>,
+}
+
 /// What a worker is told that asks for the next write of a job.
 #[derive(Clone, Copy, PartialEq, Eq)]
 pub(crate) enum Asked {
-    /// This write, with the settings of its job.
-    Write(Ticket, Option<JobRecord>),
+    /// This write.
+    Write(Order),
     /// None yet.
     Later,
     /// None any more.
@@ -33,6 +40,9 @@ pub(crate) enum Asked {
     /// It is refused so.
     Refused(Fault),
 }
+
+/// How many writes a worker has in hand at most.
+pub(crate) const HAND: usize = 8;
 
 /// How often a worker looks whether the server's lock is free before it sleeps there. One that holds the lock
 /// gives it back sooner than a thread can be put to sleep and woken.
@@ -52,48 +62,123 @@ fn lock<'c, R: Wait, N: Notes + Drop>(
     cell.lock(rt)
 }
 
-/// Tells how the worker's last write has ended, if it has one, and asks for the next of a job, both under
-/// one lock of the server. It fails where the end can't be told, as [`tell`] does; then nothing is asked.
+/// Tells how these writes have ended, and asks for others of a job, all under one lock of the server. Where
+/// there is no memory for the server's entry of an end, that and those behind it are told each as [`tell`] does it.
+/// The answer is that to the last question; where there is no place for a write, nothing is asked, and it is
+/// `Later`. As many of the ends as `told` says the server knows then, from the first on.
+///
+/// It fails where an end can't be told; then nothing is asked.
 pub(crate) fn tell_and_ask<R: Wait, N: Notes + Drop>(
     rt: &R,
     cell: &Mutex<ServerCell<N>>,
     seat: &mut Seat,
-    last: Option<Ended>,
+    ended: &[Ended],
+    told: &mut usize,
     job: JobNo,
+    given: &mut Vec<Order>,
 ) -> Result<Asked, Fault>
+    requires { told.old ≤ length ended.now }
     ensures asked { HasAsked seat.old seat.new result }
-    ensures all_told { IfOk result
-        (λ asked. seat.old.applied + events_of last asked ≤ seat.new.applied) }
+    ensures told { told.new ≤ length ended.now }
+    ensures all_told { IfOk result (λ asked. is_on asked ≡ true → told.new ≡ length ended.now) }
+    ensures entered { seat.old.applied + told.new ≤ seat.new.applied + told.old }
 {
-    let Some(ended) = last else {
-        return Ok(issue(&mut lock(rt, cell), seat, job));
-    };
-    match end_and_issue(&mut lock(rt, cell), seat, &ended, job) {
-        Err(Fault::NoMemory) => {}
-        heard => return heard,
+    let asked = tell_all_and_ask(&mut lock(rt, cell), seat, ended, told, job, given);
+    if asked != Err(Fault::NoMemory) {
+        return asked;
     }
-    if tell(rt, cell, seat, &ended)? {
-        Ok(issue(&mut lock(rt, cell), seat, job))
+    for at in *told..ended.len() {
+        if !tell(rt, cell, seat, &ended[at])? {
+            return Ok(Asked::Off);
+        }
+        *told = at + 1;
+    }
+    Ok(ask_for_some(&mut lock(rt, cell), seat, job, given))
+}
+
+/// The same under the server's lock. `NoMemory`: there is none for the first end that wasn't told.
+fn tell_all_and_ask<N: Notes + Drop>(
+    server: &mut ServerCell<N>,
+    seat: &mut Seat,
+    ended: &[Ended],
+    told: &mut usize,
+    job: JobNo,
+    given: &mut Vec<Order>,
+) -> Result<Asked, Fault>
+    requires { told.old ≤ length ended.now }
+    ensures asked { HasAsked seat.old seat.new result }
+    ensures told { told.new ≤ length ended.now }
+    ensures all_told { IfOk result (λ asked. is_on asked ≡ true → told.new ≡ length ended.now) }
+    ensures entered { seat.old.applied + told.new ≤ seat.new.applied + told.old }
+{
+    if tell_all(server, seat, ended, told)? {
+        Ok(ask_for_some(server, seat, job, given))
     } else {
         Ok(Asked::Off)
     }
 }
 
-/// Tells a server how a write has ended, and asks it for the next of a job.
-fn end_and_issue<N: Notes + Drop>(
+/// Tells a server how these writes have ended, from that of the place `told` on, which is then the first that it doesn't
+/// know. Whether the server is on.
+fn tell_all<N: Notes + Drop>(
     server: &mut ServerCell<N>,
     seat: &mut Seat,
-    ended: &Ended,
-    job: JobNo,
-) -> Result<Asked, Fault>
-    ensures asked { HasAsked seat.old seat.new result }
-    ensures all_told { IfOk result
-        (λ asked. seat.old.applied + events_of (Some ended.now) asked ≤ seat.new.applied) }
+    ended: &[Ended],
+    told: &mut usize,
+) -> Result<bool, Fault>
+    requires { told.old ≤ length ended.now }
+    ensures seat { HasToldAll seat.old seat.new result }
+    ensures told { told.new ≤ length ended.now }
+    ensures all { result ≡ Ok true → told.new ≡ length ended.now }
+    ensures each { result ≡ Ok true → seat.new.applied + told.old ≡ seat.old.applied + told.new }
+    ensures entered { seat.old.applied + told.new ≤ seat.new.applied + told.old }
 {
-    if end_write(server, seat, ended)? {
-        Ok(issue(server, seat, job))
-    } else {
-        Ok(Asked::Off)
+    for at in *told..ended.len() {
+        if !end_write(server, seat, &ended[at])? {
+            return Ok(false);
+        }
+        *told = at + 1;
+    }
+    Ok(true)
+}
+
+/// Asks a server for writes of a job until the worker has its share of them or no place for more, or there is
+/// none; what it is told last. Each is then among those in hand.
+fn ask_for_some<N: Notes + Drop>(
+    server: &mut ServerCell<N>,
+    seat: &mut Seat,
+    job: JobNo,
+    given: &mut Vec<Order>,
+) -> Asked
+    ensures asked { HasAsked seat.old seat.new (Ok result) }
+    ensures kept { seat.old.applied + length given.new.items ≤ seat.new.applied + length given.old.items }
+{
+    let (mut last, mut share) = (Asked::Later, HAND);
+    for count in 0..HAND {
+        if count >= share || given.len() >= HAND {
+            return last;
+        }
+        if given.reserve(1).is_err() {
+            return Asked::Refused(Fault::NoMemory);
+        }
+        match issue(server, seat, job) {
+            Asked::Write(order) => {
+                given.push_reserved(order);
+                share = share_of(&order);
+                last = Asked::Write(order);
+            }
+            other => return other,
+        }
+    }
+    last
+}
+
+/// How many writes of a job a worker takes at once: half of those that may be in flight, so that another
+/// worker finds some.
+fn share_of(order: &Order) -> usize {
+    match order.rec {
+        Some(rec) => rec.depth() as usize / 2,
+        None => 1,
     }
 }
 
@@ -101,8 +186,8 @@ fn end_and_issue<N: Notes + Drop>(
 fn issue<N: Notes + Drop>(server: &mut ServerCell<N>, seat: &mut Seat, job: JobNo) -> Asked
     ensures asks { (answer : Result CallerAnswer Fault)
         × Applies server.old seat.old (IssueTask job) server.new seat.new answer }
-    ensures seat { WorkedIf (is_last_asked result) seat.old seat.new }
-    ensures entered { seat.old.applied + events_of None result ≤ seat.new.applied }
+    ensures seat { HasAsked seat.old seat.new (Ok result) }
+    ensures entered { seat.old.applied + writes_of result ≤ seat.new.applied }
     ensures settings { HasSettings server.new job result }
 {
     match server.apply(seat, Task::Issue(job)) {
@@ -116,11 +201,13 @@ fn issue<N: Notes + Drop>(server: &mut ServerCell<N>, seat: &mut Seat, job: JobN
 fn said<N: Notes + Drop>(told: CallerAnswer, server: &ServerCell<N>, job: JobNo) -> Asked
     ensures issued { IsIssued result told.answer }
     ensures last { is_last_asked result ≡ says_final told.answer }
-    ensures entered { events_of None result ≤ 1 }
     ensures settings { HasSettings server.now job result }
 {
     match told.answer {
-        Answer::Issued(Issue::Write(ticket)) => Asked::Write(ticket, record_of(server, job)),
+        Answer::Issued(Issue::Write(ticket)) => Asked::Write(Order {
+            ticket,
+            rec: record_of(server, job),
+        }),
         Answer::Issued(Issue::Finished | Issue::Stopped) => Asked::Never,
         _ => Asked::Later,
     }
@@ -149,10 +236,11 @@ pub(crate) fn tell<R: Wait, N: Notes + Drop>(
     ensures { HasTold seat.old seat.new result }
 {
     for _ in 0..TURNS {
-        match end_write(&mut lock(rt, cell), seat, ended) {
-            Err(Fault::NoMemory) => thread::yield_now(),
-            told => return told,
+        let told = end_write(&mut lock(rt, cell), seat, ended);
+        if told != Err(Fault::NoMemory) {
+            return told;
         }
+        thread::yield_now();
     }
     Err(Fault::NoMemory)
 }
@@ -167,6 +255,7 @@ fn end_write<N: Notes + Drop>(
         × Applies server.old seat.old
         (WriteDone ended.now.ticket ended.now.end) server.new seat.new answer }
     ensures seat { HasTold seat.old seat.new result }
+    ensures one { result ≡ Ok true → seat.new.applied ≡ seat.old.applied + 1 }
 {
     match server.apply(seat, Task::WriteDone(*ended.ticket(), ended.end())) {
         Ok(_) | Err(Fault::OldBoot) => Ok(true),

@@ -1,32 +1,22 @@
-//! A job's turn: a worker tells of its last write, asks for one, and carries it out.
+//! A job's turn: a worker tells of its last writes, asks for others, and carries them out.
 
-ghost use Rattle.std.specs.Prelude.{◌≡◌, length};
-ghost use Rattle.fc_base.specs.declared.limits.TheConstants.{MAX_BLOCK_SIZE as BLOCK_SIZE};
-ghost use Rattle.workers.specs.Turns.{HasTaken};
+ghost use Rattle.std.specs.Prelude.{◌≡◌, ◌≤◌, length, IfErr};
+ghost use Rattle.workers.specs.Turns.{HasAsked, HasTaken};
 
-use crate::block::carry_out;
+use crate::desk::Desk;
 use crate::ended::Ended;
-use crate::gate::{Gate, lets_through};
+use crate::gate::{Gate, TURNS};
 use crate::server::{Asked, tell, tell_and_ask};
 use disk_model::{Disk, Notes};
-use fc_base::{Fault, JobNo, MAX_BLOCK_SIZE};
+use fc_base::{Fault, JobNo};
 use server_cell::{Seat, ServerCell};
-use std::alloc::{AllocError, Global};
 use std::sync::{Mutex, Wait};
-
-/// What a worker has between its turns: the memory for a block, and the write that it carried out last, as
-/// long as its server isn't told of it.
-#[derive(Drop)]
-pub(crate) struct Desk {
-    memory: Vec<u8>,
-    last: Option<Ended>,
-    ghost whole: { length memory.items ≡ BLOCK_SIZE },
-}
+use std::thread;
 
 /// What came of a job's turn.
 #[derive(Clone, Copy, PartialEq, Eq)]
 pub(crate) enum TurnEnd {
-    /// A write was carried out, or has failed.
+    /// A write was carried out, or has failed; or one is in hand that waits for its gate.
     Wrote,
     /// There is none yet.
     Later,
@@ -36,43 +26,82 @@ pub(crate) enum TurnEnd {
     Off,
 }
 
-impl Desk {
-    /// That of a worker which has written nothing yet.
-    pub(crate) fn new(alloc: Global) -> Result<Desk, AllocError> {
-        Ok(Desk {
-            memory: vec![in alloc; 0; MAX_BLOCK_SIZE as usize]?,
-            last: None,
-        })
-    }
-}
-
-/// Takes the turn of a job with this file. `TurnsSpent` where the gate never lets its write through.
+/// Takes the turn of a job. It waits for the gate where that lets none of the writes in hand through and there
+/// is no other for now; `TurnsSpent` where it never does.
 pub(crate) fn take<R: Wait, N: Notes + Drop, D: Disk, G: Gate>(
     rt: &R,
     cell: &Mutex<ServerCell<N>>,
     seat: &mut Seat,
     job: JobNo,
-    file: &Mutex<D>,
+    files: &[Mutex<D>],
     gate: &G,
     desk: &mut Desk,
 ) -> Result<TurnEnd, Fault>
     ensures { HasTaken seat.old seat.new result }
 {
-    let asked = tell_and_ask(rt, cell, seat, desk.last, job)?;
-    if let (Some(ended), false) = (desk.last.take(), asked == Asked::Off) {
+    let asked = ask(rt, cell, seat, job, gate, desk)?;
+    match asked {
+        Asked::Off => return Ok(TurnEnd::Off),
+        Asked::Never if desk.given.is_empty() => return Ok(TurnEnd::Never),
+        Asked::Later if desk.given.is_empty() => return Ok(TurnEnd::Later),
+        Asked::Refused(fault) if desk.given.is_empty() => return Err(fault),
+        _ => {}
+    }
+    if desk.carry_out(rt, files, gate) || matches!(asked, Asked::Write(_)) {
+        return Ok(TurnEnd::Wrote);
+    }
+    wait(rt, cell, seat, files, gate, desk)
+}
+
+/// Tells how the writes have ended that were carried out, and asks for others of a job, under one lock; and
+/// then tells the gate of those that the server knows of.
+fn ask<R: Wait, N: Notes + Drop, G: Gate>(
+    rt: &R,
+    cell: &Mutex<ServerCell<N>>,
+    seat: &mut Seat,
+    job: JobNo,
+    gate: &G,
+    desk: &mut Desk,
+) -> Result<Asked, Fault>
+    ensures { HasAsked seat.old seat.new result }
+{
+    let mut told = 0;
+    let asked = tell_and_ask(
+        rt,
+        cell,
+        seat,
+        desk.ended.as_slice(),
+        &mut told,
+        job,
+        &mut desk.given,
+    );
+    for ended in &desk.ended.as_slice()[..told] {
         gate.written(ended.ticket());
     }
-    let (ticket, rec) = match asked {
-        Asked::Write(ticket, rec) => (ticket, rec),
-        Asked::Later => return Ok(TurnEnd::Later),
-        Asked::Never => return Ok(TurnEnd::Never),
-        Asked::Off => return Ok(TurnEnd::Off),
-        Asked::Refused(fault) => return Err(fault),
-    };
-    if !lets_through(gate, &ticket) {
-        tell(rt, cell, seat, &Ended::failed(&ticket))?;
-        return Err(Fault::TurnsSpent);
+    desk.ended.clear();
+    asked
+}
+
+/// Waits until the gate lets a write in hand through. `TurnsSpent`: it lets none through within the turns, and
+/// the server was told of each that it has failed.
+fn wait<R: Wait, N: Notes + Drop, D: Disk, G: Gate>(
+    rt: &R,
+    cell: &Mutex<ServerCell<N>>,
+    seat: &mut Seat,
+    files: &[Mutex<D>],
+    gate: &G,
+    desk: &mut Desk,
+) -> Result<TurnEnd, Fault>
+    ensures { HasTaken seat.old seat.new result }
+{
+    for _ in 0..TURNS {
+        thread::yield_now();
+        if desk.carry_out(rt, files, gate) {
+            return Ok(TurnEnd::Wrote);
+        }
     }
-    desk.last = Some(carry_out(rt, file, &ticket, rec, &mut desk.memory));
-    Ok(TurnEnd::Wrote)
+    for order in desk.given.as_slice() {
+        tell(rt, cell, seat, &Ended::failed(&order.ticket))?;
+    }
+    Err(Fault::TurnsSpent)
 }

@@ -1,11 +1,12 @@
 //! A worker, which goes round the jobs of a server and carries out their writes.
 
 ghost use Rattle.std.specs.Prelude.{◌≡◌, ◌≤◌, false, length, IfOk, IfErr};
-ghost use Rattle.workers.specs.Seats.{HasWorked, IsSeatOf};
+ghost use Rattle.workers.specs.Seats.{HasWorked, HasFailed};
 ghost use Rattle.workers.specs.Turns.{is_over, HasGone, HasTaken};
 
+use crate::desk::Desk;
 use crate::gate::Gate;
-use crate::turn::{Desk, TurnEnd, take};
+use crate::turn::{TurnEnd, take};
 use disk_model::{Disk, Notes};
 use fc_base::{Fault, JobNo};
 use server_cell::{Seat, ServerCell};
@@ -13,8 +14,8 @@ use std::alloc::Global;
 use std::sync::{Mutex, Wait};
 use std::thread;
 
-/// How many writes of a job a worker carries out before it goes to the next. What it touches of a job and its
-/// file is then mostly in its processor's memory, which passes between workers less often.
+/// How many turns of a job a worker takes before it goes to the next. What it touches of a job and its file is
+/// then mostly in its processor's memory, which passes between workers less often.
 const STAY: u32 = 16;
 
 /// What came of a round.
@@ -28,14 +29,15 @@ pub(crate) enum Round {
     Busy,
 }
 
-/// Works at a server until no job has a write any more, or the server is off. Job `i` writes to file `i`:
-/// the worker goes round the jobs of the files, tells the server how its last write has ended and asks
-/// for the next of each, both under one lock, and then tells the gate of the one, waits for it with the other, and carries
-/// that out. A write that its disk refuses has failed.
+/// Works at a server until no job has a write any more, or the server is off. Job `i` writes to file `i`: the
+/// worker goes round the jobs of the files, tells the server how its last writes have ended and asks for others
+/// of a job, all under one lock: for half as many as may be in flight, and eight at most. Then it tells the gate
+/// of the ones, and carries out those of the others that the gate lets through. One that the gate refuses stays
+/// in its hand, and keeps no other back. A write that its disk refuses has failed.
 ///
 /// `NoMemory`, also where the server found none for the end of a write, [`TURNS`](crate::TURNS) times;
-/// `WrongSeat`, the seat isn't one of this server, or is stale; `TurnsSpent`, the gate has
-/// refused a write [`TURNS`](crate::TURNS) times, and that write has failed.
+/// `WrongSeat`, the seat isn't one of this server, or is stale; `TurnsSpent`, the gate has refused all writes in
+/// hand [`TURNS`](crate::TURNS) times, and these have failed. Any other fault is the server's last answer to the seat.
 pub fn run_worker<R: Wait, N: Notes + Drop, D: Disk, G: Gate>(
     rt: &R,
     alloc: Global,
@@ -46,7 +48,7 @@ pub fn run_worker<R: Wait, N: Notes + Drop, D: Disk, G: Gate>(
 ) -> Result<Seat, (Seat, Fault)>
     requires { 1 ≤ length files.now }
     ensures worked { IfOk result (HasWorked seat) }
-    ensures refused { IfErr result (λ back. IsSeatOf seat back.0) }
+    ensures refused { IfErr result (λ back. HasFailed seat back.0 back.1) }
 {
     let mut seat = seat;
     match work(rt, alloc, cell, &mut seat, files, gate) {
@@ -66,7 +68,7 @@ fn work<R: Wait, N: Notes + Drop, D: Disk, G: Gate>(
 ) -> Result<(), Fault>
     requires { 1 ≤ length files.now }
     ensures worked { IfOk result (λ _. HasWorked seat.old seat.new) }
-    ensures refused { IfErr result (λ _. IsSeatOf seat.old seat.new) }
+    ensures refused { IfErr result (HasFailed seat.old seat.new) }
 {
     let Ok(mut desk) = Desk::new(alloc) else {
         return Err(Fault::NoMemory);
@@ -97,7 +99,7 @@ fn go_round<R: Wait, N: Notes + Drop, D: Disk, G: Gate>(
     let first = seat.number() as usize;
     for step in 0..files.len() {
         let place = (first + step) % files.len();
-        match stay(rt, cell, seat, job_at(place), &files[place], gate, desk)? {
+        match stay(rt, cell, seat, job_at(place), files, gate, desk)? {
             TurnEnd::Wrote => round = Round::Busy,
             TurnEnd::Later => round = round.or_idle(),
             TurnEnd::Never => {}
@@ -107,20 +109,20 @@ fn go_round<R: Wait, N: Notes + Drop, D: Disk, G: Gate>(
     Ok(round)
 }
 
-/// Takes turns of a job with this file, until it has no write for now, or [`STAY`] were carried out.
+/// Takes turns of a job, until it has no write for now, or [`STAY`] were taken.
 fn stay<R: Wait, N: Notes + Drop, D: Disk, G: Gate>(
     rt: &R,
     cell: &Mutex<ServerCell<N>>,
     seat: &mut Seat,
     job: JobNo,
-    file: &Mutex<D>,
+    files: &[Mutex<D>],
     gate: &G,
     desk: &mut Desk,
 ) -> Result<TurnEnd, Fault>
     ensures { HasTaken seat.old seat.new result }
 {
     for turn in 0..STAY {
-        match take(rt, cell, seat, job, file, gate, desk)? {
+        match take(rt, cell, seat, job, files, gate, desk)? {
             TurnEnd::Wrote => {}
             TurnEnd::Later if turn > 0 => return Ok(TurnEnd::Wrote),
             other => return Ok(other),

@@ -3,82 +3,23 @@
 
 mod gates;
 mod hands;
+mod jobs;
 mod site;
 mod step;
 
 use fc_base::Fault;
 use gates::Lets;
 use hands::Ended;
+use jobs::{
+    EIGHT, EIGHT_WRITES, FIRST, NEITHER, NO_WRITE, ONE, SOUND, THREE, THREE_OF_FOUR, TWICE,
+    TWO_JOBS, TWO_PASSES, TWO_WRITES, UNLIKE_JOBS,
+};
 use site::{NONE, Site, Workers};
 use std::alloc::Global;
 use std::sync::Wait;
 use std::test::Fail;
 use std::thread::Threads;
-use step::{Step, Taken};
-
-/// Two writes of a sector each, to blocks 0 and 1, both of which may be in flight.
-const TWO_WRITES: &[u8] = b"[a]\nrw=write\nbs=512\nsize=1k\niodepth=2\n";
-
-/// Two jobs of two writes each, one in flight.
-const TWO_JOBS: &[u8] = b"[global]\nrw=write\nbs=512\nsize=1k\n[a]\n[b]\n";
-
-/// Two passes over two blocks, two writes in flight: what the second pass writes has to be found.
-const TWO_PASSES: &[u8] = b"[a]\nrw=write\nbs=512\nsize=1k\nio_size=2k\niodepth=2\n";
-
-/// Two jobs that have nothing in common: the second writes larger blocks, in another order, of one byte.
-const UNLIKE_JOBS: &[u8] = b"\
-[a]
-rw=write
-bs=512
-size=1k
-[b]
-rw=randwrite
-bs=1k
-size=3k
-verify=pattern
-verify_pattern=0x5a
-";
-
-/// Two writes, which were found on their disk.
-const SOUND: Taken = Taken {
-    issued: 2,
-    completed: 2,
-    checked: 2,
-    faults: 0,
-};
-
-/// Two writes, of which the second isn't done.
-const FIRST: Taken = Taken {
-    completed: 1,
-    checked: 1,
-    ..SOUND
-};
-
-/// Two writes to each of two blocks, of which the later were found.
-const TWICE: Taken = Taken {
-    issued: 4,
-    completed: 4,
-    ..SOUND
-};
-
-/// Three writes to three blocks.
-const THREE: Taken = Taken {
-    issued: 3,
-    completed: 3,
-    checked: 3,
-    faults: 0,
-};
-
-/// One write, which was found on its disk.
-const ONE: Taken = Taken { issued: 1, ..FIRST };
-
-/// A write that isn't done.
-const NO_WRITE: Taken = Taken {
-    issued: 1,
-    completed: 0,
-    checked: 0,
-    faults: 0,
-};
+use step::Step;
 
 /// How many workers a server has, which call of each job's disk fails, which writes the gate lets through, and
 /// what happens.
@@ -99,7 +40,7 @@ const ALONE: Story = Story {
     steps: &[],
 };
 
-static STORIES: [Story; 11] = [
+static STORIES: [Story; 15] = [
     // Its seat has applied two writes, their ends, and that the job has no more.
     Story {
         name: "two writes",
@@ -133,14 +74,63 @@ static STORIES: [Story; 11] = [
         ],
         ..ALONE
     },
+    // Four are asked for and told, twice over, and then it has no more.
+    Story {
+        name: "eight writes, four at once",
+        lets: Lets::All,
+        steps: &[
+            Step::Begin(EIGHT_WRITES),
+            Step::Works(Ended::Finished, 17),
+            Step::Trigger,
+            Step::Takes(0, EIGHT),
+        ],
+        ..ALONE
+    },
+    Story {
+        name: "the second of four fails",
+        failing: &[1],
+        lets: Lets::All,
+        steps: &[
+            Step::Begin(EIGHT_WRITES),
+            Step::Works(Ended::Stopped, 9),
+            Step::Trigger,
+            Step::Takes(0, THREE_OF_FOUR),
+        ],
+        ..ALONE
+    },
+    // The first is in hand until the second is done; then it is carried out with the next four.
+    Story {
+        name: "the first of four waits for the second",
+        lets: Lets::Crosswise,
+        steps: &[
+            Step::Begin(EIGHT_WRITES),
+            Step::Works(Ended::Finished, 17),
+            Step::Trigger,
+            Step::Takes(0, EIGHT),
+        ],
+        ..ALONE
+    },
+    // It asks for the second, since its gate refuses the first, and is told twice that there is no third.
+    Story {
+        name: "one worker, whose first write waits for the second",
+        lets: Lets::Crosswise,
+        steps: &[
+            Step::Begin(TWO_WRITES),
+            Step::Works(Ended::Finished, 6),
+            Step::Trigger,
+            Step::Takes(0, SOUND),
+        ],
+        ..ALONE
+    },
+    // It asks for the second, too, and is told that there is no third; both have failed then.
     Story {
         name: "a gate that never opens",
         lets: Lets::Below(0),
         steps: &[
             Step::Begin(TWO_WRITES),
-            Step::Works(Ended::Refused(90), 2),
+            Step::Works(Ended::Refused(90), 5),
             Step::Trigger,
-            Step::Takes(0, NO_WRITE),
+            Step::Takes(0, NEITHER),
         ],
         ..ALONE
     },
@@ -149,7 +139,7 @@ static STORIES: [Story; 11] = [
         lets: Lets::Below(1),
         steps: &[
             Step::Begin(TWO_WRITES),
-            Step::Works(Ended::Refused(90), 4),
+            Step::Works(Ended::Refused(90), 5),
             Step::Trigger,
             Step::Takes(0, FIRST),
         ],

@@ -1,0 +1,44 @@
+-- Each fleet can begin.
+use Rattle.std.proofs.Common.{refl, ℕ, arith, Bool, true, false, [], ◌∷◌}
+use Rattle.disk_model.specs.declared.left.Left.TheVariants.{Saved}
+use Rattle.server_core.specs.Hearing.{Restart as ServerRestart}
+use Rattle.client_core.specs.Note.{IsNoted, SaysWhatIsWritten, spelling}
+use Rattle.mirror_core.specs.History as mirror
+use Rattle.net_world.specs.Setup.{Setup}
+use Rattle.net_world.specs.Trace.{opening_of, client_opening}
+use Rattle.filters.specs.ClientSteps.{noted}
+use Rattle.filters.specs.ServerAt.{no_checks, noted as server_noted}
+use Rattle.filters.specs.ServerLives.{next_boot}
+use Rattle.filter_traces.specs.Fleets.{FleetAt, first_of}
+use Rattle.filter_traces.specs.Laws.{FleetsCanBegin}
+
+-- What the client's first note says.
+is_noted : (servers : ℕ) (has : Bool)
+    → IsNoted (noted (client_opening (record { servers = servers; mirror = has })) (first_of (record { servers = servers; mirror = has }) ∷ []))
+is_noted servers true = record { generation = omega arith; runs = omega arith; attempts = omega arith; count = omega arith; states = tt; keys = refl }
+is_noted servers false = record { generation = omega arith; runs = omega arith; attempts = omega arith; count = omega arith; states = tt; keys = refl }
+
+abbrev begins : Setup → FleetAt
+begins w = record {
+  client = record { list = first_of w ∷ []; note = spelling (noted (client_opening w) (first_of w ∷ [])) };
+  servers = λ s. record { list = ServerRestart Saved ∷ []; note = next_boot (server_noted (opening_of s) []); checks = no_checks };
+  mirror = record { list = mirror.Restart ∷ []; note = [] };
+  sent = [];
+}
+
+pub fleets_can_begin : SaysWhatIsWritten → FleetsCanBegin
+fleets_can_begin written w few = (
+  begins w,
+  record {
+    few = few;
+    servers = λ s. refl;
+    mirror = refl;
+    client = record {
+      numbers = [];
+      list_is = refl;
+      may = tt;
+      says = written (noted (client_opening w) (first_of w ∷ [])) (is_noted w.servers w.mirror);
+      sent_is = refl;
+    };
+  },
+)
