@@ -1,7 +1,7 @@
 -- How the answers of a server leave a worker's seat.
-use Rattle.std.proofs.Common.{◌≡◌, refl, sym, ◌∙◌, ap, arith, ◌+◌, ◌≤◌, Bool, true, false, Some, Result, Ok, Err}
+use Rattle.std.proofs.Common.{◌≡◌, refl, sym, ◌∙◌, ap, arith, ◌+◌, Bool, true, false, Some, Result, Ok, Err}
 use Rattle.fc_base.specs.declared.fault.Fault.{Fault}
-use Rattle.fc_base.specs.declared.fault.Fault.TheVariants.{NoMemory, WrongSeat, NodeOff, OldBoot}
+use Rattle.fc_base.specs.declared.fault.Fault.TheVariants.{NoMemory, WrongSeat, OldBoot}
 use Rattle.node_history.specs.declared.answer.Answer.{Answer}
 use Rattle.node_history.specs.declared.answer.Said.{Said}
 use Rattle.node_history.specs.declared.answer.CallerAnswer.{CallerAnswer}
@@ -68,28 +68,7 @@ applied old seat task new after result h = by_seat (is_right old seat) h
     by_seat false w = left_as_it_was seat after result WrongSeat w.1 refl w.0.seat_is
     by_seat true w = by_answer (lacks_memory w.0) w.0 w.1 w.2
 
--- ---- an answer that was entered
-
--- What is told was entered: neither memory ran out, nor was the seat a wrong one.
-abbrev pub is_entered : Result CallerAnswer Fault → Bool
-is_entered (Ok told) = true
-is_entered (Err NodeOff) = true
-is_entered (Err OldBoot) = true
-is_entered (Err fault) = false
-
--- A call whose answer was entered leaves the seat with one event more.
-pub entered : (old : ServerLog) (seat : Seated) (task : Task) (new : ServerLog) (after : Seated) (result : Result CallerAnswer Fault)
-    → Applies old seat task new after result → is_entered result ≡ true → seat.applied + 1 ≤ after.applied
-entered old seat task new after result h sure = by_seat (is_right old seat) h
-  where
-    by_answer : (lacks : Bool) (answer : Result Said Fault) → result ≡ told_by answer → Enters lacks old seat task new after answer
-        → seat.applied + 1 ≤ after.applied
-    by_answer true answer told e = absurd (let no : false ≡ true = sym (ap is_entered (told ∙ ap told_by e.1)) ∙ sure in cc)
-    by_answer false answer told e = rw e.seat_is (omega arith)
-
-    by_seat : (right : Bool) → AppliesBy right old seat task new after result → seat.applied + 1 ≤ after.applied
-    by_seat false w = absurd (let no : false ≡ true = sym (ap is_entered w.1) ∙ sure in cc)
-    by_seat true w = by_answer (lacks_memory w.0) w.0 w.1 w.2
+-- ---- the end of a write
 
 -- What is told says that an end was taken.
 abbrev pub takes_by : Result CallerAnswer Fault → Bool

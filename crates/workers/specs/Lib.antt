@@ -1,3 +1,4 @@
 pub mod Block
+pub mod Counts
 pub mod Seats
 pub mod Turns

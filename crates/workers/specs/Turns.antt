@@ -37,11 +37,6 @@ abbrev pub is_on : Asked → Bool
 is_on asks.Off = false
 is_on _ = true
 
--- How many writes were issued by this answer.
-abbrev pub writes_of : Asked → ℕ
-writes_of (asks.Write order) = 1
-writes_of _ = 0
-
 -- The write is the one that the server issued; and no answer is a refusal.
 abbrev pub IsIssued : Asked → Answer → Type 0
 IsIssued (asks.Write order) answer = answer ≡ Issued (Write order.ticket)

@@ -1,12 +1,14 @@
 //! What a worker asks of its server, and tells it, each under the server's lock.
 
-ghost use Rattle.std.specs.Prelude.{◌≡◌, ◌≤◌, ◌+◌, true, length, Result, Ok, IfOk, IfSome};
+ghost use Rattle.std.specs.Prelude.{◌≡◌, ◌≤◌, ◌<◌, ◌+◌, nat_lt, true, length, Result, Ok, Err, IfOk, OnErr, IfSome};
 ghost use Rattle.fc_base.specs.declared.fault.Fault.{Fault};
 ghost use Rattle.node_history.specs.declared.answer.CallerAnswer.{CallerAnswer};
 ghost use Rattle.server_cell.specs.declared.task.Task.TheVariants.{Issue as IssueTask, WriteDone};
 ghost use Rattle.server_cell.specs.Calls.{Applies};
+ghost use Rattle.workers.specs.Counts.{AsksOne, AsksEach, TellsOne, TellsEach, TellsAndAsks};
 ghost use Rattle.workers.specs.Seats.{says_final};
-ghost use Rattle.workers.specs.Turns.{is_last_asked, is_on, writes_of, IsIssued, HasAsked, HasTold, HasToldAll, AreSettings, HasSettings};
+ghost use Rattle.workers.specs.declared.server.TheConstants.{HAND as MOST};
+ghost use Rattle.workers.specs.Turns.{is_last_asked, is_on, IsIssued, HasAsked, HasTold, HasToldAll, AreSettings, HasSettings};
 
 use crate::ended::Ended;
 use crate::gate::TURNS;
@@ -81,7 +83,9 @@ pub(crate) fn tell_and_ask<R: Wait, N: Notes + Drop>(
     ensures asked { HasAsked seat.old seat.new result }
     ensures told { told.new ≤ length ended.now }
     ensures all_told { IfOk result (λ asked. is_on asked ≡ true → told.new ≡ length ended.now) }
-    ensures entered { seat.old.applied + told.new ≤ seat.new.applied + told.old }
+    ensures counts { TellsAndAsks (nat_lt (length given.old.items) MOST)
+        (seat.old.applied + told.new + length given.new.items)
+        (seat.new.applied + told.old + length given.old.items) result }
 {
     let asked = tell_all_and_ask(&mut lock(rt, cell), seat, ended, told, job, given);
     if asked != Err(Fault::NoMemory) {
@@ -109,7 +113,10 @@ fn tell_all_and_ask<N: Notes + Drop>(
     ensures asked { HasAsked seat.old seat.new result }
     ensures told { told.new ≤ length ended.now }
     ensures all_told { IfOk result (λ asked. is_on asked ≡ true → told.new ≡ length ended.now) }
-    ensures entered { seat.old.applied + told.new ≤ seat.new.applied + told.old }
+    ensures counts { TellsAndAsks (nat_lt (length given.old.items) MOST)
+        (seat.old.applied + told.new + length given.new.items)
+        (seat.new.applied + told.old + length given.old.items) result }
+    ensures none_asked { OnErr result (length given.new.items ≡ length given.old.items) }
 {
     if tell_all(server, seat, ended, told)? {
         Ok(ask_for_some(server, seat, job, given))
@@ -130,8 +137,7 @@ fn tell_all<N: Notes + Drop>(
     ensures seat { HasToldAll seat.old seat.new result }
     ensures told { told.new ≤ length ended.now }
     ensures all { result ≡ Ok true → told.new ≡ length ended.now }
-    ensures each { result ≡ Ok true → seat.new.applied + told.old ≡ seat.old.applied + told.new }
-    ensures entered { seat.old.applied + told.new ≤ seat.new.applied + told.old }
+    ensures counts { TellsEach (seat.old.applied + told.new) (seat.new.applied + told.old) result }
 {
     for at in *told..ended.len() {
         if !end_write(server, seat, &ended[at])? {
@@ -151,7 +157,8 @@ fn ask_for_some<N: Notes + Drop>(
     given: &mut Vec<Order>,
 ) -> Asked
     ensures asked { HasAsked seat.old seat.new (Ok result) }
-    ensures kept { seat.old.applied + length given.new.items ≤ seat.new.applied + length given.old.items }
+    ensures counts { AsksEach (nat_lt (length given.old.items) MOST)
+        (seat.old.applied + length given.new.items) (seat.new.applied + length given.old.items) result }
 {
     let (mut last, mut share) = (Asked::Later, HAND);
     for count in 0..HAND {
@@ -187,7 +194,7 @@ fn issue<N: Notes + Drop>(server: &mut ServerCell<N>, seat: &mut Seat, job: JobN
     ensures asks { (answer : Result CallerAnswer Fault)
         × Applies server.old seat.old (IssueTask job) server.new seat.new answer }
     ensures seat { HasAsked seat.old seat.new (Ok result) }
-    ensures entered { seat.old.applied + writes_of result ≤ seat.new.applied }
+    ensures one { AsksOne seat.old.applied seat.new.applied result }
     ensures settings { HasSettings server.new job result }
 {
     match server.apply(seat, Task::Issue(job)) {
@@ -233,7 +240,8 @@ pub(crate) fn tell<R: Wait, N: Notes + Drop>(
     seat: &mut Seat,
     ended: &Ended,
 ) -> Result<bool, Fault>
-    ensures { HasTold seat.old seat.new result }
+    ensures seat { HasTold seat.old seat.new result }
+    ensures one { TellsOne seat.old.applied seat.new.applied result }
 {
     for _ in 0..TURNS {
         let told = end_write(&mut lock(rt, cell), seat, ended);
@@ -255,7 +263,7 @@ fn end_write<N: Notes + Drop>(
         × Applies server.old seat.old
         (WriteDone ended.now.ticket ended.now.end) server.new seat.new answer }
     ensures seat { HasTold seat.old seat.new result }
-    ensures one { result ≡ Ok true → seat.new.applied ≡ seat.old.applied + 1 }
+    ensures one { TellsOne seat.old.applied seat.new.applied result }
 {
     match server.apply(seat, Task::WriteDone(*ended.ticket(), ended.end())) {
         Ok(_) | Err(Fault::OldBoot) => Ok(true),

@@ -1,9 +1,17 @@
-use Rattle.std.specs.Prelude.{◌≤◌, ◌+◌, Ok, length}
+use Rattle.std.specs.Prelude.{◌≡◌, ◌+◌, nat_lt, true, Ok, length}
+use Rattle.workers.specs.declared.server.Asked.TheVariants.{Later}
+use Rattle.workers.specs.declared.server.TheConstants.{HAND}
+use Rattle.workers.specs.Counts.{is_write}
 use Rattle.workers.specs.Turns.{HasAsked}
 use Rattle.workers.proofs.server.ask_for_some.Given as goal
 
 abbrev pub invariant-loop-count : goal.invariant-loop-count
 invariant-loop-count g l = record {
   seat : HasAsked l.fn.seat l.seat (Ok l.last);
-  kept : l.fn.seat.applied + length l.given.items ≤ l.seat.applied + length l.fn.given.items;
+  each : l.seat.applied + length l.fn.given.items ≡ l.fn.seat.applied + length l.given.items;
+  writes : is_write l.last ≡ nat_lt 0 l.count;
+  first : l.count ≡ 0 → l.last ≡ Later;
+  share : l.count ≡ 0 → l.share ≡ HAND;
+  none : l.count ≡ 0 → length l.given.items ≡ length l.fn.given.items;
+  place : nat_lt 0 l.count ≡ true → nat_lt (length l.fn.given.items) HAND ≡ true;
 }

@@ -1,4 +1,4 @@
-use Rattle.std.specs.Prelude.{◌≡◌, ◌≤◌, ◌+◌}
+use Rattle.std.specs.Prelude.{◌≡◌, ◌+◌, length}
 use Rattle.workers.specs.Seats.{IsSeatOf}
 use Rattle.workers.proofs.server.tell_and_ask.Given as goal
 
@@ -6,5 +6,6 @@ abbrev pub invariant-loop-at : goal.invariant-loop-at
 invariant-loop-at g l = record {
   seat : IsSeatOf l.fn.seat l.seat;
   told : l.told ≡ l.at;
-  entered : l.fn.seat.applied + l.told ≤ l.seat.applied + l.fn.told;
+  each : l.seat.applied + l.fn.told ≡ l.fn.seat.applied + l.at;
+  given : length l.given.items ≡ length l.fn.given.items;
 }
