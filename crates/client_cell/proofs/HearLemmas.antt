@@ -22,14 +22,14 @@ use Rattle.client_core.specs.History as history
 use Rattle.client_core.specs.History.{Opening}
 use Rattle.client_core.specs.Laws.{PacketsAreInRange}
 use Rattle.client_core.specs.Ranges.{OpensInRange, CameInRange}
-use Rattle.client_core.specs.Hearing.{FrameEntry, packets_heard}
+use Rattle.client_core.specs.Hearing.{FrameEntry, packets_heard, is_up}
 use Rattle.client_core.specs.FrameAnswers.{answered_entry, entry_heard}
 use Rattle.client_core.specs.FrameEnds.{StandsFor, most_packets}
 use Rattle.node_history.specs.declared.answer.CallerAnswer.{CallerAnswer}
 use Rattle.node_history.specs.declared.came.Came.{Came}
 use Rattle.node_history.specs.declared.logged.Logged.{Logged}
 use Rattle.node_history.specs.Rules.{Meets}
-use Rattle.node_history.specs.ClientRules.{ask_of, core, rules, is_up}
+use Rattle.node_history.specs.ClientRules.{ask_of, core, rules}
 use Rattle.node_history.specs.AtHub.{is_left_out, told_at, Hears, Comes}
 use Rattle.node_history.specs.Calls.{HasWhy, IsWhyNot}
 use Rattle.node_history.specs.ClientKind.{client_kind}

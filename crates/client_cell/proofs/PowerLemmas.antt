@@ -18,13 +18,14 @@ use Rattle.client_core.specs.declared.input.Input.TheVariants as inputs
 use Rattle.client_core.specs.History as packets
 use Rattle.client_core.specs.History.{Opening}
 use Rattle.client_core.specs.Ranges.{IsInRange, CameInRange}
-use Rattle.client_core.specs.Hearing.{FrameEntry, Met, packets_heard, heard_at, rules as hearing}
+use Rattle.client_core.specs.Hearing.{FrameEntry, Met, packets_heard, heard_at, rules as hearing, is_up}
 use Rattle.client_core.specs.FrameAnswers.{sense}
 use Rattle.client_core.specs.FrameEnds as ends
+use Rattle.client_core.specs.FrameEnds.{note_in}
 use Rattle.node_history.specs.declared.answer.Answer.TheVariants.{Plain}
 use Rattle.node_history.specs.declared.power.Power.TheVariants.{On}
 use Rattle.node_history.specs.ClientKind.{client_kind}
-use Rattle.node_history.specs.ClientRules.{is_up, answer_to}
+use Rattle.node_history.specs.ClientRules.{answer_to}
 use Rattle.node_history.specs.Failures.{Counts}
 use Rattle.node_history.specs.Moves.{StepEnds}
 use Rattle.node_history.proofs.StepLemmas.{Fits, answered_ends, unanswered_ends, faults_count}
@@ -115,6 +116,6 @@ sent_ends note o past e old client (Err fault) on said h f = unanswered note o p
 -- It counts a failed save.
 pub sent_counts : {T : Type 0} (note : T → Note) (o : Opening) (past : List FrameEntry) (e : Input) (old client : Client T)
     (sent : Result (List (List ℕ)) Fault) → steps.Ends (ends.steps note o) past e old client sent
-    → Counts false (note old.core.notes).failures (note client.core.notes).failures (reply_and_frames (outs_of sent))
+    → Counts false (note_in note old).failures (note_in note client).failures (reply_and_frames (outs_of sent))
 sent_counts note o past e old client (Ok sent) a = tt
 sent_counts note o past e old client (Err fault) f = faults_count (ends.steps note o) past e old client fault (sort_of fault) f

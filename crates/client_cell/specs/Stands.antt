@@ -6,6 +6,7 @@ use Rattle.client_core.specs.declared.input.Input.{Input}
 use Rattle.client_core.specs.declared.client.Client.{Client}
 use Rattle.client_core.specs.History.{Opening}
 use Rattle.client_core.specs.Hearing.{FrameEntry}
+use Rattle.client_core.specs.FrameEnds.{note_in}
 use Rattle.messages.specs.declared.refusal.Act.TheVariants as acts
 use Rattle.node_history.specs.declared.answer.Answer.TheVariants.{Plain}
 use Rattle.node_history.specs.declared.answer.Said.{Said}
@@ -28,7 +29,7 @@ ways note o = powers.ways (client_kind note o)
 -- How often the device of its note has failed.
 abbrev pub failures_of : {T : Type 0} → (T → Note) → Power (Client T) T → ℕ
 failures_of note power =
-    powers.failures_of (λ client. (note client.core.notes).failures)
+    powers.failures_of (λ client. (note_in note client).failures)
     (λ notes. (note notes).failures) power
 
 -- What a step says to its caller, and the frames that it sends. A client asks nothing of its

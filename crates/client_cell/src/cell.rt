@@ -1,8 +1,7 @@
 //! The client under its lock.
 
 ghost use Rattle.std.specs.Prelude.{◌≡◌, ◌≤◌, [], true, false, List, IfOk, IfErr, IfSome, IfNone, reverse};
-ghost use Rattle.client_core.specs.Hearing.{FrameEntry};
-ghost use Rattle.node_history.specs.ClientRules.{is_up};
+ghost use Rattle.client_core.specs.Hearing.{FrameEntry, is_up};
 
 mod apply;
 mod hear;

@@ -3,10 +3,10 @@
 ghost use Rattle.std.specs.Prelude.{◌≡◌, ◌≤◌, true, false, List};
 ghost use Rattle.client_core.specs.declared.input.Input.TheVariants as inputs;
 ghost use Rattle.client_core.specs.History.{Opening};
-ghost use Rattle.client_core.specs.FrameEnds.{StandsFor};
-ghost use Rattle.client_core.specs.Hearing.{FrameEntry};
+ghost use Rattle.client_core.specs.FrameEnds.{StandsFor, note_in};
+ghost use Rattle.client_core.specs.Hearing.{FrameEntry, is_up};
 ghost use Rattle.node_history.specs.declared.power.Power.TheVariants.{On};
-ghost use Rattle.node_history.specs.ClientRules.{ask_of, is_up};
+ghost use Rattle.node_history.specs.ClientRules.{ask_of};
 ghost use Rattle.node_history.specs.Failures.{Counts};
 ghost use Rattle.node_history.specs.Moves.{StepEnds, TaskEnds};
 ghost use Rattle.client_cell.specs.Tasks.{came_by, came_in, input_in, input_of, loads_note};
@@ -113,7 +113,7 @@ fn ask<N: Notes + Drop>(client: &mut Client<N>, request: &ClientRequest) -> Resu
         StepEnds (ways N.note o) past (input_of request.now) (On client.new)
         (reply_and_frames result) }
     ensures count { (o : Opening) (past : List FrameEntry) → StandsFor N.note client.old o past →
-        Counts false (N.note client.old.core.notes).failures (N.note client.new.core.notes).failures
+        Counts false (note_in N.note client.old).failures (note_in N.note client.new).failures
         (reply_and_frames result) }
 {
     match request {

@@ -43,7 +43,7 @@ use Rattle.client_core.specs.Bounds.{AreShort, FramesAreShort}
 use Rattle.client_core.specs.Bounds as bounds
 use Rattle.client_core.specs.Hearing.{FrameEntry, Met, rules, arrival, heard_at, packets_heard, assembly}
 use Rattle.client_core.specs.FrameAnswers.{sense, refusal, due, answered_entry, entry_heard}
-use Rattle.client_core.specs.FrameEnds.{StandsFor, most_packets, steps}
+use Rattle.client_core.specs.FrameEnds.{StandsFor, most_packets, steps, note_in}
 
 came_with : (c : Call) (left : Left) (past : List history.Entry) → IsInRange c → CameInRange past → CameInRange (history.Met c left ∷ past)
 came_with (calls.Begin text) left past b h = h
@@ -119,9 +119,9 @@ heard_answers note o past e c old new sent short brings is a k =
         short = λ i h. subst (λ n. AreShort n sent) (sym (ap (most_in o list) is) ∙ most_is o past e)
             (subst (AreShort (bounds.most_packets o list c)) (sym a.sends) (short o list c left i (came_with c left list brings h)));
       };
-      leaves = subst (λ d. LeavesNote d (spelling (words.words_noted o (packets_heard o (answered_entry o past e ∷ past)))) (note old.core.notes)
-          (note new.core.notes)) (sym (ap (heard_or None (words.due o list)) is))
-          (subst (λ (l : List history.Entry). LeavesNote (words.due o list c) (spelling (words.words_noted o l)) (note old.core.notes) (note new.core.notes))
+      leaves = subst (λ d. LeavesNote d (spelling (words.words_noted o (packets_heard o (answered_entry o past e ∷ past)))) (note_in note old)
+          (note_in note new)) (sym (ap (heard_or None (words.due o list)) is))
+          (subst (λ (l : List history.Entry). LeavesNote (words.due o list c) (spelling (words.words_noted o l)) (note_in note old) (note_in note new))
           (sym (ap (λ y. packets_heard o (y ∷ past)) same_entry ∙ heard_is o past e left (Hears c) is)) a.leaves);
       stands = subst (λ y. StandsFor note new o (y ∷ past)) (sym same_entry)
           (heard_stands note o past e c left new is a.stands
@@ -142,7 +142,7 @@ heard_faults note o past e c old new fault is w sorts.Save h k = record {
   makes_one = ap (heard_or None (words.due o (packets_heard o past))) is ∙ h.makes_one;
   left = h.left;
   lost = h.lost;
-  bytes_are = subst (λ (l : List history.Entry). (note new.core.notes).bytes ≡ bytes_left h.left (spelling (words.words_noted o l)) (note old.core.notes).bytes)
+  bytes_are = subst (λ (l : List history.Entry). (note_in note new).bytes ≡ bytes_left h.left (spelling (words.words_noted o l)) (note_in note old).bytes)
       (sym (heard_is o past e h.left (Hears c) is)) h.bytes_are;
   stands = heard_stands note o past e c h.left new is h.stands
       (λ on. absurd (off_lost (words.is_on (packets_heard o past)) (is_lost h.left) h.lost (sym (on_is o past e c h.left is) ∙ on)));
@@ -234,8 +234,8 @@ kept_ends note o past q old is w =
             (sym (entry_is (rules o) (heard_at o past) (arrival e) left ∙ ap (entry_by (rules o) left) is));
         short = λ i h. record { few = omega arith; short = omega arith };
       };
-      leaves = subst (λ d. LeavesNote d (spelling (words.words_noted o (packets_heard o (answered_entry o past e ∷ past)))) (note old.core.notes)
-          (note old.core.notes)) (sym (ap (heard_or None (words.due o list)) is)) refl;
+      leaves = subst (λ d. LeavesNote d (spelling (words.words_noted o (packets_heard o (answered_entry o past e ∷ past)))) (note_in note old)
+          (note_in note old)) (sym (ap (heard_or None (words.due o list)) is)) refl;
       stands = silent_stands note o past e Keeps left old (rows_after_piece old.pieces q) is refl w
           (λ r. ap (λ x. rows_after_piece x q) r ∙ sym (taken_by (rules o) (heard_at o past) q left Keeps is));
     }

@@ -23,6 +23,10 @@ use Rattle.client_core.specs.Stands as whole
 use Rattle.client_core.specs.Hearing.{FrameEntry, Met, Restart, Renew, packets_heard, assembly}
 use Rattle.client_core.specs.FrameAnswers.{sense, frames, refusal, due, answered_entry}
 
+-- What a client's note says, by what is said of its notes.
+abbrev pub note_in : {T : Type 0} → (T → Note) → Client T → Note
+note_in note client = note client.core.notes
+
 -- A client stands for a list of frames where its core stands for the packets that are heard in it,
 -- and, while it is on, keeps what has come together of pieces.
 pub record StandsFor {T : Type 0} (note : T → Note) (client : Client T) (o : Opening)
@@ -50,7 +54,7 @@ pub record Sends (o : Opening) (past : List FrameEntry) (e : Input)
 abbrev pub steps : {T : Type 0} → (T → Note) → Opening →
     Steps (Client T) Input FrameEntry Addition (List (List ℕ))
 steps note o = record {
-  note = λ client. note client.core.notes;
+  note = λ client. note_in note client;
   StandsFor = λ past client. StandsFor note client o past;
   refusal = refusal o;
   due = due o;
@@ -65,7 +69,7 @@ steps note o = record {
 -- aren't empty. They stay as they were.
 pub record Opens {T : Type 0} (note : T → Note) (servers : ℕ) (mirror : Bool) (old : Note)
     (client : Client T) : Type 0 where
-  pub same : note client.core.notes ≡ old
+  pub same : note_in note client ≡ old
   pub some : mirror ≡ true → old.bytes ≢ []
   pub said : Noted
   pub says : Says old.bytes said
@@ -86,7 +90,7 @@ pub record BeginsAnew {T : Type 0} (note : T → Note) (servers g : ℕ) (old : 
     (client : Client T) : Type 0 where
   pub free : IsTrue (is_generation g)
   pub empty : old.bytes ≡ []
-  pub leaves : note client.core.notes ≡ record old { bytes = spelling (new_note g) }
+  pub leaves : note_in note client ≡ record old { bytes = spelling (new_note g) }
   pub stands :
       (o : Opening) (past : List FrameEntry) → o.servers ≡ servers →
       Says old.bytes (words.words_noted o (packets_heard o past)) →

@@ -32,7 +32,7 @@ impl<N: Notes> Client<N> {
     ghost use Rattle.client_core.specs.Outcomes.{outcome, is_settled};
     ghost use Rattle.client_core.specs.Reports.{reports};
     ghost use Rattle.client_core.specs.Hearing.{FrameEntry, packets_heard};
-    ghost use Rattle.client_core.specs.FrameEnds.{StandsFor, Restarts, Renews};
+    ghost use Rattle.client_core.specs.FrameEnds.{StandsFor, Restarts, Renews, note_in};
 
     /// Opens a client of so many servers over its note, and saves nothing. The notes come back where it
     /// can't: [`Fault::LoadFault`], the device failed; [`Fault::BadNote`], the bytes are no note, or with a
@@ -81,7 +81,7 @@ impl<N: Notes> Client<N> {
 
     /// The notes of a client that is taken off.
     pub fn off(self) -> N
-        ensures note { N.note result ≡ N.note self.core.notes }
+        ensures note { N.note result ≡ note_in N.note self }
         ensures says { (o : Opening) (past : List FrameEntry) → StandsFor N.note self o past →
             Says (N.note result).bytes (words_noted o (packets_heard o past)) }
     {
@@ -95,7 +95,7 @@ impl<N: Notes> Client<N> {
 
     /// The note that it keeps, as it is durable. Behind a failed save it is what that left.
     pub fn notes(&self) -> &N
-        ensures note { N.note result.now ≡ N.note self.now.core.notes }
+        ensures note { N.note result.now ≡ note_in N.note self.now }
         ensures says { (o : Opening) (past : List FrameEntry) → StandsFor N.note self.now o past →
             Says (N.note result.now).bytes (words_noted o (packets_heard o past)) }
     {

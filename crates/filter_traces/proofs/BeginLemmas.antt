@@ -1,22 +1,32 @@
 -- Each fleet can begin.
-use Rattle.std.proofs.Common.{refl, ℕ, arith, Bool, true, false, [], ◌∷◌}
+use Rattle.std.proofs.Common.{refl, sym, inr, ℕ, arith, Bool, true, false, [], ◌∷◌}
 use Rattle.disk_model.specs.declared.left.Left.TheVariants.{Saved}
 use Rattle.server_core.specs.Hearing.{Restart as ServerRestart}
 use Rattle.client_core.specs.Note.{IsNoted, SaysWhatIsWritten, spelling}
 use Rattle.mirror_core.specs.History as mirror
+use Rattle.mirror_core.specs.Note as mirror_note
 use Rattle.net_world.specs.Setup.{Setup}
 use Rattle.net_world.specs.Trace.{opening_of, client_opening}
+use Rattle.net_world.specs.Frames.{frames_sent}
 use Rattle.filters.specs.ClientSteps.{noted}
 use Rattle.filters.specs.ServerAt.{no_checks, noted as server_noted}
 use Rattle.filters.specs.ServerLives.{next_boot}
-use Rattle.filter_traces.specs.Fleets.{FleetAt, first_of}
+use Rattle.filter_traces.specs.Fleets.{FleetAt, IsFresh}
 use Rattle.filter_traces.specs.Laws.{FleetsCanBegin}
+use Rattle.filter_traces.proofs.TellLemmas.{first_of, first_is}
 
 -- What the client's first note says.
 is_noted : (servers : ℕ) (has : Bool)
     → IsNoted (noted (client_opening (record { servers = servers; mirror = has })) (first_of (record { servers = servers; mirror = has }) ∷ []))
 is_noted servers true = record { generation = omega arith; runs = omega arith; attempts = omega arith; count = omega arith; states = tt; keys = refl }
 is_noted servers false = record { generation = omega arith; runs = omega arith; attempts = omega arith; count = omega arith; states = tt; keys = refl }
+
+is_fresh : (servers : ℕ) (has : Bool) → IsFresh (first_of (record { servers = servers; mirror = has }) ∷ [])
+is_fresh servers true = tt
+is_fresh servers false = tt
+
+pub empty_mirror : mirror_note.Says [] mirror_note.blank
+empty_mirror = record { note = record { generation = omega arith; count = omega arith; states = tt; keys = refl }; spelled = inr (refl, refl) }
 
 abbrev begins : Setup → FleetAt
 begins w = record {
@@ -27,18 +37,21 @@ begins w = record {
 }
 
 pub fleets_can_begin : SaysWhatIsWritten → FleetsCanBegin
+unfolding frames_sent
 fleets_can_begin written w few = (
   begins w,
   record {
-    few = few;
-    servers = λ s. refl;
-    mirror = refl;
+    past = [];
+    legal = tt;
+    fits = record { few = few; steps = tt };
     client = record {
-      numbers = [];
-      list_is = refl;
-      may = tt;
+      list_is = sym (first_is w);
+      fresh = is_fresh w.servers w.mirror;
       says = written (noted (client_opening w) (first_of w ∷ [])) (is_noted w.servers w.mirror);
-      sent_is = refl;
     };
+    servers = λ s. record { older = []; list_is = refl; fresh = refl; saved = refl; checks = refl };
+    mirror = record { older = []; list_is = refl; fresh = refl; says = empty_mirror };
+    sent = refl;
   },
+  λ s. refl,
 )

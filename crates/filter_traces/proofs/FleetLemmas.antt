@@ -3,17 +3,13 @@ use Rattle.std.proofs.Common.{◌≡◌, refl, sym, ◌∙◌, ap, subst, ℕ, �
 use Rattle.std.specs.Prelude.{if◌then◌else◌}
 use Rattle.std.specs.List.{AllByRecursion}
 use Rattle.std.proofs.lemmas.Bool.{eqb-true}
-use Rattle.std.proofs.lemmas.Bool.Decides.{nat_tests}
 use Rattle.std.proofs.lemmas.List.{append_cancel_right}
 use Rattle.disk_model.specs.declared.left.Left.{Left}
-use Rattle.disk_model.specs.declared.left.Left.TheVariants.{Saved}
 use Rattle.messages.specs.declared.node.Node.TheVariants.{Server, Client, Mirror}
 use Rattle.messages.specs.Hearing.{Coming, heard}
 use Rattle.server_core.specs.History as server
-use Rattle.server_core.specs.Hearing.{FrameEntry as ServerEntry, Restart as ServerRestart}
+use Rattle.server_core.specs.Hearing.{FrameEntry as ServerEntry}
 use Rattle.client_core.specs.History as client
-use Rattle.client_core.specs.declared.input.Input.TheVariants as inputs
-use Rattle.client_core.specs.Hearing.{FrameEntry as ClientEntry, Met, Cut, Restart, Renew, Lose}
 use Rattle.mirror_core.specs.History as mirror
 use Rattle.net_world.specs.Setup.{Setup}
 use Rattle.net_world.specs.Frames.{FrameStep, at_server, at_client, trace_heard}
@@ -23,11 +19,11 @@ use Rattle.filters.specs.ClientLives.{ClientAt}
 use Rattle.filters.specs.ServerAt.{ServerAt}
 use Rattle.filters.specs.MirrorLives.{MirrorAt}
 use Rattle.filter_traces.specs.Members.{Happening}
-use Rattle.filter_traces.specs.Fleets.{FleetAt, FleetStep, AtClient, AtServer, AtMirror, ClientGoes, ServerGoes, MirrorGoes, Steps, Ran, MayCome, AllMayCome, FleetBegins, first_of}
+use Rattle.filter_traces.specs.Fleets.{FleetAt, FleetStep, AtClient, AtServer, AtMirror, ClientGoes, ServerGoes, MirrorGoes, Steps, Ran, FleetBegins}
 use Rattle.filter_traces.specs.Laws.{FleetsAreTraces, IsTraceOf, HoldsOneState}
 use Rattle.filter_traces.proofs.ReadableLemmas.{Laws}
-use Rattle.filter_traces.proofs.MayLemmas.{ClientMay, AllMay, ServerMay, MirrorMay}
-use Rattle.filter_traces.proofs.TellLemmas.{Told, IsTold, retold, none_told, reads_frame, client_adds_all, server_adds_all, mirror_adds_all, with_list}
+use Rattle.filter_traces.proofs.MayLemmas.{AllMay, ServerMay, MirrorMay}
+use Rattle.filter_traces.proofs.TellLemmas.{Told, IsTold, retold, reads_frame, client_adds_all, server_adds_all, mirror_adds_all, with_list, itself, own_list}
 use Rattle.filter_traces.proofs.ClientMayLemmas.{client_added}
 use Rattle.filter_traces.proofs.ServerMayLemmas.{server_added}
 use Rattle.filter_traces.proofs.MirrorMayLemmas.{mirror_added}
@@ -38,29 +34,18 @@ IsToldOf w at = Told w (λ s. (at.servers s).list) at.client.list at.mirror.list
 
 -- ---- the first moment
 
-number_may : (w : Setup) (past : List ClientEntry) (c : ClientEntry) → MayCome w past c → ClientMay w [] past c
-number_may w past (Met (inputs.Deliver f) left) h = absurd h
-number_may w past (Met (inputs.Begin text) left) h = tt
-number_may w past (Met (inputs.Trigger run act) left) h = tt
-number_may w past (Met (inputs.Stop run) left) h = tt
-number_may w past (Met (inputs.Verify run text) left) h = tt
-number_may w past (Met inputs.Tick left) h = tt
-number_may w past Cut h = tt
-number_may w past (Restart mirrored) h = h
-number_may w past (Renew g left) h = h
-number_may w past Lose h = h
-
-all_may : (w : Setup) (older more : List ClientEntry) → AllMayCome w older more → AllMay w [] older more
-all_may w older [] h = tt
-all_may w older (c ∷ more) h = (number_may w (more ++ older) c h.0, all_may w older more h.1)
-
-first_told : Laws → (w : Setup) (first : FleetAt) → FleetBegins w first → IsToldOf w first
-first_told laws w first begins =
-    retold w (λ s. ServerRestart Saved ∷ []) (λ s. (first.servers s).list) (begins.client.numbers ++ first_of w ∷ []) first.client.list
-    (mirror.Restart ∷ []) first.mirror.list _ first.sent
-    (λ s. ap (λ (at : ServerAt). at.list) (begins.servers s)) begins.client.list_is (ap (λ (at : MirrorAt). at.list) begins.mirror) begins.client.sent_is
-    (client_adds_all laws w (λ s. ServerRestart Saved ∷ []) (first_of w ∷ []) (mirror.Restart ∷ []) [] begins.client.numbers
-    (all_may w (first_of w ∷ []) begins.client.numbers begins.client.may) ([], none_told w))
+first_told : (w : Setup) (first : FleetAt) → FleetBegins w first → IsToldOf w first
+first_told w first begins = (
+  begins.past,
+  record {
+    legal = begins.legal;
+    fits = begins.fits.steps;
+    servers_are = λ s. sym (begins.servers s).list_is;
+    client_is = sym begins.client.list_is;
+    mirror_is = sym begins.mirror.list_is;
+    sent_is = sym begins.sent;
+  },
+)
 
 -- ---- a step
 
@@ -71,7 +56,7 @@ client_told laws w h at now few g told =
     let same : a.more ≡ g.goes.more = append_cancel_right a.more g.goes.more at.client.list (sym a.list_is ∙ g.goes.list_is) in
     retold w (λ s. (at.servers s).list) (λ s. (now.servers s).list) (g.goes.more ++ at.client.list) now.client.list at.mirror.list now.mirror.list _ now.sent
     (λ s. ap (λ (it : ServerAt). it.list) (g.servers_are s)) g.goes.list_is (ap (λ (it : MirrorAt). it.list) g.mirror_is) g.goes.sent_is
-    (client_adds_all laws w (λ s. (at.servers s).list) at.client.list at.mirror.list at.sent g.goes.more
+    (client_adds_all laws.own w (λ s. (at.servers s).list) at.client.list at.mirror.list at.sent g.goes.more
     (subst (AllMay w at.sent at.client.list) same a.may) told)
 
 mirror_told : Laws → (w : Setup) (h : Happening) (at now : FleetAt) → w.servers ≤ 8 → MirrorGoes w h at now → IsToldOf w at → IsToldOf w now
@@ -87,16 +72,6 @@ mirror_told laws w h at now few g told =
 never : false ≡ true → ⊥
 never h = cc
 
-itself : (s : ℕ) → (s == s) ≡ true
-itself s = grind (arith, nat_tests)
-
-own_list : (s r : ℕ) (servers : ℕ → List ServerEntry) → with_list s (servers s) servers r ≡ servers r
-own_list s r servers = by_test (s == r) refl
-  where
-    by_test : (b : Bool) → (s == r) ≡ b → (if b then servers s else servers r) ≡ servers r
-    by_test true e = ap servers (eqb-true s r e)
-    by_test false e = refl
-
 server_told : Laws → (w : Setup) (s : ℕ) (h : Happening) (at now : FleetAt) → w.servers ≤ 8 → ServerGoes w s h at now → IsToldOf w at → IsToldOf w now
 server_told laws w s h at now few g told =
     let reads = reads_frame laws w few lists at.client.list at.mirror.list at.sent told (Server s) h g.goes.reads in
@@ -106,7 +81,7 @@ server_told laws w s h at now few g told =
     at.mirror.list now.mirror.list _ now.sent
     (λ r. by_test r (s == r) refl) (ap (λ (it : ClientAt). it.list) g.client_is) (ap (λ (it : MirrorAt). it.list) g.mirror_is) g.goes.sent_is
     (server_adds_all w s lists at.client.list at.mirror.list (at.servers s).list at.sent g.goes.more (omega (arith, g.one_of, few))
-    (subst (AllByRecursion (ServerMay s at.sent)) same a.may) g.reports
+    (subst (AllByRecursion (ServerMay s at.sent)) same a.may)
     (retold w lists (with_list s (at.servers s).list lists) at.client.list at.client.list at.mirror.list at.mirror.list at.sent at.sent
     (λ r. own_list s r lists) refl refl refl told))
   where
@@ -129,9 +104,9 @@ step_told laws w (AtMirror h) at now few goes told = mirror_told laws w h at now
 -- ---- all steps
 
 told_of : Laws → (w : Setup) (first : FleetAt) → FleetBegins w first → (steps : List FleetStep) (now : FleetAt) → Ran w first steps now → IsToldOf w now
-told_of laws w first begins [] now is = subst (IsToldOf w) (sym is) (first_told laws w first begins)
+told_of laws w first begins [] now is = subst (IsToldOf w) (sym is) (first_told w first begins)
 told_of laws w first begins (step ∷ steps) now (at, ran, goes) =
-    step_told laws w step at now begins.few goes (told_of laws w first begins steps at ran)
+    step_told laws w step at now begins.fits.few goes (told_of laws w first begins steps at ran)
 
 -- The claims of all traces.
 pub record Claims : Type 0 where
@@ -168,5 +143,5 @@ holds laws claims w at t is =
 pub fleets_are_traces : Laws → Claims → FleetsAreTraces
 fleets_are_traces laws claims w first now steps begins ran =
     let t = told_of laws w first begins steps now ran in
-    let is = is_trace w now t.0 begins.few t.1 in
+    let is = is_trace w now t.0 begins.fits.few t.1 in
     record { trace = t.0; is = is; holds = holds laws claims w now t.0 is }

@@ -6,4 +6,7 @@ mod ServerMayLemmas
 mod MirrorMayLemmas
 mod FleetLemmas
 mod BeginLemmas
-mod DrawnLemmas
+mod NumberLemmas
+mod ServedLemmas
+mod ServedTraceLemmas
+mod AgainLemmas

@@ -13,9 +13,10 @@ use Rattle.client_core.specs.Laws.{generations}
 use Rattle.client_core.specs.Words.{words_noted}
 use Rattle.mirror_core.specs.History as mirror
 use Rattle.fc_base.specs.Counted.{has}
+use Rattle.fc_base.specs.Report.{is_report}
 use Rattle.messages.specs.Ranges.{is_generation}
 use Rattle.net_world.specs.Setup.{Setup}
-use Rattle.net_world.specs.Trace.{opening_of, client_opening, mirror_opening}
+use Rattle.net_world.specs.Trace.{client_opening}
 use Rattle.net_world.specs.Trace as packets
 use Rattle.net_world.specs.Frames.{FrameStep, to_of, OfServer, OfClient, OfMirror, trace_heard, MayHappen, is_allowed}
 use Rattle.net_world.specs.InRange.{FrameStepFits}
@@ -26,7 +27,6 @@ use Rattle.filters.specs.declared.kinds.Told.TheVariants as kinds
 use Rattle.filters.specs.Kinds.{told_numbered}
 use Rattle.filter_traces.specs.Members.{Happening, Answers, Ends, EndsWithin}
 use Rattle.filter_traces.specs.Members.{may_restart, may_renew}
-use Rattle.filter_traces.specs.Fleets.{ReportFits}
 
 -- ---- what is read
 
@@ -70,7 +70,7 @@ abbrev pub ServerMay : ℕ → List Frame → ServerEntry → Type 0
 ServerMay s sent (ServerMet (server_inputs.Deliver f) left) = GoesTo sent (Server s) f
 ServerMay s sent (ServerMet (server_inputs.Issue j) left) = Unit {0}
 ServerMay s sent (ServerMet (server_inputs.WriteDone ticket end) left) = Unit {0}
-ServerMay s sent (ServerMet (server_inputs.CheckDone boot a j report) left) = Unit {0}
+ServerMay s sent (ServerMet (server_inputs.CheckDone boot a j report) left) = IsTrue (is_report report)
 ServerMay s sent ServerCut = Unit {0}
 ServerMay s sent (ServerRestart left) = Unit {0}
 
@@ -138,13 +138,13 @@ server_happens s sent (ServerMet (server_inputs.CheckDone boot a j report) left)
 server_happens s sent ServerCut h = refl
 server_happens s sent (ServerRestart left) h = refl
 
-pub server_fits : (s : ℕ) (c : ServerEntry) → s < 8 → ReportFits c → FrameStepFits (OfServer s (server_coming c))
-server_fits s (ServerMet (server_inputs.Deliver f) left) l h = l
-server_fits s (ServerMet (server_inputs.Issue j) left) l h = (l, tt)
-server_fits s (ServerMet (server_inputs.WriteDone ticket end) left) l h = (l, tt)
-server_fits s (ServerMet (server_inputs.CheckDone boot a j report) left) l h = (l, h)
-server_fits s ServerCut l h = (l, tt)
-server_fits s (ServerRestart left) l h = (l, tt)
+pub server_fits : (s : ℕ) (sent : List Frame) (c : ServerEntry) → s < 8 → ServerMay s sent c → FrameStepFits (OfServer s (server_coming c))
+server_fits s sent (ServerMet (server_inputs.Deliver f) left) l h = l
+server_fits s sent (ServerMet (server_inputs.Issue j) left) l h = (l, tt)
+server_fits s sent (ServerMet (server_inputs.WriteDone ticket end) left) l h = (l, tt)
+server_fits s sent (ServerMet (server_inputs.CheckDone boot a j report) left) l h = (l, h)
+server_fits s sent ServerCut l h = (l, tt)
+server_fits s sent (ServerRestart left) l h = (l, tt)
 
 -- It still may where more was sent.
 pub client_may_still : (w : Setup) (sent more : List Frame) (past : List ClientEntry) (c : ClientEntry) → ClientMay w sent past c
@@ -169,6 +169,6 @@ pub server_may_still : (s : ℕ) (sent more : List Frame) (c : ServerEntry) → 
 server_may_still s sent more (ServerMet (server_inputs.Deliver f) left) h = (Contains-append_left sent more f h.0, h.1)
 server_may_still s sent more (ServerMet (server_inputs.Issue j) left) h = tt
 server_may_still s sent more (ServerMet (server_inputs.WriteDone ticket end) left) h = tt
-server_may_still s sent more (ServerMet (server_inputs.CheckDone boot a j report) left) h = tt
+server_may_still s sent more (ServerMet (server_inputs.CheckDone boot a j report) left) h = h
 server_may_still s sent more ServerCut h = tt
 server_may_still s sent more (ServerRestart left) h = tt

@@ -110,12 +110,12 @@ module _ (o : Opening) (s : ℕ) (sent : List Frame) where
 
   report_adds : (at : ServerAt) (j : ℕ) (u : UnderWay) (r : ReportParts) (end : Result (Unit {0}) Fault) (now : ServerAt) (answer : List ℕ)
       → TellsReport o at j u r end now answer → Added s sent at now
-  report_adds at j u r end now answer (inl tells) =
+  report_adds at j u r end now answer (fits, inl tells) =
       let before : ServerAt = with_check j None at in
       let e : Input = inputs.CheckDone u.boot u.attempt j r in
-      let a = tells_adds (refusal o at.list e) e before now end answer (λ left. tt) tells in
+      let a = tells_adds (refusal o at.list e) e before now end answer (λ left. fits) tells in
       record { more = a.more; list_is = a.list_is; may = a.may }
-  report_adds at j u r end now answer (inr (fault, memory, ends, (is, said))) =
+  report_adds at j u r end now answer (fits, inr (fault, memory, ends, (is, said))) =
       record { more = []; list_is = ap (λ (c : ServerAt). c.list) is; may = tt }
 
   goes_adds : (at : ServerAt) (j : ℕ) (u : UnderWay) (end : Result (Unit {0}) Fault) (now : ServerAt) (answer : List ℕ)

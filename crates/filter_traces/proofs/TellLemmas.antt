@@ -2,6 +2,7 @@
 use Rattle.std.proofs.Common.{◌≡◌, refl, sym, ◌∙◌, ap, subst, ℕ, ◌<◌, ◌≤◌, arith, Bool, true, false, ◌==◌, List, [], ◌∷◌, ◌++◌, Option, Some, None, append_assoc, append-nil}
 use Rattle.std.specs.Prelude.{All, IfSome, map, if◌then◌else◌}
 use Rattle.std.specs.List.{AllByRecursion, flat_map}
+use Rattle.std.proofs.lemmas.Bool.{eqb-true}
 use Rattle.std.proofs.lemmas.Bool.Decides.{nat_tests}
 use Rattle.std.proofs.lemmas.List.Elements.{All-contains}
 use Rattle.disk_model.specs.declared.left.Left.{Left}
@@ -14,7 +15,7 @@ use Rattle.server_core.specs.Hearing.{FrameEntry as ServerEntry, Restart as Serv
 use Rattle.server_core.specs.FrameAnswers.{frames as server_frames}
 use Rattle.client_core.specs.History as client
 use Rattle.client_core.specs.Packets.{packets as client_packets}
-use Rattle.client_core.specs.Hearing.{FrameEntry as ClientEntry, coming_of as client_coming, packets_heard}
+use Rattle.client_core.specs.Hearing.{FrameEntry as ClientEntry, Restart, Renew, coming_of as client_coming, packets_heard}
 use Rattle.mirror_core.specs.History as mirror
 use Rattle.mirror_core.specs.Packets.{packets as mirror_packets}
 use Rattle.messages.specs.Pieces.{frames_of}
@@ -23,6 +24,7 @@ use Rattle.net_world.specs.Setup.{Setup}
 use Rattle.net_world.specs.Trace.{opening_of, client_opening, mirror_opening}
 use Rattle.net_world.specs.Trace as packets
 use Rattle.net_world.specs.Frames.{FrameStep, OfServer, OfClient, OfMirror, of_server, of_client, of_mirror, trace_heard, at_server, at_client, frames_of_step, frames_sent, MayHappen, IsFrameTrace}
+use Rattle.net_world.specs.FrameLaws.{NodesHearTheirOwn}
 use Rattle.net_world.specs.InRange.{FrameStepFits}
 use Rattle.messages.specs.declared.node.Node.{Node}
 use Rattle.messages.specs.FrameBytes.{frame_at}
@@ -32,10 +34,13 @@ use Rattle.filters.specs.declared.kinds.Told.{Told as Kind}
 use Rattle.filters.specs.declared.kinds.Told.TheVariants as kinds
 use Rattle.filters.specs.Kinds.{told_numbered}
 use Rattle.filter_traces.specs.Members.{Happening, Answers, Ends, EndsWithin, WasSentTo, frame_bytes_if, frame_bytes_read, sent_since}
-use Rattle.filter_traces.specs.Fleets.{ReportFits, first_of}
 use Rattle.filter_traces.proofs.MayLemmas.{GoesTo, ClientMay, AllMay, ServerMay, MirrorMay, frame_if, frame_read, client_happens, client_allowed, server_happens, server_fits, mirror_happens, client_may_still, server_may_still, mirror_may_still}
 
 -- ---- a trace of these lists
+
+-- What comes first to the client of a world.
+abbrev pub first_of : Setup → ClientEntry
+first_of w = if w.mirror then Renew 1 Saved else Restart false
 
 -- A trace in which this came to each node, and these frames were sent.
 pub record IsTold (w : Setup) (servers : ℕ → List ServerEntry) (client : List ClientEntry) (mirrored : List mirror.Entry) (sent : List Frame)
@@ -70,7 +75,7 @@ sent_more : (w : Setup) (step : FrameStep) (past : List FrameStep) → frames_se
 unfolding frames_sent
 sent_more w step past = refl
 
-first_is : (w : Setup) → of_client w [] ≡ map client_coming (first_of w ∷ [])
+pub first_is : (w : Setup) → of_client w [] ≡ map client_coming (first_of w ∷ [])
 first_is w = by w.mirror refl
   where
     by : (b : Bool) → w.mirror ≡ b → of_client w [] ≡ map client_coming (first_of w ∷ [])
@@ -83,10 +88,10 @@ none_told w = record { legal = tt; fits = tt; servers_are = λ s. refl; client_i
 
 -- ---- something more comes to the client
 
-client_adds : Laws → (w : Setup) (servers : ℕ → List ServerEntry) (past : List ClientEntry) (mirrored : List mirror.Entry) (sent : List Frame) (c : ClientEntry)
+pub client_adds : NodesHearTheirOwn → (w : Setup) (servers : ℕ → List ServerEntry) (past : List ClientEntry) (mirrored : List mirror.Entry) (sent : List Frame) (c : ClientEntry)
     → ClientMay w sent past c → Told w servers past mirrored sent
     → Told w servers (c ∷ past) mirrored (sent ++ client_frames (client_opening w) past c)
-client_adds laws w servers past mirrored sent c may (t, told) = (
+client_adds own w servers past mirrored sent c may (t, told) = (
   OfClient (client_coming c) ∷ t,
   record {
     legal = (
@@ -106,23 +111,23 @@ client_adds laws w servers past mirrored sent c may (t, told) = (
 )
   where
     hears : packets.of_client w (trace_heard w t) ≡ packets_heard (client_opening w) past
-    hears = (laws.own w t).client ∙ ap (λ (list : List (Coming client.Entry Left)). (heard (at_client w) list).entries) told.client_is
+    hears = (own w t).client ∙ ap (λ (list : List (Coming client.Entry Left)). (heard (at_client w) list).entries) told.client_is
 
     frames_are : frames_of_step w t (OfClient (client_coming c)) ≡ client_frames (client_opening w) past c
     frames_are =
         ap (λ (list : List (Coming client.Entry Left)). frames_by (client_packets (client_opening w)) (heard (at_client w) list).entries
         (entry_of (at_client w) (heard (at_client w) list) (client_coming c))) told.client_is
 
-pub client_adds_all : Laws → (w : Setup) (servers : ℕ → List ServerEntry) (past : List ClientEntry) (mirrored : List mirror.Entry) (sent : List Frame)
+pub client_adds_all : NodesHearTheirOwn → (w : Setup) (servers : ℕ → List ServerEntry) (past : List ClientEntry) (mirrored : List mirror.Entry) (sent : List Frame)
     (more : List ClientEntry) → AllMay w sent past more → Told w servers past mirrored sent
     → Told w servers (more ++ past) mirrored (sent ++ sent_since (client_frames (client_opening w)) past more)
-client_adds_all laws w servers past mirrored sent [] may told =
+client_adds_all own w servers past mirrored sent [] may told =
     retold w servers servers past past mirrored mirrored sent (sent ++ []) (λ s. refl) refl refl (append-nil sent) told
-client_adds_all laws w servers past mirrored sent (c ∷ more) may told =
+client_adds_all own w servers past mirrored sent (c ∷ more) may told =
     retold w servers servers (c ∷ (more ++ past)) (c ∷ (more ++ past)) mirrored mirrored ((sent ++ before) ++ now) (sent ++ (before ++ now)) (λ s. refl) refl
     refl (sym (append_assoc sent before now))
-    (client_adds laws w servers (more ++ past) mirrored (sent ++ before) c (client_may_still w sent before (more ++ past) c may.0)
-    (client_adds_all laws w servers past mirrored sent more may.1 told))
+    (client_adds own w servers (more ++ past) mirrored (sent ++ before) c (client_may_still w sent before (more ++ past) c may.0)
+    (client_adds_all own w servers past mirrored sent more may.1 told))
   where
     before : List Frame
     before = sent_since (client_frames (client_opening w)) past more
@@ -174,10 +179,20 @@ mirror_adds_all w servers client past sent (e ∷ more) there may told =
 abbrev pub with_list : ℕ → List ServerEntry → (ℕ → List ServerEntry) → ℕ → List ServerEntry
 with_list s list servers r = if s == r then list else servers r
 
-server_adds : (w : Setup) (s : ℕ) (servers : ℕ → List ServerEntry) (client : List ClientEntry) (mirrored : List mirror.Entry) (past : List ServerEntry) (sent : List Frame) (c : ServerEntry) → s < 8
-    → ServerMay s sent c → ReportFits c → Told w (with_list s past servers) client mirrored sent
+pub itself : (s : ℕ) → (s == s) ≡ true
+itself s = grind (arith, nat_tests)
+
+pub own_list : (s r : ℕ) (servers : ℕ → List ServerEntry) → with_list s (servers s) servers r ≡ servers r
+own_list s r servers = by_test (s == r) refl
+  where
+    by_test : (b : Bool) → (s == r) ≡ b → (if b then servers s else servers r) ≡ servers r
+    by_test true e = ap servers (eqb-true s r e)
+    by_test false e = refl
+
+pub server_adds : (w : Setup) (s : ℕ) (servers : ℕ → List ServerEntry) (client : List ClientEntry) (mirrored : List mirror.Entry) (past : List ServerEntry) (sent : List Frame) (c : ServerEntry) → s < 8
+    → ServerMay s sent c → Told w (with_list s past servers) client mirrored sent
     → Told w (with_list s (c ∷ past) servers) client mirrored (sent ++ server_frames (opening_of s) past c)
-server_adds w s servers client mirrored past sent c few may fits (t, told) = (
+server_adds w s servers client mirrored past sent c few may (t, told) = (
   OfServer s (server_coming c) ∷ t,
   record {
     legal = (
@@ -185,7 +200,7 @@ server_adds w s servers client mirrored past sent c few may fits (t, told) = (
       subst (λ (fs : List Frame). MayHappen fs (OfServer s (server_coming c))) (sym told.sent_is) (server_happens s sent c may),
       refl,
     );
-    fits = (server_fits s c few fits, told.fits);
+    fits = (server_fits s sent c few may, told.fits);
     servers_are = λ r. by_test r (s == r) refl;
     client_is = told.client_is;
     mirror_is = told.mirror_is;
@@ -196,11 +211,8 @@ server_adds w s servers client mirrored past sent c few may fits (t, told) = (
   },
 )
   where
-    itself : (s == s) ≡ true
-    itself = grind (arith, nat_tests)
-
     own : of_server s t ≡ map server_coming past
-    own = told.servers_are s ∙ ap (λ b. map server_coming (if b then past else servers s)) itself
+    own = told.servers_are s ∙ ap (λ b. map server_coming (if b then past else servers s)) (itself s)
 
     frames_are : frames_of_step w t (OfServer s (server_coming c)) ≡ server_frames (opening_of s) past c
     frames_are =
@@ -220,15 +232,15 @@ server_adds w s servers client mirrored past sent c few may fits (t, told) = (
         ∙ sym (ap (λ b. map server_coming (if b then c ∷ past else servers r)) e))
 
 pub server_adds_all : (w : Setup) (s : ℕ) (servers : ℕ → List ServerEntry) (client : List ClientEntry) (mirrored : List mirror.Entry) (past : List ServerEntry) (sent : List Frame)
-    (more : List ServerEntry) → s < 8 → AllByRecursion (ServerMay s sent) more → AllByRecursion ReportFits more → Told w (with_list s past servers) client mirrored sent
+    (more : List ServerEntry) → s < 8 → AllByRecursion (ServerMay s sent) more → Told w (with_list s past servers) client mirrored sent
     → Told w (with_list s (more ++ past) servers) client mirrored (sent ++ sent_since (server_frames (opening_of s)) past more)
-server_adds_all w s servers client mirrored past sent [] few may fits told =
+server_adds_all w s servers client mirrored past sent [] few may told =
     retold w (with_list s past servers) (with_list s past servers) client client mirrored mirrored sent (sent ++ []) (λ r. refl) refl refl (append-nil sent) told
-server_adds_all w s servers client mirrored past sent (c ∷ more) few may fits told =
+server_adds_all w s servers client mirrored past sent (c ∷ more) few may told =
     retold w (with_list s (c ∷ (more ++ past)) servers) (with_list s (c ∷ (more ++ past)) servers) client client mirrored mirrored ((sent ++ before) ++ now)
     (sent ++ (before ++ now)) (λ r. refl) refl refl (sym (append_assoc sent before now))
-    (server_adds w s servers client mirrored (more ++ past) (sent ++ before) c few (server_may_still s sent before c may.0) fits.0
-    (server_adds_all w s servers client mirrored past sent more few may.1 fits.1 told))
+    (server_adds w s servers client mirrored (more ++ past) (sent ++ before) c few (server_may_still s sent before c may.0)
+    (server_adds_all w s servers client mirrored past sent more few may.1 told))
   where
     before : List Frame
     before = sent_since (server_frames (opening_of s)) past more

@@ -1,18 +1,20 @@
 -- What holds of all fleets of filters, at each moment: all that happened up to some step is what
 -- happened to a fleet.
-use Rattle.std.specs.Prelude.{◌≡◌, ◌≤◌, ℕ, List, map}
+use Rattle.std.specs.Prelude.{◌≡◌, ◌≤◌, ◌<◌, ℕ, List, map}
 use Rattle.fc_base.specs.declared.limits.TheConstants.{MAX_SERVERS}
+use Rattle.server_core.specs.declared.note.Noted.{Noted as ServerNoted}
+use Rattle.server_core.specs.Note.{blank as server_blank}
 use Rattle.server_core.specs.Hearing.{coming_of as server_coming, packets_heard as server_heard}
 use Rattle.client_core.specs.Hearing.{coming_of as client_coming, packets_heard as client_heard}
-use Rattle.net_world.specs.Setup.{Setup, without_mirror}
+use Rattle.net_world.specs.Setup.{Setup}
 use Rattle.net_world.specs.Trace.{opening_of, client_opening}
 use Rattle.net_world.specs.Trace as packets
 use Rattle.net_world.specs.Frames.{FrameStep, of_server, of_client, of_mirror, frames_sent, trace_heard, IsFrameTrace}
 use Rattle.net_world.specs.InRange.{FitsFrames}
 use Rattle.net_world.specs.Headline.{OneTaking, HeldIsTheTaken, CountsTheCompleted, QuietUntilTheCheck}
-use Rattle.filters.specs.ClientSteps.{noted}
+use Rattle.filters.specs.ServerLives.{next_boot}
 use Rattle.filter_traces.specs.Fleets.{FleetAt, FleetStep, FleetBegins, Ran}
-use Rattle.filter_traces.specs.Drawn.{CanBeDrawn, drawn, given}
+use Rattle.filter_traces.specs.Again.{BeginsAgain, CanBeDrawn, IsOlder}
 
 -- One trace of frames of such a world, in which just this comes to each node, and just these frames
 -- are sent.
@@ -49,13 +51,18 @@ FleetsAreTraces =
     (w : Setup) (first now : FleetAt) (steps : List FleetStep) →
     FleetBegins w first → Ran w first steps now → IsOneTrace w now
 
--- Each fleet can begin: one of as many servers as there may be, with a mirror and without one.
+-- Each fleet can begin: one of as many servers as there may be, with a mirror and without one, all of
+-- whose servers begin over empty notes.
 abbrev pub FleetsCanBegin : Type 0
 FleetsCanBegin =
-    (w : Setup) → w.servers ≤ MAX_SERVERS → (first : FleetAt) × FleetBegins w first
+    (w : Setup) → w.servers ≤ MAX_SERVERS →
+    (first : FleetAt) × FleetBegins w first
+    × ((s : ℕ) → (first.servers s).note ≡ next_boot server_blank)
 
--- A note with drawn numbers says what that of a client does which has given so many.
-abbrev pub DrawnNotesAreOfClients : Type 0
-DrawnNotesAreOfClients =
-    (n runs attempts : ℕ) → CanBeDrawn runs attempts →
-    noted (client_opening (without_mirror n)) (given runs attempts) ≡ drawn runs attempts
+-- And each without a mirror can begin over drawn numbers, and over servers that have served others
+-- before, with runs up to these numbers.
+abbrev pub FleetsCanBeginAgain : Type 0
+FleetsCanBeginAgain =
+    (n runs attempts : ℕ) (said : ℕ → ServerNoted) → n ≤ MAX_SERVERS →
+    CanBeDrawn runs attempts → ((s : ℕ) → s < n → IsOlder runs (said s)) →
+    (first : FleetAt) × BeginsAgain n runs attempts said first

@@ -1,4 +1,4 @@
 pub mod Members
 pub mod Fleets
-pub mod Drawn
+pub mod Again
 pub mod Laws

@@ -1,6 +1,6 @@
 //! The laws of fleets of filters. The functions have nothing to run.
 
-ghost use Rattle.filter_traces.specs.Laws.{FleetsAreTraces, FleetsCanBegin, DrawnNotesAreOfClients};
+ghost use Rattle.filter_traces.specs.Laws.{FleetsAreTraces, FleetsCanBegin, FleetsCanBeginAgain};
 
 use client_core::notes_are_read_back;
 use messages::{frames_are_read_back, frames_are_readable};
@@ -22,14 +22,19 @@ pub fn fleet_law()
     one_state_of_each_job();
 }
 
-/// A fleet of any number of servers can begin, with a mirror and without one.
+/// A fleet of any number of servers can begin, with a mirror and without one, all of whose servers begin over empty
+/// notes.
 pub fn fleets_begin_law()
     ensures { FleetsCanBegin }
 {
     notes_are_read_back();
 }
 
-/// A note of no states, with numbers that are drawn, says what that of a client does which has given so many.
-pub fn drawn_notes_law()
-    ensures { DrawnNotesAreOfClients }
-{}
+/// A fleet without a mirror can begin over numbers that are drawn, and over servers that have served other fleets,
+/// in runs up to these numbers.
+pub fn fleets_begin_again_law()
+    ensures { FleetsCanBeginAgain }
+{
+    frames_are_of_packets();
+    notes_are_read_back();
+}

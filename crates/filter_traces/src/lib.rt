@@ -6,4 +6,4 @@
 
 mod law;
 
-pub use law::{drawn_notes_law, fleet_law, fleets_begin_law};
+pub use law::{fleet_law, fleets_begin_again_law, fleets_begin_law};

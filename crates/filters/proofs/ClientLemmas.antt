@@ -13,7 +13,7 @@ use Rattle.client_core.specs.declared.client.Client.{Client}
 use Rattle.client_core.specs.History.{Opening}
 use Rattle.client_core.specs.Hearing.{FrameEntry, Met}
 use Rattle.client_core.specs.FrameAnswers.{sense, due}
-use Rattle.client_core.specs.FrameEnds.{StandsFor, steps}
+use Rattle.client_core.specs.FrameEnds.{StandsFor, steps, note_in}
 use Rattle.filters.specs.declared.answered.Answered.{Answered}
 use Rattle.filters.specs.ClientSteps.{IsAnswered, NotAnswered, number_given}
 
@@ -27,7 +27,7 @@ stood note o past e new false is stands unchanged = unchanged is
 
 -- An input that isn't answered, where no save fails.
 pub not_answered : {T : Type 0} (note : T → Note) (o : Opening) (past : List FrameEntry) (e : Input) (sort : FaultSort) (fault : Fault) (old new : Client T)
-    → (note old.core.notes).failures ≡ (note new.core.notes).failures
+    → (note_in note old).failures ≡ (note_in note new).failures
     → Faults (steps note o) past e sort fault old new → NotAnswered note o past e sort fault old new
 not_answered note o past e sorts.Memory fault old new same l = (l.same_note, l.unchanged)
 not_answered note o past e sorts.Save fault old new same f = absurd (omega (arith, f.cause, same))

@@ -1,11 +1,12 @@
 -- What is made of the blocks that come.
 use Rattle.std.proofs.Common.{◌≡◌, ◌<◌, ◌≤◌, ◌*◌, ◌==◌, ◌&&◌, ℕ, false, List, [], length, take, drop, set, Option, Some, None, Result, Err, refl, sym, ap, ◌∙◌, subst, inl, inr, arith}
-use Rattle.std.specs.Prelude.{nat_lt}
+use Rattle.std.specs.Prelude.{nat_lt, IsTrue}
 use Rattle.std.proofs.KnownBytes.{Appends-nil}
 use Rattle.std.proofs.lemmas.Bool.{and_from, and_left, and_right, eq-eqb, le-ltb, lt-ltb, ne_eqb}
 use Rattle.fc_base.specs.declared.fault.Fault.{Fault}
 use Rattle.fc_base.specs.declared.fault.Fault.TheVariants.{BadNotice, NotInFlight}
 use Rattle.fc_base.specs.declared.limits.TheConstants.{MAX_BLOCKS}
+use Rattle.fc_base.specs.Report.{is_report}
 use Rattle.fc_base.specs.declared.report.ReportParts.{ReportParts}
 use Rattle.fc_base.specs.declared.report.ReportEnd.TheVariants.{ReadFault}
 use Rattle.recheck.specs.Expected.{Expected}
@@ -197,9 +198,11 @@ gives_up_so old mid new body name c r end text new_text len name_is lt server ou
       before name.job c taken.check name.block r taken.kept.come (taken.kept.first ∙ taken.first) told in (
         t.0,
         t.1,
-        good o at body name end t.0 tells.answer len name_is lt (Some taken.check) taken.is_named
-            (subst (λ (p : ReportParts). TellsIt o (with_check name.job None at) (CheckDone taken.check.boot taken.check.attempt name.job p) end t.0 tells.answer) report
-            (subst (λ b. TellsIt o (with_check name.job None at) (CheckDone b taken.check.attempt name.job r) end t.0 tells.answer) taken.kept.come.boot
-            (subst (λ k. TellsIt o (with_check name.job None at) (CheckDone c.boot k name.job r) end t.0 tells.answer) (sym taken.attempt) t.2))),
+        good o at body name end t.0 tells.answer len name_is lt (Some taken.check) taken.is_named (
+          subst (λ (p : ReportParts). IsTrue (is_report p)) report tells.fits,
+          subst (λ (p : ReportParts). TellsIt o (with_check name.job None at) (CheckDone taken.check.boot taken.check.attempt name.job p) end t.0 tells.answer) report
+              (subst (λ b. TellsIt o (with_check name.job None at) (CheckDone b taken.check.attempt name.job r) end t.0 tells.answer) taken.kept.come.boot
+              (subst (λ k. TellsIt o (with_check name.job None at) (CheckDone c.boot k name.job r) end t.0 tells.answer) (sym taken.attempt) t.2)),
+        ),
       );
 }

@@ -199,8 +199,11 @@ went_over old new boot a j r end text new_text tells = record {
         inr (
           r,
           over,
-          subst (λ b. TellsIt o (with_check j None at) (CheckDone b u.attempt j r) end t.0 tells.answer) (sym boot_is)
-              (subst (λ k. TellsIt o (with_check j None at) (CheckDone boot k j r) end t.0 tells.answer) (sym attempt_is) t.2),
+          (
+            tells.fits,
+            subst (λ b. TellsIt o (with_check j None at) (CheckDone b u.attempt j r) end t.0 tells.answer) (sym boot_is)
+                (subst (λ k. TellsIt o (with_check j None at) (CheckDone boot k j r) end t.0 tells.answer) (sym attempt_is) t.2),
+          ),
         ),
       );
 }

@@ -108,9 +108,9 @@ tells_keeps (Some fault) o at b a i r end now answer j (ends, (is, said)) none =
 
 report_keeps : (o : Opening) (at : ServerAt) (i : ℕ) (u : UnderWay) (r : ReportParts) (end : Result (Unit {0}) Fault) (now : ServerAt) (answer : List ℕ) (j : ℕ)
     → TellsReport o at i u r end now answer → GivesNone o at.list j → GivesNone o now.list j
-report_keeps o at i u r end now answer j (inl tells) none =
+report_keeps o at i u r end now answer j (fits, inl tells) none =
     tells_keeps (refusal o at.list (CheckDone u.boot u.attempt i r)) o (with_check i None at) u.boot u.attempt i r end now answer j tells none
-report_keeps o at i u r end now answer j (inr (fault, memory, ends, (is, said))) none = subst (λ (s : ServerAt). GivesNone o s.list j) (sym is) none
+report_keeps o at i u r end now answer j (fits, inr (fault, memory, ends, (is, said))) none = subst (λ (s : ServerAt). GivesNone o s.list j) (sym is) none
 
 goes_keeps : (o : Opening) (at : ServerAt) (i : ℕ) (u : UnderWay) (end : Result (Unit {0}) Fault) (now : ServerAt) (answer : List ℕ) (j : ℕ)
     → GoesOn o at i u end now answer → GivesNone o at.list j → GivesNone o now.list j

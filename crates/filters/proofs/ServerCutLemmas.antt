@@ -1,6 +1,6 @@
 -- A server's answers that are cut.
-use Rattle.std.proofs.Common.{◌≡◌, ◌⊎◌, ◌==◌, ◌&&◌, ℕ, Bool, true, false, take, drop, List, [], ◌∷◌, ◌++◌, length, Option, None, Some, Result, Ok, Err}
-use Rattle.std.proofs.Common.{refl, sym, ap, ◌∙◌, subst, inl, inr, arith}
+use Rattle.std.proofs.Common.{◌≡◌, ◌==◌, ◌&&◌, ℕ, Bool, true, false, take, drop, List, [], ◌∷◌, ◌++◌, length, Option, None, Some, Result, Ok, Err}
+use Rattle.std.proofs.Common.{refl, ap, ◌∙◌, inl, inr, arith}
 use Rattle.std.specs.Prelude.{nat_lt}
 use Rattle.fc_base.specs.declared.fault.Fault.{Fault}
 use Rattle.fc_base.specs.declared.limits.TheConstants.{MAX_BLOCKS}
@@ -49,9 +49,9 @@ tells_note (Some fault) o at b a j r end now answer (ends, (is, said)) = note_of
 
 report_note : (o : Opening) (at : ServerAt) (j : ℕ) (u : UnderWay) (r : ReportParts) (end : Result (Unit {0}) Fault) (now : ServerAt) (answer : List ℕ)
     → TellsReport o at j u r end now answer → now.note ≡ at.note
-report_note o at j u r end now answer (inl tells) =
+report_note o at j u r end now answer (fits, inl tells) =
     tells_note (refusal o at.list (CheckDone u.boot u.attempt j r)) o (with_check j None at) u.boot u.attempt j r end now answer tells
-report_note o at j u r end now answer (inr (fault, memory, ends, (is, said))) = note_of now _ is
+report_note o at j u r end now answer (fits, inr (fault, memory, ends, (is, said))) = note_of now _ is
 
 goes_note : (o : Opening) (at : ServerAt) (j : ℕ) (u : UnderWay) (end : Result (Unit {0}) Fault) (now : ServerAt) (answer : List ℕ)
     → GoesOn o at j u end now answer → now.note ≡ at.note

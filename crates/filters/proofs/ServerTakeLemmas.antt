@@ -29,7 +29,7 @@ use Rattle.server_core.specs.Note.{Says}
 use Rattle.server_core.specs.Answers.{shown_entries, run_job}
 use Rattle.server_core.specs.Hearing.{FrameEntry, packets_heard}
 use Rattle.server_core.specs.FrameAnswers.{due, frames, issue, refusal, answered_entry}
-use Rattle.server_core.specs.FrameEnds.{StandsFor, steps}
+use Rattle.server_core.specs.FrameEnds.{StandsFor, steps, note_in}
 use Rattle.server_core.specs.Handles.{outs_of_issue}
 use Rattle.server_core.specs.Memory.{TakesNone}
 use Rattle.server_core.specs.Laws.{LooksAtAll}
@@ -56,10 +56,10 @@ use Rattle.filters.proofs.OrderLemmas.{gave, refused_gives}
 
 -- What is written of what is handed out is what the list says.
 handed_is : {T : Type 0} (note : T → Note) (o : Opening) (past : List FrameEntry) (e : Input) (old new : Server T) (h : Handed)
-    → IsHanded note o past e old new h → handed_bytes (note new.core.notes).bytes h ≡ handed o past e
+    → IsHanded note o past e old new h → handed_bytes (note_in note new).bytes h ≡ handed o past e
 handed_is note o past e old new h is =
     ap (λ s. s ++ (send_bytes h.outs.frames ++ act_bytes h.outs.act))
-    (saved_so (due o past e) (new_note o past e) (note old.core.notes) (note new.core.notes) h.saves is.saves is.answers.leaves)
+    (saved_so (due o past e) (new_note o past e) (note_in note old) (note_in note new) h.saves is.saves is.answers.leaves)
     ∙ ap (λ f. save_bytes (is_some (due o past e)) (new_note o past e) ++ (send_bytes f ++ act_bytes h.outs.act)) is.answers.sends.frames_are
     ∙ ap (λ a. save_bytes (is_some (due o past e)) (new_note o past e)
     ++ (send_bytes (map frame_spelling (frames o past (answered_entry o past e))) ++ act_bytes a))
@@ -67,10 +67,10 @@ handed_is note o past e old new h is =
 
 -- The server behind an input that is taken.
 at_taken : {T : Type 0} (note : T → Note) (o : Opening) (at : ServerAt) (e : Input) (old new : Server T) (h : Handed)
-    → (note old.core.notes).bytes ≡ at.note → IsHanded note o at.list e old new h → IsAt note new o (at_by None o at e)
+    → (note_in note old).bytes ≡ at.note → IsHanded note o at.list e old new h → IsAt note new o (at_by None o at e)
 at_taken note o at e old new h was is = (
   is.answers.stands,
-  note_so (due o at.list e) (new_note o at.list e) at.note (note old.core.notes) (note new.core.notes) is.answers.leaves was,
+  note_so (due o at.list e) (new_note o at.list e) at.note (note_in note old) (note_in note new) is.answers.leaves was,
 )
 
 -- No input changes which checks are under way.
@@ -80,7 +80,7 @@ by_checks (Some fault) o at e = refl
 
 -- A body that isn't taken.
 not_taken_here : (o : Opening) (at : ServerAt) (e : Input) (old mid : ServerFilter) (sort : FaultSort) (fault : Fault) → sort_of fault ≡ sort
-    → (note_kept old.server.core.notes).bytes ≡ at.note → AreChecks mid.checks.items at.checks
+    → (note_in note_kept old.server).bytes ≡ at.note → AreChecks mid.checks.items at.checks
     → NotHanded note_kept o at.list e sort fault old.server mid.server
     → (now : ServerAt) × IsHere mid o now × TakesBody o at (Ok e) now (end_bytes (Err fault))
 not_taken_here o at e old mid sorts.Memory fault is was checks (same, stands) =
@@ -100,19 +100,19 @@ pub body_taken : (asked : Opening → List FrameEntry → Result Input Fault) (o
     → mid.checks ≡ old.checks → WritesHanded result mid new first text
     → AnswersBy (λ o at now answer. TakesBody o at (asked o at.list) now answer) (IsHere old) (IsHere new) first text
 body_taken asked old mid new (Ok h) first text hands kept (written, wrote, turns) = record {
-  answer = handed_bytes (note_kept mid.server.core.notes).bytes h ++ (written ++ end_bytes (Ok tt));
+  answer = handed_bytes (note_in note_kept mid.server).bytes h ++ (written ++ end_bytes (Ok tt));
   written = wrote;
   takes = λ o at here. by o at here (asked o at.list) (hands o at.list here.0.0);
 }
   where
     by : (o : Opening) (at : ServerAt) → IsHere old o at → (a : Result Input Fault) → BodyHands note_kept o at.list a old.server mid.server (Ok h)
-        → (now : ServerAt) × IsHere new o now × TakesBody o at a now (handed_bytes (note_kept mid.server.core.notes).bytes h ++ (written ++ end_bytes (Ok tt)))
+        → (now : ServerAt) × IsHere new o now × TakesBody o at a now (handed_bytes (note_in note_kept mid.server).bytes h ++ (written ++ end_bytes (Ok tt)))
     by o at here (Ok e) is =
         let checks = subst (λ (cs : Vec (Option Checking) Global). AreChecks cs.items at.checks) (sym kept) here.1 in
         let t = turns o (at_by None o at e) (at_taken note_kept o at e old.server mid.server h here.0.1 is, checks) in (
           t.0,
           t.1,
-          inl (subst (λ w. TakesBy w o at e t.0 (handed_bytes (note_kept mid.server.core.notes).bytes h ++ (written ++ end_bytes (Ok tt)))) (sym is.answers.free)
+          inl (subst (λ w. TakesBy w o at e t.0 (handed_bytes (note_in note_kept mid.server).bytes h ++ (written ++ end_bytes (Ok tt)))) (sym is.answers.free)
               (record {
                 written = written;
                 turns = t.2.0;
@@ -161,7 +161,7 @@ asked_turn shows o at j job old new (Ok answer) (stands, was) a none there few =
   at_by None o at (Issue j),
   (
     a.stands,
-    note_so (due o at.list (Issue j)) (new_note o at.list (Issue j)) at.note (note_kept old.core.notes) (note_kept new.core.notes) a.leaves was,
+    note_so (due o at.list (Issue j)) (new_note o at.list (Issue j)) at.note (note_in note_kept old) (note_in note_kept new) a.leaves was,
   ),
   (
     sym (ap (λ w. at_by w o at (Issue j)) a.free),
@@ -219,12 +219,12 @@ end_of (Err fault) = Err fault
 pub told_it : (o : Opening) (at : ServerAt) (boot a j : ℕ) (report : ReportParts) (old new : Server KeptNotes) (result : Result Handed Fault)
     → IsAt note_kept old o at → HandsOut note_kept o at.list (CheckDone boot a j report) old new result
     → (now : ServerAt) × IsAt note_kept new o now
-    × TellsIt o at (CheckDone boot a j report) (end_of result) now (handed_if result (note_kept new.core.notes).bytes) × (now.checks ≡ at.checks)
+    × TellsIt o at (CheckDone boot a j report) (end_of result) now (handed_if result (note_in note_kept new).bytes) × (now.checks ≡ at.checks)
 told_it o at boot a j report old new (Ok h) (stands, was) is =
     let e = CheckDone boot a j report in (
       at_by None o at e,
       at_taken note_kept o at e old new h was is,
-      inl (subst (λ w. TellsBy w o at e (Ok tt) (at_by None o at e) (handed_bytes (note_kept new.core.notes).bytes h)) (sym is.answers.free)
+      inl (subst (λ w. TellsBy w o at e (Ok tt) (at_by None o at e) (handed_bytes (note_in note_kept new).bytes h)) (sym is.answers.free)
           (refl, (refl, handed_is note_kept o at.list e old new h is))),
       refl,
     )

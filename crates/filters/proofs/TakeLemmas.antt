@@ -18,6 +18,7 @@ use Rattle.client_core.specs.History.{Opening}
 use Rattle.client_core.specs.Note.{Says}
 use Rattle.client_core.specs.Hearing.{FrameEntry}
 use Rattle.client_core.specs.FrameAnswers.{due}
+use Rattle.client_core.specs.FrameEnds.{note_in}
 use Rattle.filters.specs.declared.answered.Answered.{Answered}
 use Rattle.filters.specs.declared.kinds.Told.{Told}
 use Rattle.filters.specs.declared.kinds.Told.TheVariants as told
@@ -46,9 +47,9 @@ note_so (Some x) spelled was old new leaves is = ap (λ (n : Note). n.bytes) lea
 
 -- What is written of an answer is what the list says.
 answer_is : {T : Type 0} (note : T → Note) (o : Opening) (past : List FrameEntry) (e : Input) (old new : Client T) (a : Answered)
-    → IsAnswered note o past e old new a → result_bytes (note new.core.notes).bytes (Ok a) ≡ taken_bytes o past e
+    → IsAnswered note o past e old new a → result_bytes (note_in note new).bytes (Ok a) ≡ taken_bytes o past e
 answer_is note o past e old new a h =
-    let saved = saved_so (due o past e) (new_note o past e) (note old.core.notes) (note new.core.notes) a.saves h.saves h.leaves in
+    let saved = saved_so (due o past e) (new_note o past e) (note_in note old) (note_in note new) a.saves h.saves h.leaves in
     ap (λ s. (s ++ (number_bytes a.number ++ send_bytes a.frames)) ++ end_bytes (Ok tt)) saved
     ∙ ap (λ n. (save_bytes (is_some (due o past e)) (new_note o past e) ++ (number_bytes n ++ send_bytes a.frames)) ++ end_bytes (Ok tt)) h.number
     ∙ ap (λ f. (save_bytes (is_some (due o past e)) (new_note o past e) ++ (number_bytes (number_given o past e) ++ send_bytes f)) ++ end_bytes (Ok tt))
@@ -56,7 +57,7 @@ answer_is note o past e old new a h =
 
 -- What an input that isn't answered leaves.
 not_taken : {T : Type 0} (note : T → Note) (o : Opening) (at : ClientAt) (e : Input) (old new : Client T) (sort : FaultSort) (fault : Fault)
-    → sort_of fault ≡ sort → (note old.core.notes).bytes ≡ at.note → NotAnswered note o at.list e sort fault old new
+    → sort_of fault ≡ sort → (note_in note old).bytes ≡ at.note → NotAnswered note o at.list e sort fault old new
     → (now : ClientAt) × IsAt note new o now × TakesBody o at (Ok e) now (end_bytes (Err fault))
 not_taken note o at e old new sorts.Memory fault is was (same, stands) =
     (at, (stands, ap (λ (n : Note). n.bytes) same ∙ was), inr (fault, is, (refl, refl)))
@@ -70,11 +71,11 @@ not_taken note o at e old new sorts.Refusal fault is was (why, (same, stands)) =
 -- What the client makes of a body, by how its call ends.
 pub body_taken : {T : Type 0} (note : T → Note) (o : Opening) (at : ClientAt) (asked : Result Input Fault) (old new : Client T)
     (result : Result Answered Fault)
-    → (note old.core.notes).bytes ≡ at.note → BodyEnds note o at.list asked old new result
-    → (now : ClientAt) × IsAt note new o now × TakesBody o at asked now (result_bytes (note new.core.notes).bytes result)
+    → (note_in note old).bytes ≡ at.note → BodyEnds note o at.list asked old new result
+    → (now : ClientAt) × IsAt note new o now × TakesBody o at asked now (result_bytes (note_in note new).bytes result)
 body_taken note o at (Ok e) old new (Ok a) was h = (
   at_by None o at e,
-  (h.stands, note_so (due o at.list e) (new_note o at.list e) at.note (note old.core.notes) (note new.core.notes) h.leaves was),
+  (h.stands, note_so (due o at.list e) (new_note o at.list e) at.note (note_in note old) (note_in note new) h.leaves was),
   inl (sym (ap (λ w. at_by w o at e) h.free), answer_is note o at.list e old new a h ∙ sym (ap (λ w. reply_by w o at.list e) h.free)),
 )
 body_taken note o at (Ok e) old new (Err fault) was h = not_taken note o at e old new (sort_of fault) fault refl was h

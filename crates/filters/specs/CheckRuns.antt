@@ -1,11 +1,12 @@
 -- The steps of a server's checks. Only the proofs go by these.
-use Rattle.std.specs.Prelude.{◌≡◌, ◌≢◌, ◌<◌, ◌≤◌, ℕ, ◌+◌, ◌*◌, ◌==◌, ◌&&◌, ⊤, Bool, false, if◌then◌else◌, List, [], ◌∷◌, set, slice_index_or, Option, Some, None, Result}
+use Rattle.std.specs.Prelude.{◌≡◌, ◌≢◌, ◌<◌, ◌≤◌, ℕ, ◌+◌, ◌*◌, ◌==◌, ◌&&◌, ⊤, Bool, false, if◌then◌else◌, List, [], ◌∷◌, set, slice_index_or, Option, Some, None, Result, IsTrue}
 use Rattle.std.specs.Io.KnownBytes.{Appends}
 use Rattle.std.specs.List.{range_with_len}
 use Rattle.fc_base.specs.declared.fault.Fault.{Fault}
 use Rattle.fc_base.specs.declared.limits.TheConstants.{MAX_JOBS}
 use Rattle.fc_base.specs.declared.numbers.Key.{Key}
 use Rattle.fc_base.specs.declared.record.JobParts.{JobParts}
+use Rattle.fc_base.specs.Report.{is_report}
 use Rattle.fc_base.specs.declared.report.ReportParts.{ReportParts}
 use Rattle.fc_base.specs.declared.report.ReportEnd.TheVariants.{AtFault}
 use Rattle.verify_state.specs.State.{State}
@@ -141,10 +142,11 @@ TakesOut old name new (Some c) =
     × (name.job < MAX_JOBS)
 TakesOut old name new None = (kept_named name (kept_in old name.job) ≡ None) × (new ≡ old)
 
--- A report was told of job j, or not, by how that ended.
+-- A report was told of job j, or not, by how that ended; its numbers fit together.
 pub record TellsSo (old : ServerFilter) (boot a j : ℕ) (r : ReportParts)
     (end : Result (Unit {0}) Fault) (new : ServerFilter)
     (text new_text : Option (List ℕ)) : Type 0 where
+  pub fits : IsTrue (is_report r)
   pub answer : List ℕ
   pub written : Appends text new_text answer
   pub takes :

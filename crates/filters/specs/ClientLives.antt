@@ -21,7 +21,7 @@ use Rattle.client_core.specs.Reports.{reports}
 use Rattle.client_core.specs.Stands.{IsBadNote}
 use Rattle.client_core.specs.Hearing.{FrameEntry, Restart, Renew, packets_heard}
 use Rattle.client_core.specs.FrameAnswers.{refusal, due, frames, answered_entry}
-use Rattle.client_core.specs.FrameEnds.{StandsFor}
+use Rattle.client_core.specs.FrameEnds.{StandsFor, note_in}
 use Rattle.filters.specs.declared.asking.LookAsked.{LookAsked}
 use Rattle.filters.specs.declared.beginning.Beginning.{Beginning}
 use Rattle.filters.specs.declared.beginning.Beginning.TheVariants.{Alone, Mirrored, Renewed}
@@ -44,7 +44,7 @@ pub record ClientAt : Type 0 where
 -- A client is at this moment.
 abbrev pub IsAt : {T : Type 0} → (T → Note) → Client T → Opening → ClientAt → Type 0
 IsAt note client o at =
-    StandsFor note client o at.list × ((note client.core.notes).bytes ≡ at.note)
+    StandsFor note client o at.list × ((note_in note client).bytes ≡ at.note)
 
 -- The note as an input that is taken leaves it, if it is to be saved.
 abbrev pub new_note : Opening → List FrameEntry → Input → List ℕ

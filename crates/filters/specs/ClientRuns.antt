@@ -5,6 +5,7 @@ use Rattle.client_core.specs.declared.client.Client.{Client}
 use Rattle.client_core.specs.declared.noted.Noted.{Noted}
 use Rattle.client_core.specs.History.{Opening}
 use Rattle.client_core.specs.Note.{Says}
+use Rattle.client_core.specs.FrameEnds.{note_in}
 use Rattle.filters.specs.declared.beginning.Beginning.{Beginning}
 use Rattle.filters.specs.declared.kept_notes.KeptNotes.{KeptNotes}
 use Rattle.filters.specs.Kept.{note_kept}
@@ -17,7 +18,7 @@ pub record IsOpened (beginning : Beginning) (servers : ℕ) (note : List ℕ)
   pub may : MayBegin beginning note
   pub said : Noted
   pub says : Says note said
-  pub saved : (note_kept client.core.notes).bytes ≡ first_note beginning note
+  pub saved : (note_in note_kept client).bytes ≡ first_note beginning note
   pub begins : (o : Opening) (first : ClientAt) → BeginsBehind beginning servers note o first →
       IsAt note_kept client o first
 

@@ -21,7 +21,7 @@ use Rattle.client_core.specs.Note.{spelling}
 use Rattle.client_core.specs.Words.{words_noted}
 use Rattle.client_core.specs.Hearing.{FrameEntry, Met, packets_heard}
 use Rattle.client_core.specs.FrameAnswers.{sense, refusal, due, frames, answered_entry}
-use Rattle.client_core.specs.FrameEnds.{StandsFor}
+use Rattle.client_core.specs.FrameEnds.{StandsFor, note_in}
 use Rattle.filters.specs.declared.answered.Answered.{Answered}
 use Rattle.filters.specs.declared.kinds.Said.TheVariants.{Save, Send, Number}
 use Rattle.filters.specs.Kinds.{said_number}
@@ -54,14 +54,14 @@ pub record IsAnswered {T : Type 0} (note : T → Note) (o : Opening) (past : Lis
   pub number : a.number ≡ number_given o past e
   pub frames_are : a.frames ≡ map frame_spelling (frames o past (answered_entry o past e))
   pub leaves : LeavesNote (due o past e) (spelling (noted o (after_answer o past e)))
-      (note old.core.notes) (note new.core.notes)
+      (note_in note old) (note_in note new)
   pub stands : StandsFor note new o (after_answer o past e)
 
 -- The note is as it was, and the client stands for this list.
 abbrev pub Stands : {T : Type 0} → (T → Note) → Opening → List FrameEntry → Client T → Client T
     → Type 0
 Stands note o past old new =
-    (note new.core.notes ≡ note old.core.notes) × StandsFor note new o past
+    (note_in note new ≡ note_in note old) × StandsFor note new o past
 
 -- An input isn't answered, by the sort of the fault: for want of memory nothing has changed; or it
 -- is refused. No save fails by itself.

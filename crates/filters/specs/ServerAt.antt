@@ -12,7 +12,7 @@ use Rattle.server_core.specs.Note.{spelling}
 use Rattle.server_core.specs.Words.{words_noted}
 use Rattle.server_core.specs.Hearing.{FrameEntry, Met, packets_heard}
 use Rattle.server_core.specs.FrameAnswers.{due, frames, act, answered_entry}
-use Rattle.server_core.specs.FrameEnds.{StandsFor}
+use Rattle.server_core.specs.FrameEnds.{StandsFor, note_in}
 use Rattle.filters.specs.Kept.{note_with}
 use Rattle.filters.specs.ClientSteps.{save_bytes, send_bytes}
 use Rattle.filters.specs.ServerTells.{act_bytes}
@@ -29,7 +29,7 @@ pub record ServerAt : Type 0 where
 -- A server is at this moment.
 abbrev pub IsAt : {T : Type 0} → (T → Note) → Server T → Opening → ServerAt → Type 0
 IsAt note server o at =
-    StandsFor note server o at.list × ((note server.core.notes).bytes ≡ at.note)
+    StandsFor note server o at.list × ((note_in note server).bytes ≡ at.note)
 
 -- No check is under way.
 abbrev pub no_checks : ℕ → Option UnderWay

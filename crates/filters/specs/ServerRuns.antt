@@ -11,6 +11,7 @@ use Rattle.server_core.specs.Hearing.{FrameEntry, packets_heard}
 use Rattle.server_core.specs.Note.{Says}
 use Rattle.server_core.specs.Run.{Work, history, origin_of}
 use Rattle.server_core.specs.Words.{work}
+use Rattle.server_core.specs.FrameEnds.{note_in}
 use Rattle.filters.specs.declared.server_filter.ServerFilter.{ServerFilter}
 use Rattle.filters.specs.declared.server_filter.writes.Handed.{Handed}
 use Rattle.filters.specs.Kept.{note_kept}
@@ -27,7 +28,7 @@ use Rattle.filters.specs.CheckRuns.{IsHere}
 pub record OpenedOver (me : ℕ) (note : List ℕ) (filter : ServerFilter) : Type 0 where
   pub said : Noted
   pub says : Says note said
-  pub saved : (note_kept filter.server.core.notes).bytes ≡ next_boot said
+  pub saved : (note_in note_kept filter.server).bytes ≡ next_boot said
   pub begins : (o : Opening) (first : ServerAt) → BeginsBehind me note said o first →
       IsHere filter o first
 
@@ -67,7 +68,7 @@ abbrev pub WritesHanded : Result Handed Fault → ServerFilter → ServerFilter 
     → Option (List ℕ) → Type 0
 WritesHanded (Ok h) filter after old new =
     (written : List ℕ)
-    × Appends old new (handed_bytes (note_kept filter.server.core.notes).bytes h
+    × Appends old new (handed_bytes (note_in note_kept filter.server).bytes h
     ++ (written ++ end_bytes (Ok tt)))
     × ((o : Opening) (at : ServerAt) → IsHere filter o at →
     (now : ServerAt) × IsHere after o now

@@ -11,7 +11,7 @@ use Rattle.server_core.specs.declared.server.Server.{Server}
 use Rattle.server_core.specs.History.{Opening}
 use Rattle.server_core.specs.Hearing.{FrameEntry}
 use Rattle.server_core.specs.FrameAnswers.{due}
-use Rattle.server_core.specs.FrameEnds.{StandsFor, steps}
+use Rattle.server_core.specs.FrameEnds.{StandsFor, steps, note_in}
 use Rattle.filters.specs.declared.server_filter.writes.Handed.{Handed}
 use Rattle.filters.specs.ClientSteps.{save_bytes}
 use Rattle.filters.specs.ServerTells.{outs_bytes}
@@ -27,7 +27,7 @@ pub record IsHanded {T : Type 0} (note : T → Note) (o : Opening) (past : List 
 abbrev pub NotHanded : {T : Type 0} → (T → Note) → Opening → List FrameEntry → Input → FaultSort
     → Fault → Server T → Server T → Type 0
 NotHanded note o past e sorts.Memory fault old new =
-    (note new.core.notes ≡ note old.core.notes) × StandsFor note new o past
+    (note_in note new ≡ note_in note old) × StandsFor note new o past
 NotHanded note o past e sorts.Save fault old new = ⊥
 NotHanded note o past e sorts.Refusal fault old new = Refuses (steps note o) past e fault old new
 

@@ -1,5 +1,5 @@
 -- What a server's filter does of itself: it orders writes, and makes checks.
-use Rattle.std.specs.Prelude.{◌≡◌, ◌⊎◌, ℕ, ◌==◌, ◌&&◌, Bool, false, List, [], ◌++◌, Option, Some, None, Result, Ok, Err}
+use Rattle.std.specs.Prelude.{◌≡◌, ◌⊎◌, ℕ, ◌==◌, ◌&&◌, Bool, false, List, [], ◌++◌, Option, Some, None, Result, Ok, Err, IsTrue}
 use Rattle.std.specs.Int.{w32, w64}
 use Rattle.fc_base.specs.Layouts.{bytes_of}
 use Rattle.fc_base.specs.Fault.{sort_of}
@@ -7,6 +7,7 @@ use Rattle.fc_base.specs.declared.fault.Fault.{Fault}
 use Rattle.fc_base.specs.declared.fault.FaultSort.TheVariants.{Memory}
 use Rattle.fc_base.specs.declared.record.JobParts.{JobParts}
 use Rattle.fc_base.specs.declared.report.ReportParts.{ReportParts}
+use Rattle.fc_base.specs.Report.{is_report}
 use Rattle.write_order.specs.Stamps.{written_bytes}
 use Rattle.engine.specs.declared.issue.Ticket.{Ticket}
 use Rattle.engine.specs.declared.issue.Issue.{Issue as Answer}
@@ -75,11 +76,12 @@ TellsIt o at e end now answer =
     TellsBy (refusal o at.list e) o at e end now answer
     ⊎ ((fault : Fault) × (sort_of fault ≡ Memory) × (end ≡ Err fault) × Leaves at [] now answer)
 
--- A check of job j is no longer under way, and its report is told.
+-- A check of job j is no longer under way, and its report, whose numbers fit together, is told.
 abbrev pub TellsReport : Opening → ServerAt → ℕ → UnderWay → ReportParts
     → Result (Unit {0}) Fault → ServerAt → List ℕ → Type 0
 TellsReport o at j u r end now answer =
-    TellsIt o (with_check j None at) (CheckDone u.boot u.attempt j r) end now answer
+    IsTrue (is_report r)
+    × TellsIt o (with_check j None at) (CheckDone u.boot u.attempt j r) end now answer
 
 -- A check of job j goes on: the next blocks are wanted; or it is over, and its report is told.
 abbrev pub GoesOn : Opening → ServerAt → ℕ → UnderWay → Result (Unit {0}) Fault → ServerAt

@@ -5,6 +5,7 @@ ghost use Rattle.std.specs.Io.Buffered.{reader_remaining};
 ghost use Rattle.std.specs.Io.KnownBytes.{Appends};
 ghost use Rattle.fc_base.specs.declared.limits.TheConstants.{MAX_SERVERS};
 ghost use Rattle.client_core.specs.History.{Opening as ClientOpening};
+ghost use Rattle.client_core.specs.FrameEnds.{note_in};
 ghost use Rattle.filters.specs.Kept.{note_kept};
 ghost use Rattle.filters.specs.Lives.{RunsOver, Runs};
 ghost use Rattle.filters.specs.Records.{end_bytes};
@@ -104,7 +105,7 @@ impl ClientFilter {
     /// Writes the answer to the note: what is saved as the client begins, and the end.
     fn put_opening<W: Write>(&self, beginning: &Beginning, writer: &mut W) -> io::Result<()>
         ensures { OnOk result (Appends (W.contents writer.old) (W.contents writer.new)
-            (save_bytes (is_renewal beginning.now) (note_kept self.now.client.core.notes).bytes
+            (save_bytes (is_renewal beginning.now) (note_in note_kept self.now.client).bytes
             ++ end_bytes (Ok tt))) }
     {
         put_save(writer, beginning.saves(), self.client.notes().as_slice())?;

@@ -4,6 +4,7 @@ ghost use Rattle.std.specs.Prelude.{◌≡◌, ◌<◌, true, Some, [], length, 
 ghost use Rattle.std.specs.Io.Buffered.{reader_remaining};
 ghost use Rattle.std.specs.Io.KnownBytes.{Appends};
 ghost use Rattle.fc_base.specs.declared.limits.TheConstants.{MAX_SERVERS, MAX_BLOCK_SIZE as BLOCK_SIZE, MAX_JOBS as JOBS};
+ghost use Rattle.server_core.specs.FrameEnds.{note_in};
 ghost use Rattle.filters.specs.Kept.{note_kept};
 ghost use Rattle.filters.specs.ClientSteps.{save_bytes};
 ghost use Rattle.filters.specs.Lives.{HasRun, RunsOver, Runs};
@@ -180,7 +181,7 @@ impl ServerFilter {
     /// Writes the note that was saved.
     fn save<W: Write>(&self, writer: &mut W) -> io::Result<()>
         ensures { OnOk result (Appends (W.contents writer.old) (W.contents writer.new)
-            (save_bytes true (note_kept self.now.server.core.notes).bytes)) }
+            (save_bytes true (note_in note_kept self.now.server).bytes)) }
     {
         put_record(writer, Said::Save, self.server.notes().as_slice())
     }

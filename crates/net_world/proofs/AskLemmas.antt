@@ -22,7 +22,7 @@ use Rattle.client_core.specs.declared.input.Input.{Input}
 use Rattle.client_core.specs.History as client
 use Rattle.client_core.specs.Words as words
 use Rattle.client_core.specs.Packets.{packets}
-use Rattle.client_core.specs.Hearing.{FrameEntry, Met, rules, heard_at, packets_heard, arrival}
+use Rattle.client_core.specs.Hearing.{FrameEntry, Met, rules, heard_at, packets_heard, arrival, is_up}
 use Rattle.client_core.specs.FrameAnswers as answers
 use Rattle.net_world.specs.declared.asked.Asked.{Asked}
 use Rattle.net_world.specs.declared.mirror_node.MirrorNode.{MirrorNode}
@@ -42,7 +42,7 @@ use Rattle.net_world.specs.World.{frames}
 use Rattle.net_world.specs.Sending.{sent_in}
 use Rattle.net_world.specs.Nodes as any_node
 use Rattle.net_world.specs.ClientNodes as nodes
-use Rattle.net_world.specs.ClientNodes.{client_nodes, is_up, handed_in}
+use Rattle.net_world.specs.ClientNodes.{client_nodes, handed_in}
 use Rattle.net_world.specs.Stands.{IsMirror, IsGreatest, StandsFor}
 use Rattle.net_world.specs.Asking.{entries, step_of, step_by, told_of, IsBarred, Refuses, Faults, ClientEnds}
 use Rattle.net_world.proofs.ClientHeardLemmas.{heard_is, frames_are, entry_again}

@@ -19,11 +19,11 @@ use Rattle.client_core.specs.Note.{Says as NoteSays}
 use Rattle.client_core.specs.Words as words
 use Rattle.client_core.specs.Words.{words_noted}
 use Rattle.client_core.specs.Saves.{Addition, unless_refused, due_by, noted_after}
-use Rattle.client_core.specs.Hearing.{FrameEntry, Met, Cut, rules, heard_at, packets_heard, arrival}
+use Rattle.client_core.specs.Hearing.{FrameEntry, Met, Cut, rules, heard_at, packets_heard, arrival, is_up}
 use Rattle.client_core.specs.FrameAnswers.{sense, due, answered_entry}
 use Rattle.net_world.specs.declared.client_node.ClientNode.{ClientNode}
 use Rattle.net_world.specs.declared.client_node.ClientNode.TheVariants.{On, Off}
-use Rattle.net_world.specs.ClientNodes.{client_nodes, is_up, Stands, IsEmptyIfBlank}
+use Rattle.net_world.specs.ClientNodes.{client_nodes, Stands, IsEmptyIfBlank}
 use Rattle.net_world.proofs.NodeLemmas.{Saves, never}
 
 -- ---- what the note says behind what a save left

@@ -15,11 +15,11 @@ use Rattle.client_core.specs.History as client
 use Rattle.client_core.specs.History.{Opening}
 use Rattle.client_core.specs.Note.{Says as NoteSays, blank}
 use Rattle.client_core.specs.Words as words
-use Rattle.client_core.specs.Hearing.{FrameEntry, Met, rules, heard_at, packets_heard}
+use Rattle.client_core.specs.Hearing.{FrameEntry, Met, rules, heard_at, packets_heard, is_up}
 use Rattle.client_core.specs.FrameEnds as core
 use Rattle.net_world.specs.declared.asked.Asked.{Asked}
 use Rattle.net_world.specs.declared.client_node.ClientNode.TheVariants.{On}
-use Rattle.net_world.specs.ClientNodes.{client_nodes, is_up, Asks, answer_to}
+use Rattle.net_world.specs.ClientNodes.{client_nodes, Asks, answer_to}
 use Rattle.net_world.proofs.NodeLemmas.{Laws, stays, ends}
 
 piece_stays : (o : Opening) (list : List client.Entry) (left : Left) (m : Meaning) → words.is_on list ≡ true → is_lost left ≡ false

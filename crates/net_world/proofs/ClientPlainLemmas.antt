@@ -10,7 +10,7 @@ use Rattle.client_core.specs.History as client
 use Rattle.client_core.specs.Note.{is_blank}
 use Rattle.client_core.specs.Words.{words_noted}
 use Rattle.client_core.specs.Hearing as hearing
-use Rattle.client_core.specs.Hearing.{FrameEntry}
+use Rattle.client_core.specs.Hearing.{FrameEntry, is_up}
 use Rattle.net_world.specs.declared.told.Told.{Told}
 use Rattle.net_world.specs.declared.world.World.{World}
 use Rattle.net_world.specs.Setup.{Setup}
@@ -23,7 +23,7 @@ use Rattle.net_world.specs.Outcomes.{Refuses, outcome_of_step, noted_in, outcome
 use Rattle.net_world.specs.Telling.{plainly_told}
 use Rattle.net_world.specs.Sending.{sent_in}
 use Rattle.net_world.specs.ClientNodes as nodes
-use Rattle.net_world.specs.ClientNodes.{is_up, handed_in, lacks_note}
+use Rattle.net_world.specs.ClientNodes.{handed_in, lacks_note}
 use Rattle.net_world.specs.Stands.{StandsFor}
 use Rattle.net_world.specs.Ends.{Ends}
 use Rattle.net_world.specs.Asking.{entries, step_of}

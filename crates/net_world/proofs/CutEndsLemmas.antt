@@ -42,7 +42,8 @@ use Rattle.net_world.specs.Barred.{unless_on, unless_off, unless_sent}
 use Rattle.net_world.specs.Outcomes.{lost_by, outcome_of_step, said_to_server, server_frame_cut, frame_cut, delivery_cut_in, cut_in}
 use Rattle.net_world.specs.World.{act, act_of}
 use Rattle.net_world.specs.ServerNodes as servers
-use Rattle.net_world.specs.ServerNodes.{server_nodes, has_boot}
+use Rattle.server_core.specs.Words.{has_boot}
+use Rattle.net_world.specs.ServerNodes.{server_nodes}
 use Rattle.net_world.specs.Nodes.{CutsIn}
 use Rattle.net_world.specs.Stands.{StandsFor}
 use Rattle.net_world.specs.Ends.{Ends}
@@ -180,7 +181,7 @@ frame_cut_ends w past number landed f s node _ old new stands moved l g h = absu
 -- ---- a restart
 
 pub restart_cut_plain : (w : Setup) (past : List Change) (s : ℕ) (landed : Bool) → unless_off w (trace w past) (nodes.Server s) ≡ None
-    → has_boot (opening_of s) (entries past s) ≡ true
+    → has_boot (opening_of s) (packets_heard (opening_of s) (entries past s)) ≡ true
     → IsPlain w past (CutIn landed (Restart (nodes.Server s))) (step_of s (hearing.Restart (lost_by landed)))
 restart_cut_plain w past s landed h b = record {
   comes = goes w past (CutIn landed (Restart (nodes.Server s))) h

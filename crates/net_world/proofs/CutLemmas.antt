@@ -23,15 +23,15 @@ use Rattle.server_core.specs.Note.{Says as NoteSays, SaysOneThing}
 use Rattle.server_core.specs.Request.{Request, ToStart, request_of}
 use Rattle.server_core.specs.Run.{Work}
 use Rattle.server_core.specs.Replies.{Now}
-use Rattle.server_core.specs.Words.{Staged, is_on, boot, last_run, staged_run, work, due_by, last_run_after}
+use Rattle.server_core.specs.Words.{Staged, is_on, boot, last_run, staged_run, work, due_by, last_run_after, words_noted, has_boot}
 use Rattle.server_core.specs.Words as words
 use Rattle.server_core.specs.Answers.{now, refusal_of}
 use Rattle.server_core.specs.Answers as answers
-use Rattle.server_core.specs.Hearing.{FrameEntry, Met, Cut, Restart, rules, heard_at, packets_heard}
+use Rattle.server_core.specs.Hearing.{FrameEntry, Met, Cut, Restart, rules, heard_at, packets_heard, is_up}
 use Rattle.server_core.specs.FrameAnswers.{refusal, due, would_save, answered_entry}
 use Rattle.net_world.specs.declared.server_node.ServerNode.{ServerNode}
 use Rattle.net_world.specs.declared.server_node.ServerNode.TheVariants.{On, Off}
-use Rattle.net_world.specs.ServerNodes.{server_nodes, words_noted, is_up, has_boot, Stands, Restarts, CutsInRestart, no_save, boots}
+use Rattle.net_world.specs.ServerNodes.{server_nodes, Stands, Restarts, CutsInRestart, no_save, boots}
 use Rattle.net_world.proofs.NodeLemmas.{Saves}
 
 -- A node that is off stands for each list that is off and says the same.
@@ -154,11 +154,11 @@ saves o past f up h =
 
 -- ---- a restart
 
-pub restart_new : (o : Opening) (past : List FrameEntry) (node : ServerNode) → is_up o past ≡ false → has_boot o past ≡ true
+pub restart_new : (o : Opening) (past : List FrameEntry) (node : ServerNode) → is_up o past ≡ false → has_boot o (packets_heard o past) ≡ true
     → Stands o (Cut ∷ (Restart Saved ∷ past)) node → CutsInRestart o past true node (Ok tt)
 restart_new o past node off b s = (off, b, relabel o (Cut ∷ (Restart Saved ∷ past)) (Restart LostNew ∷ past) node s refl refl refl)
 
-pub restart_old : (o : Opening) (past : List FrameEntry) (node : ServerNode) → is_up o past ≡ false → has_boot o past ≡ true → Stands o past node
+pub restart_old : (o : Opening) (past : List FrameEntry) (node : ServerNode) → is_up o past ≡ false → has_boot o (packets_heard o past) ≡ true → Stands o past node
     → CutsInRestart o past false node (Ok tt)
 restart_old o past node off b s = (off, b, relabel o past (Restart LostOld ∷ past) node s off refl refl)
 
@@ -191,7 +191,7 @@ pub boots_no : SaysOneThing → (bytes : List ℕ) (m n : Noted) → NoteSays by
 boots_no law bytes m n s t h =
     ap (λ (x : Bool). if x then Ok tt else Err NoSave) (sym (boots_spent m.boot s.boot_range h)) ∙ ap boots (law bytes m n s t)
 
-tried_by : (o : Opening) (past : List FrameEntry) (notes : Kept) → Stands o past (Off notes) → (b : Bool) → has_boot o past ≡ b
+tried_by : (o : Opening) (past : List FrameEntry) (notes : Kept) → Stands o past (Off notes) → (b : Bool) → has_boot o (packets_heard o past) ≡ b
     → CutsInRestart o past false (Off notes) (if b then Ok tt else Err NoSave)
 tried_by o past notes s true h = restart_old o past (Off notes) s.1 h s
 tried_by o past notes s false h = (s.1, h, s, refl)
@@ -199,4 +199,4 @@ tried_by o past notes s false h = (s.1, h, s, refl)
 pub tried : (o : Opening) (past : List FrameEntry) (notes now : Kept) (result : Result (Unit {0}) Fault) → Stands o past (Off notes) → now ≡ notes
     → result ≡ boots (words_noted o (packets_heard o past)) → CutsInRestart o past false (Off now) result
 tried o past notes now result s e r =
-    subst (λ x. CutsInRestart o past false (Off now) x) (sym r) (tried_by o past now (subst (λ k. Stands o past (Off k)) (sym e) s) (has_boot o past) refl)
+    subst (λ x. CutsInRestart o past false (Off now) x) (sym r) (tried_by o past now (subst (λ k. Stands o past (Off k)) (sym e) s) (has_boot o (packets_heard o past)) refl)

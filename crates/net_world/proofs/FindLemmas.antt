@@ -26,7 +26,7 @@ use Rattle.server_core.specs.declared.status.Status.{Status}
 use Rattle.server_core.specs.Check.{Check, Progress, Wanting, Full, With, Refused, Done, check, progress, progress_in, progress_at, progress_after}
 use Rattle.server_core.specs.Answers.{shown_entries, run_job, job_of_run, check_job, job_of_check, is_ready, status, number_of_check}
 use Rattle.server_core.specs.OpenWrites.{open_origin, open_ticket, open_write, origin_told, TicketsTellOrigins}
-use Rattle.server_core.specs.Hearing.{FrameEntry, packets_heard}
+use Rattle.server_core.specs.Hearing.{FrameEntry, packets_heard, is_up}
 use Rattle.net_world.specs.declared.server_node.ServerNode.{ServerNode}
 use Rattle.net_world.specs.declared.world.World.{World}
 use Rattle.net_world.specs.Setup.{Setup}
@@ -38,7 +38,7 @@ use Rattle.net_world.specs.Checks.{end_of_check, end_of_check_in, check_end, rep
 use Rattle.net_world.specs.Writes.{open_at}
 use Rattle.net_world.specs.Barred.{unless_on, unless_open, unless}
 use Rattle.net_world.specs.Nodes.{Shows}
-use Rattle.net_world.specs.ServerNodes.{server_nodes, is_up, Stands}
+use Rattle.net_world.specs.ServerNodes.{server_nodes, Stands}
 use Rattle.net_world.specs.Stands.{StandsFor}
 use Rattle.net_world.specs.Serving.{entries}
 use Rattle.net_world.specs.Finding.{IsRunning, IsAway, IsOpen, IsMadeBy, IsReady, state_of}

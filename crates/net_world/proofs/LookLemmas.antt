@@ -11,8 +11,8 @@ use Rattle.net_world.specs.Trace.{opening_of, of_server, client_opening, of_clie
 use Rattle.net_world.specs.Changes.{Change, trace}
 use Rattle.net_world.specs.Barred.{is_on}
 use Rattle.net_world.specs.World.{status, saved_state}
-use Rattle.net_world.specs.ServerNodes.{is_up}
-use Rattle.net_world.specs.ClientNodes as client_nodes
+use Rattle.server_core.specs.Hearing.{is_up}
+use Rattle.client_core.specs.Hearing as hearing
 use Rattle.net_world.specs.Serving.{entries}
 use Rattle.net_world.specs.Asking as asking
 use Rattle.net_world.proofs.ServeLemmas.{up_is}
@@ -46,12 +46,12 @@ if_on b x h = rw h refl
 if_off : {X : Type 0} (b : Bool) (x : Option X) → b ≡ false → (if b then x else None) ≡ None
 if_off b x h = rw h refl
 
-pub off_saved : (w : Setup) (past : List Change) (key : Key) → client_nodes.is_up (client_opening w) (asking.entries w past) ≡ false
+pub off_saved : (w : Setup) (past : List Change) (key : Key) → hearing.is_up (client_opening w) (asking.entries w past) ≡ false
     → saved_state w past key ≡ None
 off_saved w past key h =
     if_off (is_on w (trace w past) Client) (clients.kept_state (client_opening w) (of_client w (trace w past)) key) (sym (asks.up_is w past) ∙ h)
 
-pub on_saved : (w : Setup) (past : List Change) (key : Key) → client_nodes.is_up (client_opening w) (asking.entries w past) ≡ true
+pub on_saved : (w : Setup) (past : List Change) (key : Key) → hearing.is_up (client_opening w) (asking.entries w past) ≡ true
     → saved_state w past key ≡ clients.kept_state (client_opening w) (of_client w (trace w past)) key
 on_saved w past key h =
     if_on (is_on w (trace w past) Client) (clients.kept_state (client_opening w) (of_client w (trace w past)) key) (sym (asks.up_is w past) ∙ h)

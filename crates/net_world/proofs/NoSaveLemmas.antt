@@ -10,7 +10,7 @@ use Rattle.net_world.specs.Happenings.{Deliver, Restart, CutIn}
 use Rattle.net_world.specs.Trace.{client_opening}
 use Rattle.net_world.specs.Changes.{Change, trace}
 use Rattle.net_world.specs.Barred.{unless, is_on, unless_on, unless_sent}
-use Rattle.net_world.specs.ClientNodes.{is_up}
+use Rattle.client_core.specs.Hearing.{is_up}
 use Rattle.net_world.specs.Asking.{entries}
 use Rattle.net_world.specs.Delivering.{FindsFrame}
 use Rattle.net_world.specs.Stands.{StandsFor}

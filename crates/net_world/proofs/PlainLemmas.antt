@@ -12,7 +12,7 @@ use Rattle.messages.specs.declared.refusal.Act.{Act}
 use Rattle.messages.specs.declared.refusal.Act.TheVariants as acts
 use Rattle.server_core.specs.Words as words
 use Rattle.server_core.specs.Hearing as hearing
-use Rattle.server_core.specs.Hearing.{FrameEntry}
+use Rattle.server_core.specs.Hearing.{FrameEntry, is_up, packets_heard}
 use Rattle.net_world.specs.declared.server_node.ServerNode.{ServerNode}
 use Rattle.net_world.specs.declared.told.WorldAnswer.{WorldAnswer}
 use Rattle.net_world.specs.declared.told.WorldAnswer.TheVariants.{Plain}
@@ -20,16 +20,16 @@ use Rattle.net_world.specs.declared.told.Told.{Told}
 use Rattle.net_world.specs.declared.world.World.{World}
 use Rattle.net_world.specs.Setup.{Setup}
 use Rattle.net_world.specs.Happenings.{Happening, Cut, Restart}
-use Rattle.net_world.specs.Trace.{opening_of}
+use Rattle.net_world.specs.Trace.{opening_of, of_server}
 use Rattle.net_world.specs.Frames.{FrameStep, frames_sent, frames_of_step}
 use Rattle.net_world.specs.Changes.{Change, Met, steps, trace}
 use Rattle.net_world.specs.Barred.{unless_on, unless_off, is_on, unless}
-use Rattle.net_world.specs.Outcomes.{Does, Refuses, outcome_of_step, outcome, has_boot}
+use Rattle.server_core.specs.Words.{has_boot}
+use Rattle.net_world.specs.Outcomes.{Does, Refuses, outcome_of_step, outcome}
 use Rattle.net_world.specs.World.{answer, act, told_by, frame_count}
 use Rattle.net_world.specs.Telling.{plainly_told}
 use Rattle.net_world.specs.Sending.{sent_in}
 use Rattle.net_world.specs.ServerNodes as servers
-use Rattle.net_world.specs.ServerNodes.{is_up}
 use Rattle.net_world.specs.Stands.{StandsFor}
 use Rattle.net_world.specs.Ends.{Ends}
 use Rattle.net_world.specs.Serving.{entries, step_of}
@@ -79,7 +79,8 @@ cut_plain w past s h = record { comes = goes w past (Cut (nodes.Server s)) h; an
 restart_silent : (w : Setup) (past : List Change) (s : ℕ) → frames_of_step w (steps past) (step_of s (hearing.Restart lefts.Saved)) ≡ []
 restart_silent w past s = sym (frames_are w past s (hearing.Restart lefts.Saved))
 
-pub boot_is : (w : Setup) (past : List Change) (s : ℕ) → servers.has_boot (opening_of s) (entries past s) ≡ has_boot (trace w past) s
+pub boot_is : (w : Setup) (past : List Change) (s : ℕ) → has_boot (opening_of s) (packets_heard (opening_of s) (entries past s))
+    ≡ has_boot (opening_of s) (of_server s (trace w past))
 boot_is w past s = ap (λ list. nat_lt (words.boot (opening_of s) list + 1) (2 ^ 64)) (heard_is w past s)
 
 on_test : (a b : Bool) (f g : Fault) → a ≡ true → b ≡ false → option_or (unless a f) (unless (not b) g) ≡ None
@@ -101,7 +102,7 @@ pub runs_on : (w : Setup) (past : List Change) (s : ℕ) → s < w.servers → i
 runs_on w past s l h = on_fails (nat_lt s w.servers) (is_on w (trace w past) (nodes.Server s)) NoServer NodeOn (lt-ltb s w.servers l) (sym (up_is w past s) ∙ h)
 
 pub restart_plain : (w : Setup) (past : List Change) (s : ℕ) → unless_off w (trace w past) (nodes.Server s) ≡ None
-    → servers.has_boot (opening_of s) (entries past s) ≡ true
+    → has_boot (opening_of s) (packets_heard (opening_of s) (entries past s)) ≡ true
     → IsPlain w past (Restart (nodes.Server s)) (step_of s (hearing.Restart lefts.Saved))
 restart_plain w past s h b = record {
   comes = goes w past (Restart (nodes.Server s)) h ∙ ap (λ x. outcome_of_step (if x then Ok (step_of s (hearing.Restart lefts.Saved)) else Err NumbersSpent))
@@ -112,7 +113,7 @@ restart_plain w past s h b = record {
 }
 
 pub restart_spent : (w : Setup) (past : List Change) (s : ℕ) → unless_off w (trace w past) (nodes.Server s) ≡ None
-    → servers.has_boot (opening_of s) (entries past s) ≡ false → outcome w past (Restart (nodes.Server s)) ≡ Refuses NumbersSpent
+    → has_boot (opening_of s) (packets_heard (opening_of s) (entries past s)) ≡ false → outcome w past (Restart (nodes.Server s)) ≡ Refuses NumbersSpent
 restart_spent w past s h b =
     goes w past (Restart (nodes.Server s)) h ∙ ap (λ x. outcome_of_step (if x then Ok (step_of s (hearing.Restart lefts.Saved)) else Err NumbersSpent))
     (sym (boot_is w past s) ∙ b)

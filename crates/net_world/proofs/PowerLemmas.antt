@@ -9,12 +9,12 @@ use Rattle.server_core.specs.declared.note.Noted.{Noted}
 use Rattle.server_core.specs.declared.server.Server.{Server}
 use Rattle.server_core.specs.History.{Opening}
 use Rattle.server_core.specs.Note.{Says}
-use Rattle.server_core.specs.Words.{boot}
+use Rattle.server_core.specs.Words.{boot, words_noted}
 use Rattle.server_core.specs.Serves.{NotOpened}
 use Rattle.server_core.specs.Hearing.{FrameEntry, packets_heard}
 use Rattle.server_core.specs.FrameEnds.{Restarts as Opened}
 use Rattle.net_world.specs.declared.server_node.ServerNode.TheVariants.{On, Off}
-use Rattle.net_world.specs.ServerNodes.{words_noted, Stands, Restarts}
+use Rattle.net_world.specs.ServerNodes.{Stands, Restarts}
 
 says_same : (old new : Note) (n : Noted) → new ≡ old → Says old.bytes n → Says new.bytes n
 says_same old new n h s = subst (λ (x : Note). Says x.bytes n) (sym h) s

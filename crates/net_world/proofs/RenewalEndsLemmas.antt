@@ -20,7 +20,7 @@ use Rattle.client_core.specs.Note.{is_blank}
 use Rattle.client_core.specs.Words.{words_noted}
 use Rattle.client_core.specs.Laws.{generations}
 use Rattle.client_core.specs.Hearing as hearing
-use Rattle.client_core.specs.Hearing.{FrameEntry, rules, heard_at, packets_heard}
+use Rattle.client_core.specs.Hearing.{FrameEntry, rules, heard_at, packets_heard, is_up}
 use Rattle.client_core.specs.declared.input.Input.TheVariants as inputs
 use Rattle.net_world.specs.declared.told.Told.{Told}
 use Rattle.net_world.specs.declared.world.World.{World}
@@ -36,7 +36,7 @@ use Rattle.net_world.specs.declared.told.WorldAnswer.TheVariants.{Plain}
 use Rattle.net_world.specs.Telling.{plainly_told}
 use Rattle.net_world.specs.Sending.{sent_in}
 use Rattle.net_world.specs.ClientNodes as nodes
-use Rattle.net_world.specs.ClientNodes.{is_up, handed_in, lacks_note}
+use Rattle.net_world.specs.ClientNodes.{handed_in, lacks_note}
 use Rattle.net_world.specs.Stands.{IsGreatest, StandsFor}
 use Rattle.net_world.specs.Ends.{Ends}
 use Rattle.net_world.specs.Asking.{entries, step_of}

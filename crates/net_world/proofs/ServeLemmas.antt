@@ -32,7 +32,7 @@ use Rattle.server_core.specs.Replies.{replies}
 use Rattle.server_core.specs.Answers as packet_answers
 use Rattle.server_core.specs.Answers.{to_client, sent_by}
 use Rattle.server_core.specs.Words as words
-use Rattle.server_core.specs.Hearing.{FrameEntry, Met, rules, heard_at, coming_of, packets_heard, arrival}
+use Rattle.server_core.specs.Hearing.{FrameEntry, Met, rules, heard_at, coming_of, packets_heard, arrival, is_up}
 use Rattle.server_core.specs.FrameAnswers as answers
 use Rattle.net_world.specs.declared.served.Served.{Served}
 use Rattle.net_world.specs.declared.mirror_node.Mirrored.{Mirrored}
@@ -46,7 +46,7 @@ use Rattle.net_world.specs.Barred.{unless_on, is_on, unless}
 use Rattle.net_world.specs.World.{frames}
 use Rattle.net_world.specs.Sending.{sent_in}
 use Rattle.net_world.specs.Nodes as any_node
-use Rattle.net_world.specs.ServerNodes.{server_nodes, is_up, Stands}
+use Rattle.net_world.specs.ServerNodes.{server_nodes, Stands}
 use Rattle.net_world.specs.ClientNodes as clients
 use Rattle.net_world.specs.ClientNodes.{handed_in}
 use Rattle.net_world.specs.Stands.{IsMirror, IsGreatest, StandsFor}

@@ -9,9 +9,9 @@ use Rattle.server_core.specs.declared.input.Input.TheVariants as inputs
 use Rattle.server_core.specs.History as server
 use Rattle.server_core.specs.History.{Opening}
 use Rattle.server_core.specs.Words as words
-use Rattle.server_core.specs.Hearing.{FrameEntry, Met, rules, heard_at, packets_heard}
+use Rattle.server_core.specs.Hearing.{FrameEntry, Met, rules, heard_at, packets_heard, is_up}
 use Rattle.net_world.specs.declared.server_node.ServerNode.TheVariants.{On}
-use Rattle.net_world.specs.ServerNodes.{server_nodes, is_up}
+use Rattle.net_world.specs.ServerNodes.{server_nodes}
 use Rattle.net_world.proofs.NodeLemmas.{Laws, stays}
 
 piece_stays : (o : Opening) (list : List server.Entry) (left : Left) (m : Meaning) → words.is_on list ≡ true → is_lost left ≡ false

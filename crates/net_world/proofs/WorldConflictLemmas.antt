@@ -41,7 +41,8 @@ use Rattle.net_world.specs.Writes.{open_at}
 use Rattle.net_world.specs.Checks.{end_of_check}
 use Rattle.net_world.specs.Barred.{barring_fault}
 use Rattle.net_world.specs.Outcomes.{Outcome, Does, Refuses, Drops, met_by_server, met_by_client, comes_to_server, comes_to_client, said_to_server}
-use Rattle.net_world.specs.Outcomes.{said_to_client, comes_to, delivery, end_of_write, end_of_check_met, has_boot, cut, noted_in, restart_of}
+use Rattle.server_core.specs.Words.{has_boot}
+use Rattle.net_world.specs.Outcomes.{said_to_client, comes_to, delivery, end_of_write, end_of_check_met, cut, noted_in, restart_of}
 use Rattle.net_world.specs.Outcomes.{cut_in, server_frame_cut, client_frame_cut, frame_cut, delivery_cut_in, restart_cut_in, brings, outcome}
 use Rattle.net_world.specs.World.{told_by, world}
 use Rattle.net_world.specs.WorldLaws.{EachWorldIsAFrameTrace}
@@ -152,7 +153,7 @@ fine_unless_step false step fault f h = cc
 
 fine_restarted : (w : Setup) (t : List Step) (node : Node) → FineStep (restart_of w t node)
 unfolding Fine FineStep
-fine_restarted w t (Server s) h = fine_if_step (has_boot t s) _ NumbersSpent (λ h. cc) h
+fine_restarted w t (Server s) h = fine_if_step (has_boot (opening_of s) (of_server s t)) _ NumbersSpent (λ h. cc) h
 fine_restarted w t Client h = fine_unless_step (w.mirror && is_blank (noted_in w t)) _ BadNote (λ h. cc) h
 fine_restarted w t Mirror h = cc
 
@@ -168,7 +169,7 @@ fine_cut Mirror h = cc
 
 fine_restart_cut : (t : List Step) (landed : Bool) (node : Node) → FineStep (restart_cut_in t landed node)
 unfolding Fine FineStep
-fine_restart_cut t landed (Server s) h = fine_if_step (has_boot t s) _ NoSave (λ h. cc) h
+fine_restart_cut t landed (Server s) h = fine_if_step (has_boot (opening_of s) (of_server s t)) _ NoSave (λ h. cc) h
 fine_restart_cut t landed Client h = cc
 fine_restart_cut t landed Mirror h = cc
 

@@ -44,7 +44,8 @@ use Rattle.net_world.specs.Checks.{end_of_check_in}
 use Rattle.net_world.specs.Barred.{unless_on, unless_off, unless_sent, barring_fault}
 use Rattle.net_world.specs.Outcomes.{Outcome, Does, Refuses, Drops, outcome_of_step, unless_fault, where_saved, lost_by, met_by_server}
 use Rattle.net_world.specs.Outcomes.{met_by_client, comes_to_server, comes_to_client, comes_to_mirror, said_to_server, said_to_client, comes_to}
-use Rattle.net_world.specs.Outcomes.{delivery, end_of_write, end_of_check_met, has_boot, cut, noted_in, restart_of, client_cut_in, server_frame_cut}
+use Rattle.server_core.specs.Words.{has_boot}
+use Rattle.net_world.specs.Outcomes.{delivery, end_of_write, end_of_check_met, cut, noted_in, restart_of, client_cut_in, server_frame_cut}
 use Rattle.net_world.specs.Outcomes.{client_frame_cut, frame_cut, delivery_cut_in, restart_cut_in, cut_in, brings, unless_barred, outcome}
 use Rattle.net_world.specs.World.{and_outcome, world}
 use Rattle.net_world.proofs.ReportFitLemmas.{server_there, server_off, write_there, SomeEnd, fit_end}
@@ -113,7 +114,7 @@ fit_unless_so false step fault h = h
 
 fit_restarted : (w : Setup) (t : List Step) (node : Node) → w.servers ≤ MAX_SERVERS → unless_off w t node ≡ None → FitBe (restart_of w t node)
 unfolding FitBe
-fit_restarted w t (Server s) l h = fit_if (has_boot t s) (OfServer s (Happens (server.Restart lefts.Saved))) NumbersSpent (server_off w t s l h, tt)
+fit_restarted w t (Server s) l h = fit_if (has_boot (opening_of s) (of_server s t)) (OfServer s (Happens (server.Restart lefts.Saved))) NumbersSpent (server_off w t s l h, tt)
 fit_restarted w t Client l h = fit_unless_so (w.mirror && is_blank (noted_in w t)) (OfClient (Happens (client.Restart w.mirror))) BadNote tt
 fit_restarted w t Mirror l h = tt
 
@@ -124,7 +125,7 @@ fit_renewal w t g left fault = fit_if (is_blank (noted_in w t)) (OfClient (Happe
 fit_restart_cut : (w : Setup) (t : List Step) (landed : Bool) (node : Node) → w.servers ≤ MAX_SERVERS → unless_off w t node ≡ None
     → FitBe (restart_cut_in t landed node)
 unfolding FitBe
-fit_restart_cut w t landed (Server s) l h = fit_if (has_boot t s) (OfServer s (Happens (server.Restart (lost_by landed)))) NoSave (server_off w t s l h, tt)
+fit_restart_cut w t landed (Server s) l h = fit_if (has_boot (opening_of s) (of_server s t)) (OfServer s (Happens (server.Restart (lost_by landed)))) NoSave (server_off w t s l h, tt)
 fit_restart_cut w t landed Client l h = tt
 fit_restart_cut w t landed Mirror l h = tt
 

@@ -43,7 +43,8 @@ use Rattle.net_world.specs.Checks.{report_for, check_end, end_of_check_in}
 use Rattle.net_world.specs.Barred.{unless_on, unless_off, unless_sent, unless_losable, unless_unused, barring_fault}
 use Rattle.net_world.specs.Outcomes.{Outcome, Does, Refuses, Drops, outcome_of_step, unless_fault, where_saved, lost_by, met_by_server}
 use Rattle.net_world.specs.Outcomes.{met_by_client, comes_to_server, comes_to_client, comes_to_mirror, said_to_server, said_to_client, comes_to}
-use Rattle.net_world.specs.Outcomes.{delivery, end_of_write, end_of_check_met, has_boot, cut, noted_in, restart_of, client_cut_in, server_frame_cut}
+use Rattle.server_core.specs.Words.{has_boot}
+use Rattle.net_world.specs.Outcomes.{delivery, end_of_write, end_of_check_met, cut, noted_in, restart_of, client_cut_in, server_frame_cut}
 use Rattle.net_world.specs.Outcomes.{client_frame_cut, frame_cut, delivery_cut_in, restart_cut_in, cut_in}
 use Rattle.net_world.proofs.StartedLemmas.{has_mirror_of, restart_fits, renewal_fits}
 
@@ -133,7 +134,7 @@ pub may_restart : (w : Setup) (ps : List FrameStep) (node : Node) → IsFrameTra
     → MayBe w ps (restart_of w (trace_heard w ps) node)
 unfolding MayBe Goes
 may_restart w ps (Server s) so h =
-    may_if w ps (has_boot (trace_heard w ps) s) (OfServer s (Happens (server.Restart lefts.Saved))) NumbersSpent (λ e. (refl, refl))
+    may_if w ps (has_boot (opening_of s) (of_server s (trace_heard w ps))) (OfServer s (Happens (server.Restart lefts.Saved))) NumbersSpent (λ e. (refl, refl))
 may_restart w ps Client so h =
     may_unless_so w ps (w.mirror && is_blank (noted_in w (trace_heard w ps))) (OfClient (Happens (client.Restart w.mirror))) BadNote
     (λ e. (refl, restart_fits w ps so e))
@@ -154,7 +155,7 @@ may_client_cut w ps t landed c m = may_save w ps (clients.due (client_opening w)
 
 may_restart_cut : (w : Setup) (ps : List FrameStep) (t : List Step) (landed : Bool) (node : Node) → MayBe w ps (restart_cut_in t landed node)
 unfolding MayBe Goes
-may_restart_cut w ps t landed (Server s) = may_if w ps (has_boot t s) (OfServer s (Happens (server.Restart (lost_by landed)))) NoSave (λ e. (refl, refl))
+may_restart_cut w ps t landed (Server s) = may_if w ps (has_boot (opening_of s) (of_server s t)) (OfServer s (Happens (server.Restart (lost_by landed)))) NoSave (λ e. (refl, refl))
 may_restart_cut w ps t landed Client = tt
 may_restart_cut w ps t landed Mirror = tt
 

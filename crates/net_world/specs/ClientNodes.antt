@@ -13,9 +13,9 @@ use Rattle.client_core.specs.declared.input.Input.TheVariants as inputs
 use Rattle.client_core.specs.History.{Opening}
 use Rattle.client_core.specs.declared.noted.Noted.{Noted}
 use Rattle.client_core.specs.Note.{Says, is_blank}
-use Rattle.client_core.specs.Words.{is_on, words_noted}
+use Rattle.client_core.specs.Words.{words_noted}
 use Rattle.client_core.specs.Saves.{Addition}
-use Rattle.client_core.specs.Hearing.{FrameEntry, Restart, Renew, Lose, packets_heard}
+use Rattle.client_core.specs.Hearing.{FrameEntry, Restart, Renew, Lose, packets_heard, is_up}
 use Rattle.client_core.specs.FrameAnswers.{sense}
 use Rattle.client_core.specs.FrameEnds.{StandsFor, steps}
 use Rattle.net_world.specs.declared.asked.Asked.{Asked}
@@ -25,10 +25,6 @@ use Rattle.net_world.specs.declared.told.WorldAnswer.{WorldAnswer}
 use Rattle.net_world.specs.declared.told.WorldAnswer.TheVariants as answers
 use Rattle.net_world.specs.Nodes.{Nodes, Answers, Faults, Starts}
 use Rattle.net_world.specs.Outcomes.{lost_by}
-
--- It is on, by the list.
-abbrev pub is_up : Opening → List FrameEntry → Bool
-is_up o past = is_on (packets_heard o past)
 
 -- A note that says nothing has no bytes.
 abbrev pub IsEmptyIfBlank : List ℕ → Noted → Type 0

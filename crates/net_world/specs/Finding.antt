@@ -23,7 +23,7 @@ use Rattle.net_world.specs.Changes.{Change, trace}
 use Rattle.net_world.specs.Writes.{open_at}
 use Rattle.net_world.specs.Checks.{key_of, end_of_check}
 use Rattle.net_world.specs.Barred.{unless_on, unless_open}
-use Rattle.net_world.specs.ServerNodes.{is_up}
+use Rattle.server_core.specs.Hearing.{is_up}
 use Rattle.net_world.specs.Serving.{entries}
 
 -- This is server s, which is there and on, and stands for its list.

@@ -1,5 +1,5 @@
 -- What comes of what happens in a world.
-use Rattle.std.specs.Prelude.{ℕ, ◌+◌, ◌^◌, Bool, nat_lt, ◌&&◌, List, Option, Some, None, slice_get, Result, Ok, Err, if◌then◌else◌}
+use Rattle.std.specs.Prelude.{ℕ, Bool, ◌&&◌, List, Option, Some, None, slice_get, Result, Ok, Err, if◌then◌else◌}
 use Rattle.fc_base.specs.declared.fault.Fault.{Fault}
 use Rattle.fc_base.specs.declared.fault.Fault.TheVariants.{BadNote, NumbersSpent, NoSave, NoFrame, NoWrite, NotInFlight, Misdirected}
 use Rattle.messages.specs.declared.node.Node.{Node}
@@ -144,10 +144,6 @@ cut (Server s) = Ok (OfServer s (Happens server.Cut))
 cut Client = Ok (OfClient (Happens client.Cut))
 cut Mirror = Ok (OfMirror mirror.Cut)
 
--- A boot of eight bytes is left above those that were used.
-abbrev pub has_boot : List Step → ℕ → Bool
-has_boot t s = nat_lt (servers.boot (opening_of s) (of_server s t) + 1) (2 ^ 64)
-
 -- What the client's note says.
 abbrev pub noted_in : Setup → List Step → Noted
 noted_in w t = clients.words_noted (client_opening w) (of_client w t)
@@ -156,7 +152,8 @@ noted_in w t = clients.words_noted (client_opening w) (of_client w t)
 -- only on a note.
 abbrev pub restart_of : Setup → List Step → Node → Result FrameStep Fault
 restart_of w t (Server s) =
-    if has_boot t s then Ok (OfServer s (Happens (server.Restart lefts.Saved)))
+    if servers.has_boot (opening_of s) (of_server s t)
+    then Ok (OfServer s (Happens (server.Restart lefts.Saved)))
     else Err NumbersSpent
 restart_of w t Client =
     if w.mirror && is_blank (noted_in w t) then Err BadNote
@@ -211,7 +208,8 @@ delivery_cut_in w past landed (Some f) = frame_cut w past landed (to_of f) f
 -- A server loses its power within the save of its boot. The restart of another node makes no save.
 abbrev pub restart_cut_in : List Step → Bool → Node → Result FrameStep Fault
 restart_cut_in t landed (Server s) =
-    if has_boot t s then Ok (OfServer s (Happens (server.Restart (lost_by landed)))) else Err NoSave
+    if servers.has_boot (opening_of s) (of_server s t)
+    then Ok (OfServer s (Happens (server.Restart (lost_by landed)))) else Err NoSave
 restart_cut_in t landed Client = Err NoSave
 restart_cut_in t landed Mirror = Err NoSave
 

@@ -10,25 +10,16 @@ use Rattle.server_core.specs.declared.input.Input.{Input}
 use Rattle.server_core.specs.declared.note.Noted.{Noted}
 use Rattle.server_core.specs.declared.outs.Outs.{Outs}
 use Rattle.server_core.specs.declared.server.Server.{Server}
-use Rattle.server_core.specs.History as packets
 use Rattle.server_core.specs.History.{Opening}
 use Rattle.server_core.specs.Note.{Says}
-use Rattle.server_core.specs.Words.{Staged, is_on, boot, last_run}
-use Rattle.server_core.specs.Hearing.{FrameEntry, Restart, packets_heard}
+use Rattle.server_core.specs.Words.{Staged, words_noted, has_boot}
+use Rattle.server_core.specs.Hearing.{FrameEntry, Restart, packets_heard, is_up}
 use Rattle.server_core.specs.FrameAnswers.{sense}
 use Rattle.server_core.specs.FrameEnds.{StandsFor, steps}
 use Rattle.net_world.specs.declared.server_node.ServerNode.{ServerNode}
 use Rattle.net_world.specs.declared.server_node.ServerNode.TheVariants.{On, Off}
 use Rattle.net_world.specs.Nodes.{Nodes, Starts}
 use Rattle.net_world.specs.Outcomes.{lost_by}
-
--- What the note of a server says behind this list.
-abbrev pub words_noted : Opening → List packets.Entry → Noted
-words_noted o past = record { boot = boot o past; last_run = last_run o past }
-
--- It is on, by the list.
-abbrev pub is_up : Opening → List FrameEntry → Bool
-is_up o past = is_on (packets_heard o past)
 
 -- A server that runs stands for the list, which says that it is on; of one that is off, which the
 -- list says, the note says what the list says.
@@ -47,13 +38,11 @@ server_nodes o = record {
   Stays = λ past e new. is_drop (sense o past e) ≡ false → Stands o past new;
 }
 
--- A boot of eight bytes is left above those that were used.
-abbrev pub has_boot : Opening → List FrameEntry → Bool
-has_boot o past = nat_lt (boot o (packets_heard o past) + 1) (2 ^ 64)
-
 -- How a restart ends: the server runs in the next boot, unless its boots are used up.
 abbrev pub Restarts : Opening → List FrameEntry → ServerNode → Result (Unit {0}) Fault → Type 0
-Restarts o past = Starts (server_nodes o) past (has_boot o past) true NumbersSpent (Restart Saved)
+Restarts o past =
+    Starts (server_nodes o) past (has_boot o (packets_heard o past)) true NumbersSpent
+    (Restart Saved)
 
 -- There is a save where a note leaves a boot above those that were used.
 abbrev pub boots : Noted → Result (Unit {0}) Fault
@@ -68,4 +57,4 @@ no_save fault = fault
 abbrev pub CutsInRestart : Opening → List FrameEntry →
     Bool → ServerNode → Result (Unit {0}) Fault → Type 0
 CutsInRestart o past landed =
-    Starts (server_nodes o) past (has_boot o past) true NoSave (Restart (lost_by landed))
+    Starts (server_nodes o) past (has_boot o (packets_heard o past)) true NoSave (Restart (lost_by landed))

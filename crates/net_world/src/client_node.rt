@@ -6,7 +6,7 @@ ghost use Rattle.fc_base.specs.declared.limits.TheConstants.{MAX_SERVERS};
 ghost use Rattle.fc_base.specs.declared.fault.Fault.TheVariants.{NoMemory};
 ghost use Rattle.client_core.specs.Note.{blank};
 ghost use Rattle.client_core.specs.History.{Opening};
-ghost use Rattle.client_core.specs.Hearing.{FrameEntry, Restart, Cut};
+ghost use Rattle.client_core.specs.Hearing.{FrameEntry, Restart, Cut, is_up};
 
 mod asks;
 mod cut_in;
@@ -28,7 +28,7 @@ pub enum ClientNode {
 impl ClientNode {
     ghost use Rattle.net_world.specs.declared.client_node.ClientNode.TheVariants.{Off};
     ghost use Rattle.net_world.specs.Nodes.{Shows};
-    ghost use Rattle.net_world.specs.ClientNodes.{client_nodes, is_up, Stands, Restarts};
+    ghost use Rattle.net_world.specs.ClientNodes.{client_nodes, Stands, Restarts};
 
     /// A client of so many servers on a blank note.
     pub(crate) fn open(alloc: Global, servers: u32) -> Result<ClientNode, Fault>

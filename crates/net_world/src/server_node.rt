@@ -5,7 +5,7 @@ ghost use Rattle.std.specs.Option.{option_copied};
 ghost use Rattle.fc_base.specs.declared.limits.TheConstants.{MAX_SERVERS};
 ghost use Rattle.disk_model.specs.declared.left.Left.TheVariants.{Saved};
 ghost use Rattle.server_core.specs.History.{Opening};
-ghost use Rattle.server_core.specs.Hearing.{FrameEntry, Restart, Cut, packets_heard};
+ghost use Rattle.server_core.specs.Hearing.{FrameEntry, Restart, Cut, packets_heard, is_up};
 ghost use Rattle.server_core.specs.Words.{is_on};
 ghost use Rattle.server_core.specs.Note.{Says};
 ghost use Rattle.server_core.specs.declared.note.Noted.{Noted};
@@ -29,7 +29,7 @@ pub enum ServerNode {
 impl ServerNode {
     ghost use Rattle.net_world.specs.declared.server_node.ServerNode.TheVariants.{Off};
     ghost use Rattle.net_world.specs.Nodes.{Shows, Ends, CutsIn};
-    ghost use Rattle.net_world.specs.ServerNodes.{server_nodes, is_up, Stands};
+    ghost use Rattle.net_world.specs.ServerNodes.{server_nodes, Stands};
     ghost use Rattle.net_world.specs.ServerNodes.{Restarts, CutsInRestart};
     ghost use Rattle.server_core.specs.declared.input.Input.TheVariants.{Deliver};
     ghost use Rattle.server_core.specs.FrameAnswers.{would_save};

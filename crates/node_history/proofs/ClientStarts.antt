@@ -10,12 +10,12 @@ use Rattle.client_core.specs.History.{Opening}
 use Rattle.client_core.specs.Note.{Says}
 use Rattle.client_core.specs.Words.{words_noted}
 use Rattle.client_core.specs.Stands.{IsBadNote, NotOpened}
-use Rattle.client_core.specs.Hearing.{FrameEntry, Restart, packets_heard}
+use Rattle.client_core.specs.Hearing.{FrameEntry, Restart, packets_heard, is_up}
 use Rattle.client_core.specs.FrameEnds as ends
+use Rattle.client_core.specs.FrameEnds.{note_in}
 use Rattle.node_history.specs.declared.answer.Said.{Said}
 use Rattle.node_history.specs.declared.power.Power.TheVariants.{Off}
 use Rattle.node_history.specs.ClientKind.{client_kind}
-use Rattle.node_history.specs.ClientRules.{is_up}
 use Rattle.node_history.specs.Failures.{Counts}
 use Rattle.node_history.specs.Moves.{TaskEnds}
 use Rattle.node_history.specs.Powers.{failures_of, left_by, told_of, ways}
@@ -67,7 +67,7 @@ unstarted_counts old new _ h = absurd h
 
 pub start_counts : {T : Type 0} (note : T → Note) (servers : ℕ) (notes : T) (result : Result (Client T) (T × Fault))
     → ends.Restarts note servers false (note notes) result
-    → Counts true (note notes).failures (failures_of (λ (client : Client T). (note client.core.notes).failures) (λ notes. (note notes).failures)
+    → Counts true (note notes).failures (failures_of (λ (client : Client T). (note_in note client).failures) (λ notes. (note notes).failures)
     (left_by result)) (told_of result)
 start_counts note servers notes (Ok client) h = tt
 start_counts note servers notes (Err back) h = unstarted_counts (note notes) (note back.0) back.1 h

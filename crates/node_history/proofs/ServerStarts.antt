@@ -10,10 +10,11 @@ use Rattle.server_core.specs.declared.note.Noted.{Noted}
 use Rattle.server_core.specs.declared.server.Server.{Server}
 use Rattle.server_core.specs.History.{Opening}
 use Rattle.server_core.specs.Note.{Says, SaysOneThing, spelling}
-use Rattle.server_core.specs.Words.{boot}
+use Rattle.server_core.specs.Words.{boot, has_boot}
 use Rattle.server_core.specs.Serves.{NotOpened}
-use Rattle.server_core.specs.Hearing.{FrameEntry, Restart, packets_heard}
+use Rattle.server_core.specs.Hearing.{FrameEntry, Restart, packets_heard, is_up}
 use Rattle.server_core.specs.FrameEnds as ends
+use Rattle.server_core.specs.FrameEnds.{note_in}
 use Rattle.node_history.specs.declared.answer.Said.{Said}
 use Rattle.node_history.specs.declared.power.Power.TheVariants.{Off}
 use Rattle.node_history.specs.Failures.{Counts}
@@ -21,7 +22,6 @@ use Rattle.node_history.specs.Moves.{TaskEnds}
 use Rattle.node_history.specs.Powers.{failures_of, left_by, told_of, ways}
 use Rattle.node_history.specs.Rules.{Restarts}
 use Rattle.node_history.specs.ServerKind.{words_noted, server_kind}
-use Rattle.node_history.specs.ServerRules.{is_up, has_boot}
 use Rattle.node_history.proofs.MoveLemmas.{refused, lost}
 
 -- ---- whether it may be
@@ -42,7 +42,7 @@ not_off true h = cc
 
 -- A boot was left where what the note said left one.
 left_one : SaysOneThing → (old : List ℕ) (o : Opening) (past : List FrameEntry) (n : Noted) → Says old n → n.boot < 2 ^ 64 - 1
-    → Says old (words_noted o (packets_heard o past)) → has_boot o past ≡ true
+    → Says old (words_noted o (packets_heard o past)) → has_boot o (packets_heard o past) ≡ true
 left_one one old o past n read left says =
     let same = one old n (words_noted o (packets_heard o past)) read says in
     let below = subst (λ (m : Noted). m.boot < 2 ^ 64 - 1) same left in
@@ -69,7 +69,7 @@ unstarted note o past notes back LoadFault one off says h = record {
 unstarted note o past notes back BadNote one off says h = absurd (h.1 (words_noted o (packets_heard o past)) says)
 unstarted note o past notes back NumbersSpent one off says h =
     refused (ways (server_kind note o)) past Restarts NumbersSpent (Off back) refl
-    (is_spent (is_up o past) (has_boot o past) off (le-ltb (boot o (packets_heard o past) + 1) (2 ^ 64)
+    (is_spent (is_up o past) (has_boot o (packets_heard o past)) off (le-ltb (boot o (packets_heard o past) + 1) (2 ^ 64)
     (omega (arith, h.1 (words_noted o (packets_heard o past)) says)))) refl
     (subst (λ (n : Note). Says n.bytes (words_noted o (packets_heard o past))) (sym h.0) says, off)
 unstarted note o past notes back NoMemory one off says h = (refl, (subst (λ (n : Note). Says n.bytes (words_noted o (packets_heard o past))) (sym h) says, off))
@@ -80,11 +80,11 @@ unstarted note o past notes back SaveFault one off says h = half h.1
         → TaskEnds (ways (server_kind note o)) past Restarts (Off back) (Err SaveFault)
     half (n, read, left, inl is) =
         lost (ways (server_kind note o)) past Restarts SaveFault false (Restart lefts.LostOld) (Off back) refl
-        (may_restart (is_up o past) (has_boot o past) off (left_one one (note notes).bytes o past n read left says)) refl
+        (may_restart (is_up o past) (has_boot o (packets_heard o past)) off (left_one one (note notes).bytes o past n read left says)) refl
         (subst (λ bytes. Says bytes (words_noted o (packets_heard o past))) (sym is) says, refl) (λ h. h)
     half (n, read, left, inr is) =
         lost (ways (server_kind note o)) past Restarts SaveFault true (Restart lefts.LostNew) (Off back) refl
-        (may_restart (is_up o past) (has_boot o past) off (left_one one (note notes).bytes o past n read left says)) refl
+        (may_restart (is_up o past) (has_boot o (packets_heard o past)) off (left_one one (note notes).bytes o past n read left says)) refl
         (next_says one (note notes).bytes (note back).bytes o past n read left says is, refl) (λ h. h)
 unstarted note o past notes back _ one off says h = absurd h
 
@@ -96,7 +96,7 @@ starts note o past me notes (Ok server) one is off says h =
     record {
       after = Restart lefts.Saved ∷ past;
       ends = record {
-        free = may_restart (is_up o past) (has_boot o past) off (lt-ltb (boot o (packets_heard o past) + 1) (2 ^ 64) stands.core.durable.boot_range);
+        free = may_restart (is_up o past) (has_boot o (packets_heard o past)) off (lt-ltb (boot o (packets_heard o past) + 1) (2 ^ 64) stands.core.durable.boot_range);
         said_is = refl;
         entry = Restart lefts.Saved;
         entry_is = refl;
@@ -118,7 +118,7 @@ unstarted_counts old new SaveFault h = h.0
 unstarted_counts old new _ h = absurd h
 
 pub start_counts : {T : Type 0} (note : T → Note) (me : ℕ) (notes : T) (result : Result (Server T) (T × Fault)) → ends.Opens note me notes result
-    → Counts true (note notes).failures (failures_of (λ (server : Server T). (note server.core.notes).failures) (λ notes. (note notes).failures)
+    → Counts true (note notes).failures (failures_of (λ (server : Server T). (note_in note server).failures) (λ notes. (note notes).failures)
     (left_by result)) (told_of result)
 start_counts note me notes (Ok server) h = tt
 start_counts note me notes (Err back) h = unstarted_counts (note notes) (note back.0) back.1 h

@@ -1,5 +1,5 @@
 -- The rules of the client under its lock.
-use Rattle.std.specs.Prelude.{◌+◌, Bool, false, List, Option, Some, None}
+use Rattle.std.specs.Prelude.{◌+◌, false, List, Option, Some, None}
 use Rattle.std.specs.Option.{option_map}
 use Rattle.disk_model.specs.declared.left.Left.TheVariants.{NoSave}
 use Rattle.messages.specs.declared.frame.Frame.{Frame}
@@ -8,8 +8,8 @@ use Rattle.messages.specs.FrameBytes.{frame_at}
 use Rattle.client_core.specs.declared.input.Input.{Input}
 use Rattle.client_core.specs.declared.input.Input.TheVariants as inputs
 use Rattle.client_core.specs.History.{Opening}
-use Rattle.client_core.specs.Words.{is_on, words_noted}
-use Rattle.client_core.specs.Hearing.{FrameEntry, Met, Cut, Restart, packets_heard}
+use Rattle.client_core.specs.Words.{words_noted}
+use Rattle.client_core.specs.Hearing.{FrameEntry, Met, Cut, Restart, packets_heard, is_up}
 use Rattle.client_core.specs.FrameAnswers as answers
 use Rattle.node_history.specs.declared.came.Came.{Came}
 use Rattle.node_history.specs.declared.came.Came.TheVariants as came
@@ -34,10 +34,6 @@ ask_of came.Tick = Meets inputs.Tick
 ask_of came.Cut = Cuts
 ask_of came.Restart = Restarts
 ask_of _ = Nothing
-
--- It is on, by the list.
-abbrev pub is_up : Opening → List FrameEntry → Bool
-is_up o past = is_on (packets_heard o past)
 
 -- A begin is answered by its run, a verify by its attempt.
 abbrev pub answer_to : Opening → List FrameEntry → Input → Answer

@@ -1,5 +1,5 @@
 -- The rules of a server under its lock.
-use Rattle.std.specs.Prelude.{◌+◌, ◌^◌, Bool, true, false, nat_lt, if◌then◌else◌, List, Option, Some, None}
+use Rattle.std.specs.Prelude.{Bool, true, false, if◌then◌else◌, Option, Some, None}
 use Rattle.std.specs.Option.{option_map}
 use Rattle.fc_base.specs.declared.fault.Fault.TheVariants.{NumbersSpent}
 use Rattle.fc_base.specs.Report.{is_report}
@@ -10,8 +10,8 @@ use Rattle.messages.specs.FrameBytes.{frame_at}
 use Rattle.server_core.specs.declared.input.Input.{Input}
 use Rattle.server_core.specs.declared.input.Input.TheVariants as inputs
 use Rattle.server_core.specs.History.{Opening}
-use Rattle.server_core.specs.Words.{is_on, boot}
-use Rattle.server_core.specs.Hearing.{FrameEntry, Met, Cut, Restart, packets_heard}
+use Rattle.server_core.specs.Words.{has_boot}
+use Rattle.server_core.specs.Hearing.{FrameEntry, Met, Cut, Restart, packets_heard, is_up}
 use Rattle.server_core.specs.FrameAnswers as answers
 use Rattle.node_history.specs.declared.came.Came.{Came}
 use Rattle.node_history.specs.declared.came.Came.TheVariants as came
@@ -41,14 +41,6 @@ ask_of came.Cut = Cuts
 ask_of came.Restart = Restarts
 ask_of _ = Nothing
 
--- It is on, by the list.
-abbrev pub is_up : Opening → List FrameEntry → Bool
-is_up o past = is_on (packets_heard o past)
-
--- A boot of eight bytes is left above those that were used.
-abbrev pub has_boot : Opening → List FrameEntry → Bool
-has_boot o past = nat_lt (boot o (packets_heard o past) + 1) (2 ^ 64)
-
 -- What is answered of writes, if anything is.
 abbrev pub answer_of : Option Issue → Answer
 answer_of None = Plain
@@ -60,7 +52,7 @@ core o = record {
   asked = ask_of;
   is_up = is_up o;
   refusal = answers.refusal o;
-  spent = λ past. if has_boot o past then None else Some NumbersSpent;
+  spent = λ past. if has_boot o (packets_heard o past) then None else Some NumbersSpent;
   said = λ past e.
       record { answer = answer_of (answers.issue o past e); act = answers.act o past e };
   answered = answers.answered_entry o;

@@ -5,6 +5,7 @@ ghost use Rattle.fc_base.specs.declared.limits.TheConstants.{MAX_SERVERS};
 ghost use Rattle.client_core.specs.declared.input.Input.{Input as ClientInput};
 ghost use Rattle.client_core.specs.History.{Opening as ClientOpening};
 ghost use Rattle.client_core.specs.Hearing.{FrameEntry};
+ghost use Rattle.client_core.specs.FrameEnds.{note_in};
 ghost use Rattle.node_history.specs.ClientKind.{client_kind, client_is_cut};
 
 use crate::node_core::NodeCore;
@@ -24,7 +25,7 @@ impl<N: Notes + Drop> NodeCore<N> for Client<N> {
 
     ghost kind = { client_kind N.note };
 
-    ghost failures = { λ client. (N.note client.core.notes).failures };
+    ghost failures = { λ client. (note_in N.note client).failures };
 
     ghost notes_failures = { λ notes. (N.note notes).failures };
 

@@ -5,7 +5,7 @@ use crate::came::Came;
 use fc_base::Fault;
 use messages::Frames;
 
-/// A seat's event: which seat of the server, and the how manieth event of that seat, from 0 on.
+/// A seat's event: which seat of the server, and the number of the event among those of that seat, from 0 on.
 #[derive(Clone, Copy, PartialEq, Eq)]
 pub struct Turn {
     pub seat: u32,

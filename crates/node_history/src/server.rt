@@ -5,6 +5,7 @@ ghost use Rattle.fc_base.specs.declared.limits.TheConstants.{MAX_SERVERS};
 ghost use Rattle.server_core.specs.declared.input.Input.{Input as ServerInput};
 ghost use Rattle.server_core.specs.History.{Opening as ServerOpening};
 ghost use Rattle.server_core.specs.Hearing.{FrameEntry};
+ghost use Rattle.server_core.specs.FrameEnds.{note_in};
 ghost use Rattle.node_history.specs.ServerKind.{server_kind, server_is_cut};
 
 use crate::node_core::NodeCore;
@@ -24,7 +25,7 @@ impl<N: Notes + Drop> NodeCore<N> for Server<N> {
 
     ghost kind = { server_kind N.note };
 
-    ghost failures = { λ server. (N.note server.core.notes).failures };
+    ghost failures = { λ server. (note_in N.note server).failures };
 
     ghost notes_failures = { λ notes. (N.note notes).failures };
 

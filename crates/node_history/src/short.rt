@@ -92,13 +92,13 @@ impl Short {
         let Key { run, server, job } = ticket.key;
         Some(Short {
             deed,
-            seat: byte(u64::from(by.seat))?,
-            server: byte(u64::from(server.0))?,
-            job: byte(u64::from(job.0))?,
-            number: word(by.number)?,
-            boot: word(ticket.boot)?,
-            run: word(run.0)?,
-            seq: word(ticket.seq.0)?,
+            seat: u8::try_from(by.seat).ok()?,
+            server: u8::try_from(server.0).ok()?,
+            job: u8::try_from(job.0).ok()?,
+            number: u32::try_from(by.number).ok()?,
+            boot: u32::try_from(ticket.boot).ok()?,
+            run: u32::try_from(run.0).ok()?,
+            seq: u32::try_from(ticket.seq.0).ok()?,
             block: ticket.block,
         })
     }
@@ -174,27 +174,5 @@ fn no_write(job: JobNo) -> Ticket
         },
         seq: Seq(0),
         block: 0,
-    }
-}
-
-/// A number as one byte; `None` where it is larger.
-fn byte(number: u64) -> Option<u8>
-    ensures { IfSome result (λ byte. byte ≡ number) }
-{
-    if number < 1 << 8 {
-        Some(number as u8)
-    } else {
-        None
-    }
-}
-
-/// A number as four bytes; `None` where it is larger.
-fn word(number: u64) -> Option<u32>
-    ensures { IfSome result (λ word. word ≡ number) }
-{
-    if number < 1 << 32 {
-        Some(number as u32)
-    } else {
-        None
     }
 }

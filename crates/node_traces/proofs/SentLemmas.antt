@@ -1,23 +1,18 @@
 -- Frames that were sent in a trace are read back from their bytes.
 use Rattle.std.proofs.Common.{◌≡◌, refl, sym, ◌∙◌, ap, subst, ℕ, zero, suc, ◌<◌, arith, List, [], ◌∷◌, take, Option, Some, None}
 use Rattle.std.specs.Prelude.{All, Contains, map, slice_get}
-use Rattle.std.specs.List.{AllByRecursion}
 use Rattle.std.specs.Option.{ForSome, option_and_then, option_map}
 use Rattle.std.proofs.lemmas.List.Elements.{All-contains}
 use Rattle.std.proofs.lemmas.Option.{slice_get-map, slice_get_within, get_or_from_slice_get, same_Some}
 use Rattle.messages.specs.declared.frame.Frame.{Frame}
 use Rattle.messages.specs.FrameBytes.{frame_at, frame_spelling}
 use Rattle.messages.specs.FrameLaws.{FramesAreRead, FramesAreReadable, IsReadable}
-use Rattle.messages.specs.Hearing.{Comes, Happens, Meaning, Says, Waits, Spoils, Strays, entry_of, heard, heard_by, meaning, with_entry}
-use Rattle.disk_model.specs.declared.left.Left.{Left}
-use Rattle.client_core.specs.History as client
 use Rattle.net_world.specs.Setup.{without_mirror}
-use Rattle.net_world.specs.Trace.{Step, AtServer, AtClient}
-use Rattle.net_world.specs.Frames.{FrameStep, OfServer, OfClient, OfMirror, of_server, of_client, at_server}
-use Rattle.net_world.specs.Frames.{at_client, frames_sent, step_heard, trace_heard, IsFrameTrace}
+use Rattle.net_world.specs.Frames.{FrameStep, frames_sent, trace_heard, IsFrameTrace}
 use Rattle.net_world.specs.FrameLaws.{FramesAreOfPackets, OnlySentIsHeard}
-use Rattle.net_world.specs.InRange.{FrameStepFits, StepFits, FitsFrames, SentAreInRange}
+use Rattle.net_world.specs.InRange.{FitsFrames, SentAreInRange}
 use Rattle.net_world.proofs.FrameRangeLemmas.{sent_readable}
+use Rattle.net_world.proofs.OnlySentLemmas.{heard_fits}
 use Rattle.node_traces.proofs.RefusalLemmas.{CameOf}
 
 -- The laws on which this rests.
@@ -28,49 +23,13 @@ pub record Laws : Type 0 where
   pub readable : FramesAreReadable
   pub read : FramesAreRead
 
--- ---- what is heard is within its ranges
-
-StepIf : Option Step → Type 0
-StepIf None = Unit {0}
-StepIf (Some step) = StepFits step
-
-piece_fits : (s : ℕ) (left : Left) (m : Meaning) → s < 8 → StepIf (option_map (AtServer s) (heard_by (at_server s) left m))
-unfolding StepIf
-piece_fits s left (Says p) l = (l, tt)
-piece_fits s left Waits l = tt
-piece_fits s left Spoils l = tt
-piece_fits s left Strays l = tt
-
-client_fits : (x : Option client.Entry) → StepIf (option_map AtClient x)
-unfolding StepIf
-client_fits None = tt
-client_fits (Some e) = tt
-
-step_fits : (n : ℕ) (past : List FrameStep) (step : FrameStep) → FrameStepFits step → StepIf (step_heard (without_mirror n) past step)
-unfolding StepIf
-step_fits n past (OfServer s (Comes f left)) h = piece_fits s left (meaning (at_server s) (heard (at_server s) (of_server s past)) f) h
-step_fits n past (OfServer s (Happens e)) h = h
-step_fits n past (OfMirror e) h = tt
-step_fits n past (OfClient c) h =
-    client_fits (entry_of (at_client (without_mirror n)) (heard (at_client (without_mirror n)) (of_client (without_mirror n) past)) c)
-
-more_fits : (x : Option Step) (t : List Step) → StepIf x → AllByRecursion StepFits t → AllByRecursion StepFits (with_entry x t)
-unfolding StepIf
-more_fits None t h f = f
-more_fits (Some step) t h f = (h, f)
-
-all_fit : (n : ℕ) (t : List FrameStep) → AllByRecursion FrameStepFits t → AllByRecursion StepFits (trace_heard (without_mirror n) t)
-all_fit n [] h = tt
-all_fit n (step ∷ past) h =
-    more_fits (step_heard (without_mirror n) past step) (trace_heard (without_mirror n) past) (step_fits n past step h.0) (all_fit n past h.1)
-
 -- ---- the frames of packets
 
 pub trace_readable : Laws → (n : ℕ) (t : List FrameStep) → IsFrameTrace (without_mirror n) t → FitsFrames (without_mirror n) t
     → All IsReadable (frames_sent (without_mirror n) t)
 trace_readable laws n t legal fits =
     let are = laws.in_range (without_mirror n) (trace_heard (without_mirror n) t) (laws.only_sent (without_mirror n) t legal fits)
-    (record { few = fits.few; steps = all_fit n t fits.steps }) in
+    (heard_fits (without_mirror n) t fits) in
     sent_readable laws.readable laws.of_packets (without_mirror n) t are
 
 -- ---- a frame by its bytes

@@ -36,14 +36,14 @@ use Rattle.server_core.specs.Answers.{refusal_of, sent_by, to_client}
 use Rattle.server_core.specs.Request.{ToNobody, request_in}
 use Rattle.server_core.specs.Request as requests
 use Rattle.server_core.specs.Replies.{Now, replies}
-use Rattle.server_core.specs.Words.{is_on}
+use Rattle.server_core.specs.Words.{is_on, has_boot}
 use Rattle.server_core.specs.Hearing.{FrameEntry, Met, Cut, Restart, coming_of, heard_at, packets_heard, rules as hearing, arrival}
 use Rattle.server_core.specs.FrameAnswers as answers
 use Rattle.node_history.specs.declared.came.Came.{Came}
 use Rattle.node_history.specs.declared.came.Came.TheVariants as came
 use Rattle.node_history.specs.Rules.{Ask, Meets, Cuts, Restarts, Nothing}
 use Rattle.node_history.specs.CoreRules.{left_by}
-use Rattle.node_history.specs.ServerRules.{ask_of, ask_of_frame, ask_of_report, core, has_boot}
+use Rattle.node_history.specs.ServerRules.{ask_of, ask_of_frame, ask_of_report, core}
 use Rattle.net_world.specs.Frames.{OfServer, MayHappen, to_of}
 use Rattle.net_world.specs.InRange.{FrameStepFits}
 use Rattle.node_traces.specs.Marks.{frame_of}
@@ -150,7 +150,7 @@ known o = record {
   unstarted = lost_start o;
   cut = tt;
   started = tt;
-  spent = λ past. no_drop (has_boot o past);
+  spent = λ past. no_drop (has_boot o (packets_heard o past));
 }
 
 -- ---- what it is in a trace

@@ -17,14 +17,14 @@ use Rattle.server_core.specs.declared.server.Server.{Server}
 use Rattle.server_core.specs.History as packets
 use Rattle.server_core.specs.History.{Opening}
 use Rattle.server_core.specs.Ranges.{IsInRange, CameInRange}
-use Rattle.server_core.specs.Hearing.{FrameEntry, Met, packets_heard, heard_at, rules as hearing}
+use Rattle.server_core.specs.Hearing.{FrameEntry, Met, packets_heard, heard_at, rules as hearing, is_up}
 use Rattle.server_core.specs.FrameAnswers.{sense}
 use Rattle.server_core.specs.FrameEnds as ends
+use Rattle.server_core.specs.FrameEnds.{note_in}
 use Rattle.node_history.specs.declared.power.Power.TheVariants.{On}
 use Rattle.node_history.specs.Failures.{Counts}
 use Rattle.node_history.specs.Moves.{StepEnds}
 use Rattle.node_history.specs.ServerKind.{server_kind}
-use Rattle.node_history.specs.ServerRules.{is_up}
 use Rattle.node_history.proofs.StepLemmas.{Fits, answered_ends, unanswered_ends, faults_count}
 use Rattle.server_cell.specs.Stands.{reply_and_frames, ways}
 
@@ -85,6 +85,6 @@ step_ends note o past e old server (Err fault) on f h =
 -- A step counts a failed save.
 pub step_counts : {T : Type 0} (note : T → Note) (o : Opening) (past : List FrameEntry) (e : Input) (old server : Server T) (result : Result Outs Fault)
     → steps.Ends (ends.steps note o) past e old server result
-    → Counts false (note old.core.notes).failures (note server.core.notes).failures (reply_and_frames result)
+    → Counts false (note_in note old).failures (note_in note server).failures (reply_and_frames result)
 step_counts note o past e old server (Ok outs) a = tt
 step_counts note o past e old server (Err fault) f = faults_count (ends.steps note o) past e old server fault (sort_of fault) f

@@ -7,6 +7,7 @@ use Rattle.server_core.specs.declared.outs.Outs.{Outs}
 use Rattle.server_core.specs.declared.server.Server.{Server}
 use Rattle.server_core.specs.History.{Opening}
 use Rattle.server_core.specs.Hearing.{FrameEntry}
+use Rattle.server_core.specs.FrameEnds.{note_in}
 use Rattle.node_history.specs.declared.answer.Said.{Said}
 use Rattle.node_history.specs.declared.power.Power.{Power}
 use Rattle.node_history.specs.Moves.{Ways}
@@ -27,7 +28,7 @@ ways note o = powers.ways (server_kind note o)
 -- How often the device of its note has failed.
 abbrev pub failures_of : {T : Type 0} → (T → Note) → Power (Server T) T → ℕ
 failures_of note power =
-    powers.failures_of (λ server. (note server.core.notes).failures)
+    powers.failures_of (λ server. (note_in note server).failures)
     (λ notes. (note notes).failures) power
 
 -- What a step says to its caller, and the frames that it sends.

@@ -1,8 +1,7 @@
 //! A server under its lock.
 
 ghost use Rattle.std.specs.Prelude.{◌≡◌, ◌<◌, ◌≤◌, [], true, false, List, IfOk, IfErr, IfSome, IfNone, reverse};
-ghost use Rattle.server_core.specs.Hearing.{FrameEntry};
-ghost use Rattle.node_history.specs.ServerRules.{is_up};
+ghost use Rattle.server_core.specs.Hearing.{FrameEntry, is_up};
 ghost use Rattle.server_cell.specs.Seated.{new_seats};
 
 mod apply;

@@ -43,7 +43,7 @@ use Rattle.server_core.specs.Serves as whole
 use Rattle.server_core.specs.Note.{spelling}
 use Rattle.server_core.specs.Hearing.{FrameEntry, Met, is_piece_for, rules, arrival, heard_at, packets_heard, assembly}
 use Rattle.server_core.specs.FrameAnswers.{sense, refusal, due, answered_entry, entry_heard}
-use Rattle.server_core.specs.FrameEnds.{StandsFor, steps}
+use Rattle.server_core.specs.FrameEnds.{StandsFor, steps, note_in}
 
 -- ---- what is heard, and what has come together
 
@@ -95,9 +95,9 @@ heard_answers note o past e x old new outs is a k =
         act_is = a.sends.act_is ∙ sym (ap (heard_or acts.None (answers.act o list)) is);
         short = a.sends.short;
       };
-      leaves = subst (λ d. LeavesNote d (spelling (words.words_noted o (packets_heard o (answered_entry o past e ∷ past)))) (note old.core.notes)
-          (note new.core.notes)) (sym (ap (heard_or None (words.due o list)) is))
-          (subst (λ (l : List history.Entry). LeavesNote (words.due o list x) (spelling (words.words_noted o l)) (note old.core.notes) (note new.core.notes))
+      leaves = subst (λ d. LeavesNote d (spelling (words.words_noted o (packets_heard o (answered_entry o past e ∷ past)))) (note_in note old)
+          (note_in note new)) (sym (ap (heard_or None (words.due o list)) is))
+          (subst (λ (l : List history.Entry). LeavesNote (words.due o list x) (spelling (words.words_noted o l)) (note_in note old) (note_in note new))
           (sym (ap (λ y. packets_heard o (y ∷ past)) same_entry ∙ heard_is o past e left (Hears x) is)) a.leaves);
       stands = subst (λ y. StandsFor note new o (y ∷ past)) (sym same_entry)
           (heard_stands note o past e x left new is a.stands
@@ -118,7 +118,7 @@ heard_faults note o past e x old new fault is w sorts.Save h k = record {
   makes_one = ap (heard_or None (words.due o (packets_heard o past))) is ∙ h.makes_one;
   left = h.left;
   lost = h.lost;
-  bytes_are = subst (λ (l : List history.Entry). (note new.core.notes).bytes ≡ bytes_left h.left (spelling (words.words_noted o l)) (note old.core.notes).bytes)
+  bytes_are = subst (λ (l : List history.Entry). (note_in note new).bytes ≡ bytes_left h.left (spelling (words.words_noted o l)) (note_in note old).bytes)
       (sym (heard_is o past e h.left (Hears x) is)) h.bytes_are;
   stands = heard_stands note o past e x h.left new is h.stands
       (λ on. absurd (off_lost (words.is_on (packets_heard o past)) (is_lost h.left) h.lost (sym (on_is o past e x h.left is) ∙ on)));
@@ -189,8 +189,8 @@ kept_ends note o past q old is w =
         act_is = sym (ap (heard_or acts.None (answers.act o list)) is);
         short = λ i h. record { few = omega arith; short = All-nil (λ (frame : List ℕ). length frame ≤ MAX_FRAME) };
       };
-      leaves = subst (λ d. LeavesNote d (spelling (words.words_noted o (packets_heard o (answered_entry o past e ∷ past)))) (note old.core.notes)
-          (note old.core.notes)) (sym (ap (heard_or None (words.due o list)) is)) refl;
+      leaves = subst (λ d. LeavesNote d (spelling (words.words_noted o (packets_heard o (answered_entry o past e ∷ past)))) (note_in note old)
+          (note_in note old)) (sym (ap (heard_or None (words.due o list)) is)) refl;
       stands = silent_stands note o past e Keeps left old (rows_after_piece old.pieces q) is refl w
           (λ r. ap (λ x. rows_after_piece x q) r ∙ sym (taken_by (rules o) (heard_at o past) q left Keeps is));
     }

@@ -20,6 +20,10 @@ use Rattle.server_core.specs.Serves as whole
 use Rattle.server_core.specs.Hearing.{FrameEntry, Met, Restart, packets_heard, assembly}
 use Rattle.server_core.specs.FrameAnswers.{sense, frames, refusal, due, issue, act, answered_entry}
 
+-- What a server's note says, by what is said of its notes.
+abbrev pub note_in : {T : Type 0} → (T → Note) → Server T → Note
+note_in note server = note server.core.notes
+
 -- A server stands for a list of frames where its core stands for the packets that are heard in it,
 -- and, while it is on, keeps what has come together of pieces.
 pub record StandsFor {T : Type 0} (note : T → Note) (server : Server T) (o : Opening)
@@ -40,7 +44,7 @@ pub record Sends (o : Opening) (past : List FrameEntry) (e : Input) (outs : Outs
 abbrev pub steps : {T : Type 0} → (T → Note) → Opening →
     Steps (Server T) Input FrameEntry Staged Outs
 steps note o = record {
-  note = λ server. note server.core.notes;
+  note = λ server. note_in note server;
   StandsFor = λ past server. StandsFor note server o past;
   refusal = refusal o;
   due = due o;
@@ -56,7 +60,7 @@ pub record Restarts {T : Type 0} (note : T → Note) (me : ℕ) (notes : T)
     (server : Server T) : Type 0 where
   pub said : Noted
   pub says : Says (note notes).bytes said
-  pub leaves : note server.core.notes
+  pub leaves : note_in note server
       ≡ record (note notes) { bytes = spelling (record said { boot = said.boot + 1 }) }
   pub stands :
       (o : Opening) (past : List FrameEntry) → o.me ≡ me

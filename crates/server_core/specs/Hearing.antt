@@ -64,6 +64,10 @@ heard_at o past = heard (rules o) (map coming_of past)
 abbrev pub packets_heard : Opening → List FrameEntry → List history.Entry
 packets_heard o past = (heard_at o past).entries
 
+-- It is on, by the list.
+abbrev pub is_up : Opening → List FrameEntry → Bool
+is_up o past = is_on (packets_heard o past)
+
 -- What has come together of pieces.
 abbrev pub assembly : Opening → List FrameEntry → List Row
 assembly o past = (heard_at o past).rows

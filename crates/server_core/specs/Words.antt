@@ -1,6 +1,6 @@
 -- The words of a server, each read from the list: whether it is on, its boot, its last run, what is
 -- staged, the present run.
-use Rattle.std.specs.Prelude.{ℕ, ◌+◌, Bool, false, not, ◌&&◌, ◌==◌, nat_lt, List, [], ◌∷◌, Option, Some, None, Result, Ok, Err, if◌then◌else◌}
+use Rattle.std.specs.Prelude.{ℕ, ◌+◌, ◌^◌, Bool, false, not, ◌&&◌, ◌==◌, nat_lt, List, [], ◌∷◌, Option, Some, None, Result, Ok, Err, if◌then◌else◌}
 use Rattle.job_file.specs.declared.job.Job.{Job}
 use Rattle.job_file.specs.declared.job.Phase.TheVariants.{Write}
 use Rattle.server_core.specs.declared.event.Event.{Event}
@@ -26,6 +26,10 @@ boot o [] = o.boot
 boot o (Met e left ∷ past) = boot o past
 boot o (Cut ∷ past) = boot o past
 boot o (Restart left ∷ past) = if has_new left then boot o past + 1 else boot o past
+
+-- A boot of eight bytes is left above those that were used.
+abbrev pub has_boot : Opening → List Entry → Bool
+has_boot o past = nat_lt (boot o past + 1) (2 ^ 64)
 
 -- A run, and the jobs that are staged for it.
 pub record Staged : Type 0 where

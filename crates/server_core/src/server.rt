@@ -41,7 +41,7 @@ impl<N: Notes> Server<N> {
     ghost use Rattle.server_core.specs.Hearing.{FrameEntry, packets_heard};
     ghost use Rattle.server_core.specs.FrameAnswers.{sense, would_save};
     ghost use Rattle.disk_model.specs.Steps.{Ends};
-    ghost use Rattle.server_core.specs.FrameEnds.{StandsFor, steps, Opens};
+    ghost use Rattle.server_core.specs.FrameEnds.{StandsFor, steps, Opens, note_in};
     ghost use Rattle.server_core.specs.Memory.{TakesNone, WritesTakeNone};
     ghost use Rattle.server_core.specs.Handles.{outs_of_issue, outs_of_end};
     ghost use Rattle.messages.specs.Senses.{HearsInRange};
@@ -67,7 +67,7 @@ impl<N: Notes> Server<N> {
 
     /// The notes of a server that is taken off.
     pub fn off(self) -> N
-        ensures note { N.note result ≡ N.note self.core.notes }
+        ensures note { N.note result ≡ note_in N.note self }
         ensures says { (o : Opening) (past : List FrameEntry) → StandsFor N.note self o past →
             Says (N.note result).bytes (words_noted o (packets_heard o past)) }
     {
@@ -81,7 +81,7 @@ impl<N: Notes> Server<N> {
 
     /// The note that it keeps, as it is durable. Behind a failed save it is what that left.
     pub fn notes(&self) -> &N
-        ensures note { N.note result.now ≡ N.note self.now.core.notes }
+        ensures note { N.note result.now ≡ note_in N.note self.now }
         ensures says { (o : Opening) (past : List FrameEntry) → StandsFor N.note self.now o past →
             Says (N.note result.now).bytes (words_noted o (packets_heard o past)) }
     {

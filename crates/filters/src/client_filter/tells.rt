@@ -4,6 +4,7 @@ ghost use Rattle.std.specs.Prelude.{◌≡◌, OnOk, Some, slice_get};
 ghost use Rattle.std.specs.Option.{option_copied};
 ghost use Rattle.std.specs.Io.KnownBytes.{Appends};
 ghost use Rattle.filters.specs.declared.kinds.Told.TheVariants as told;
+ghost use Rattle.client_core.specs.FrameEnds.{note_in};
 ghost use Rattle.filters.specs.Kept.{note_kept};
 ghost use Rattle.filters.specs.ClientAsks.{input_in};
 ghost use Rattle.filters.specs.ClientSteps.{result_bytes};
@@ -45,7 +46,7 @@ impl ClientFilter {
         writer: &mut W,
     ) -> io::Result<()>
         ensures { OnOk result (Appends (W.contents writer.old) (W.contents writer.new)
-            (result_bytes (note_kept self.now.client.core.notes).bytes answer)) }
+            (result_bytes (note_in note_kept self.now.client).bytes answer)) }
     {
         put_result(writer, self.client.notes().as_slice(), answer)
     }

@@ -1,8 +1,9 @@
 //! The checks of a server, whose blocks come as they are wanted.
 
-ghost use Rattle.std.specs.Prelude.{◌≡◌, ◌<◌, ℕ, List, OnOk, IfOk, IfSome, set};
+ghost use Rattle.std.specs.Prelude.{◌≡◌, ◌<◌, List, OnOk, IfOk, IfSome, IsTrue, set};
 ghost use Rattle.std.specs.Io.KnownBytes.{Appends};
 ghost use Rattle.fc_base.specs.declared.limits.TheConstants.{MAX_JOBS as JOBS};
+ghost use Rattle.fc_base.specs.Report.{is_report};
 ghost use Rattle.server_core.specs.declared.input.Input.TheVariants.{CheckDone};
 ghost use Rattle.server_core.specs.History.{Opening};
 ghost use Rattle.server_core.specs.Hearing.{FrameEntry, packets_heard};
@@ -168,7 +169,9 @@ impl ServerFilter {
             HandsOut note_kept o past (CheckDone boot attempt job report)
             self.old.server self.new.server result }
         ensures checks { self.new.checks ≡ self.old.checks }
+        ensures fits { IsTrue (is_report report) }
     {
+        let _fits = report.parts();
         let told = Input::CheckDone {
             boot,
             attempt,

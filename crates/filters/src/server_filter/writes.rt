@@ -8,7 +8,7 @@ ghost use Rattle.messages.specs.FrameBytes.{frame_at, frame_faults};
 ghost use Rattle.server_core.specs.declared.input.Input.TheVariants.{Deliver, WriteDone};
 ghost use Rattle.server_core.specs.History.{Opening};
 ghost use Rattle.server_core.specs.Hearing.{FrameEntry};
-ghost use Rattle.server_core.specs.FrameEnds.{StandsFor};
+ghost use Rattle.server_core.specs.FrameEnds.{StandsFor, note_in};
 ghost use Rattle.filters.specs.Kept.{note_kept};
 ghost use Rattle.filters.specs.ServerTells.{order_name, outs_bytes};
 ghost use Rattle.filters.specs.ServerSteps.{HandsOut, BodyHands, handed_bytes};
@@ -109,7 +109,7 @@ impl ServerFilter {
     /// Writes what is handed out: first what is saved.
     pub(super) fn put_handed<W: Write>(&self, handed: &Handed, writer: &mut W) -> io::Result<()>
         ensures { OnOk result (Appends (W.contents writer.old) (W.contents writer.new)
-            (handed_bytes (note_kept self.now.server.core.notes).bytes handed.now)) }
+            (handed_bytes (note_in note_kept self.now.server).bytes handed.now)) }
     {
         put_save(writer, handed.saves, self.server.notes().as_slice())?;
         put_outs(writer, &handed.outs)

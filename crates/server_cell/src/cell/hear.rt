@@ -3,9 +3,9 @@
 ghost use Rattle.std.specs.Prelude.{◌≡◌, ◌<◌, false, List, length, IfErr};
 ghost use Rattle.std.specs.Option.{ForSome};
 ghost use Rattle.messages.specs.declared.node.Node.TheVariants.{Server as ServerNode};
-ghost use Rattle.server_core.specs.Hearing.{FrameEntry};
+ghost use Rattle.server_core.specs.Hearing.{FrameEntry, is_up};
 ghost use Rattle.node_history.specs.Rules.{Meets};
-ghost use Rattle.node_history.specs.ServerRules.{ask_of, is_up, rules};
+ghost use Rattle.node_history.specs.ServerRules.{ask_of, rules};
 ghost use Rattle.node_history.specs.AtHub.{Posts};
 ghost use Rattle.node_history.specs.Calls.{HasWhy};
 ghost use Rattle.node_history.specs.Failures.{Counts};

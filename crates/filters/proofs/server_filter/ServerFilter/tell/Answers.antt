@@ -8,10 +8,11 @@ returns-in_ok-put_handed-in-Ok g c =
     let new = c.report.new.self in
     told_so c.args.self.now c.put.new.self new c.args.boot c.args.attempt c.args.job c.args.report (Ok c.in-Ok.handed) (g.W.Write.contents c.args.writer.now)
     (g.W.Write.contents c.put_handed.new.writer) c.in_ok-put_handed-in-Ok.ensures c.put.ensures.server c.put.ensures.checks (omega arith) c.in-Ok.ensures.hands
-    c.in-Ok.ensures.checks
+    c.in-Ok.ensures.checks c.in-Ok.ensures.fits
 
 pub returns-in-Err : goal.returns-in-Err
 returns-in-Err g c =
     let text = g.W.Write.contents c.args.writer.now in
     told_so c.args.self.now c.put.new.self c.report.new.self c.args.boot c.args.attempt c.args.job c.args.report (Err c.in-Err.fault) text text
     (Appends-nil text) c.put.ensures.server c.put.ensures.checks (omega arith) c.in-Err.ensures.hands c.in-Err.ensures.checks
+    c.in-Err.ensures.fits

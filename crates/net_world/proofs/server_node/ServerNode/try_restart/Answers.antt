@@ -1,7 +1,8 @@
 use Rattle.std.proofs.Common.{◌∙◌, sym, subst, List, ℕ}
 use Rattle.server_core.specs.Note.{Says}
 use Rattle.server_core.specs.Hearing.{packets_heard}
-use Rattle.net_world.specs.ServerNodes.{Stands, words_noted}
+use Rattle.server_core.specs.Words.{words_noted}
+use Rattle.net_world.specs.ServerNodes.{Stands}
 use Rattle.net_world.proofs.CutLemmas.{tried}
 use Rattle.net_world.proofs.server_node.ServerNode.try_restart.Goals as goal
 
