@@ -12,8 +12,12 @@ use std::process::ExitCode;
 use std::rt::Env;
 use targets::{Request, check_job, map_job, read_words, refuse, write_job};
 
-/// How many bytes of input are read, and of output written, at once.
-const CAPACITY: usize = 262_144;
+/// How many bytes of input are read at once.
+const READ_AT_ONCE: usize = 262_144;
+
+/// How many bytes of output are written at once: a few orders, so that the first ones can be carried out while the
+/// others are filled.
+const WRITTEN_AT_ONCE: usize = 32_768;
 
 fn main(rt: HostRuntime) -> ExitCode {
     ExitCode::from(run(&rt))
@@ -33,7 +37,7 @@ fn run<R: Env + AllocGlobal + Input + Print>(rt: &R) -> u8 {
 fn answer_request<R: AllocGlobal + Input + Print>(rt: &R, request: Request) -> io::Result<u8>
     requires { IsRequest request }
 {
-    match BufWriter::with_capacity(rt.alloc(), CAPACITY, io::writer(rt)) {
+    match BufWriter::with_capacity(rt.alloc(), WRITTEN_AT_ONCE, io::writer(rt)) {
         Ok(mut writer) => answer_by(rt, request, &mut writer),
         Err(_) => refuse(&mut io::writer(rt), PrintedRefusal::from(Fault::NoMemory)),
     }
@@ -48,7 +52,7 @@ fn answer_by<R: AllocGlobal + Input, W: Write>(
     requires { IsRequest request }
 {
     let alloc = rt.alloc();
-    let Ok(mut reader) = BufReader::with_capacity(alloc, CAPACITY, rt.reader()) else {
+    let Ok(mut reader) = BufReader::with_capacity(alloc, READ_AT_ONCE, rt.reader()) else {
         return refuse(writer, PrintedRefusal::from(Fault::NoMemory));
     };
     match request {
