@@ -11,9 +11,9 @@ use Rattle.filters.specs.ServerLives.{ServerTakes, BeginsBehind, next_boot}
 use Rattle.filters.specs.Lives.{RecordParts, Lives}
 use Rattle.filters.specs.Cuts.{CutsBehind}
 
--- A server is cut so: where its save is there, it is as behind the record and all turns, and what was
--- sent and ordered counts. The next life over the note that it leaves begins behind its list and the
--- cut.
+-- A server is cut so: where its save is there, it is as behind the record and all turns, and what
+-- was sent and ordered counts. The next life over the note that it leaves begins behind its list
+-- and the cut.
 pub record GoesOnFrom (o : Opening) (first : ServerAt) (records : List RecordParts)
     (front : List ℕ) : Type 0 where
   pub left : ServerAt

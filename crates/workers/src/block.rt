@@ -5,6 +5,7 @@ ghost use Rattle.fc_base.specs.declared.limits.TheConstants.{MAX_BLOCK_SIZE as B
 ghost use Rattle.server_core.specs.declared.event.WriteEnd.TheVariants.{Done};
 
 use crate::ended::Ended;
+use crate::lock::lock;
 use crate::server::Order;
 use disk_model::Disk;
 use fc_base::MAX_BLOCKS;
@@ -34,5 +35,5 @@ pub(crate) fn carry_out<R: Wait, D: Disk>(
     }
     let bytes = &mut memory[..rec.bs() as usize];
     fill_block(ticket.key, &rec, ticket.seq, ticket.block, bytes);
-    Ended::land(&mut *file.lock(rt), &ticket, &rec, bytes)
+    Ended::land(&mut *lock(rt, file), &ticket, &rec, bytes)
 }

@@ -12,6 +12,7 @@ mod block;
 mod desk;
 mod ended;
 mod gate;
+mod lock;
 mod server;
 mod turn;
 mod worker;

@@ -12,13 +12,13 @@ ghost use Rattle.workers.specs.Turns.{is_last_asked, is_on, IsIssued, HasAsked, 
 
 use crate::ended::Ended;
 use crate::gate::TURNS;
+use crate::lock::lock;
 use disk_model::Notes;
 use engine::{Issue, Ticket};
 use fc_base::{Fault, JobNo, JobRecord};
 use node_history::{Answer, CallerAnswer};
 use server_cell::{Seat, ServerCell, Task};
-use std::hint::spin_loop;
-use std::sync::{Mutex, MutexGuard, Wait};
+use std::sync::{Mutex, Wait};
 use std::thread;
 
 /// A write that the server has issued, with the settings of its job.
@@ -45,24 +45,6 @@ pub(crate) enum Asked {
 
 /// How many writes a worker has in hand at most.
 pub(crate) const HAND: usize = 8;
-
-/// How often a worker looks whether the server's lock is free before it sleeps there. One that holds the lock
-/// gives it back sooner than a thread can be put to sleep and woken.
-const LOOKS: u32 = 200;
-
-/// Takes the lock of a server.
-fn lock<'c, R: Wait, N: Notes + Drop>(
-    rt: &R,
-    cell: &'c Mutex<ServerCell<N>>,
-) -> MutexGuard<'c, ServerCell<N>> {
-    for _ in 0..LOOKS {
-        if let Some(server) = cell.try_lock() {
-            return server;
-        }
-        spin_loop();
-    }
-    cell.lock(rt)
-}
 
 /// Tells how these writes have ended, and asks for others of a job, all under one lock of the server. Where
 /// there is no memory for the server's entry of an end, that and those behind it are told each as [`tell`] does it.
