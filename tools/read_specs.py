@@ -145,6 +145,9 @@ class Names:
         claims = [("net_world", "Headline", name) for name in self.files["net_world", "Headline"].names()]
         return claims + [("net_world", "Claims", name) for name in ("AtEachMoment", "OfItsTrace", "OfItsFrames")]
 
+    def seen(self):
+        return [("seen", "Claims", name) for name in self.files["seen", "Claims"].names()]
+
     def lines(self, definitions):
         return sum(bool(line.strip()) for crate, file, name in definitions for line in self.files[crate, file].texts[name])
 

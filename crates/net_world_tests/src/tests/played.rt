@@ -4,7 +4,8 @@ use super::rows::{Row, config_in, event_in, row_in};
 use super::same::{are_same, are_same_states, key};
 use super::trouble::Trouble;
 use messages::{Node, look_at};
-use net_world::{Config, World, WorldEvent, play, with_cut, with_stop};
+use net_world::{Config, World, WorldEvent, with_cut, with_stop};
+use seen::watch;
 use std::alloc::Global;
 
 /// What is put into a story before the command with this number: a node loses its power, or does so within
@@ -165,7 +166,7 @@ fn played_by(
     if config.servers < 1 || config.servers > 8 {
         return Err(Trouble::BadRow);
     }
-    match play(alloc, config, events) {
+    match watch(alloc, config, events) {
         Ok(world) => Ok(world),
         Err(_) => Err(Trouble::NoMemory),
     }

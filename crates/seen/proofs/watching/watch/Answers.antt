@@ -1,0 +1,28 @@
+use Rattle.std.specs.Prelude.{OnOk, Result, Ok, Err}
+use Rattle.net_world.specs.Setup.{setup_of}
+use Rattle.seen.proofs.watching.watch.Goals as goal
+
+-- What holds anyway holds where the result is a world.
+on_ok : {A B : Type 0} (r : Result A B) (P : Type 0) → P → OnOk r P
+on_ok (Ok x) P p = p
+on_ok (Err e) P p = tt
+
+pub returns-clause-one_state : goal.returns-clause-one_state
+returns-clause-one_state c =
+    on_ok c.play.result _ (λ newer older split. c.one_state.ensures (setup_of c.args.config) older c.requires.few)
+
+pub returns-clause-taken : goal.returns-clause-taken
+returns-clause-taken c =
+    on_ok c.play.result _ (λ newer older split. c.each_is_taken.ensures (setup_of c.args.config) older c.requires.few)
+
+pub returns-clause-exact : goal.returns-clause-exact
+returns-clause-exact c =
+    on_ok c.play.result _ (λ newer older split. c.each_report_is_exact.ensures (setup_of c.args.config) older c.requires.few)
+
+pub returns-clause-cuts : goal.returns-clause-cuts
+returns-clause-cuts c =
+    on_ok c.play.result _ (λ newer older split. c.cuts_are_behind_acks.ensures (setup_of c.args.config) older c.requires.few)
+
+pub returns-clause-acks : goal.returns-clause-acks
+returns-clause-acks c =
+    on_ok c.play.result _ (λ newer older split. c.acks_are_of_kept.ensures (setup_of c.args.config) older c.requires.few)

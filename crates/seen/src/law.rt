@@ -1,0 +1,134 @@
+//! What holds of all that is seen of each world. The functions have nothing to run.
+
+ghost use Rattle.seen.specs.Claims.{OneState, EachIsTaken, EachReportIsExact, CutsAreBehindAcks, AcksAreOfKept};
+ghost use Rattle.seen.specs.Watching.{OfAllThatIsSeen};
+
+use client_core::{acks_are_for_kept_states, packets_go_to_peers};
+use messages::{lengths_are_bounded, only_sent_comes_together};
+use mirror_core::packets_go_to_the_client;
+use net_world::{
+    checks_are_exact, each_world_is_a_trace, frames_are_of_packets, honest_disks,
+    numbers_are_given_once, one_state_of_each_job, sent_are_in_range, sent_frames_are_read,
+    tags_name_one_body,
+};
+use recheck::reports_fit;
+use server_core::{
+    counts_the_done, cuts_when_kept, due_starts, legal_histories, numbers_grow, one_taking,
+    open_check_is_last, packets_go_to_client, quiet, starts, with_was_heard,
+};
+
+/// Two states of one key that are seen are the same.
+pub fn one_state()
+    ensures { OfAllThatIsSeen OneState }
+{
+    sent_frames_are_read();
+    frames_are_of_packets();
+    each_world_is_a_trace();
+    one_state_of_each_job();
+    one_taking();
+}
+
+/// A state that is seen was taken where it is first seen: by its server, at a Trigger of its run, with
+/// exactly the writes that were done by then; and until a check of the run no further write is given there.
+pub fn each_is_taken()
+    ensures { OfAllThatIsSeen EachIsTaken }
+{
+    sent_frames_are_read();
+    frames_are_of_packets();
+    each_world_is_a_trace();
+    one_state_of_each_job();
+    one_taking();
+    packets_go_to_client();
+    packets_go_to_peers();
+    packets_go_to_the_client();
+    only_sent_comes_together();
+    tags_name_one_body();
+    sent_are_in_range();
+    lengths_are_bounded();
+    reports_fit();
+    legal_histories();
+    numbers_grow();
+    starts();
+    due_starts();
+    open_check_is_last();
+    counts_the_done();
+    quiet();
+}
+
+/// The report that a check is told is the one of what its file is seen to hold, and blames no disk that
+/// is seen to be honest.
+pub fn each_report_is_exact()
+    ensures { OfAllThatIsSeen EachReportIsExact }
+{
+    sent_frames_are_read();
+    frames_are_of_packets();
+    each_world_is_a_trace();
+    one_state_of_each_job();
+    one_taking();
+    packets_go_to_client();
+    packets_go_to_peers();
+    packets_go_to_the_client();
+    only_sent_comes_together();
+    tags_name_one_body();
+    sent_are_in_range();
+    lengths_are_bounded();
+    reports_fit();
+    legal_histories();
+    numbers_grow();
+    starts();
+    due_starts();
+    open_check_is_last();
+    counts_the_done();
+    quiet();
+    numbers_are_given_once();
+    checks_are_exact();
+    with_was_heard();
+    honest_disks();
+}
+
+/// A server asks for its cut only once each state that was seen of its run is acknowledged.
+pub fn cuts_are_behind_acks()
+    ensures { OfAllThatIsSeen CutsAreBehindAcks }
+{
+    sent_frames_are_read();
+    frames_are_of_packets();
+    each_world_is_a_trace();
+    one_state_of_each_job();
+    one_taking();
+    packets_go_to_client();
+    packets_go_to_peers();
+    packets_go_to_the_client();
+    only_sent_comes_together();
+    tags_name_one_body();
+    sent_are_in_range();
+    lengths_are_bounded();
+    reports_fit();
+    legal_histories();
+    numbers_grow();
+    starts();
+    due_starts();
+    open_check_is_last();
+    counts_the_done();
+    quiet();
+    cuts_when_kept();
+}
+
+/// The client acknowledges what its note shows then, or a job of which its server has said that it has no
+/// state.
+pub fn acks_are_of_kept()
+    ensures { OfAllThatIsSeen AcksAreOfKept }
+{
+    sent_frames_are_read();
+    frames_are_of_packets();
+    each_world_is_a_trace();
+    packets_go_to_client();
+    packets_go_to_peers();
+    packets_go_to_the_client();
+    only_sent_comes_together();
+    tags_name_one_body();
+    sent_are_in_range();
+    lengths_are_bounded();
+    reports_fit();
+    legal_histories();
+    acks_are_for_kept_states();
+}
