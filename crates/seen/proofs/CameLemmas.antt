@@ -31,11 +31,10 @@ use Rattle.net_world.proofs.WorldFitLemmas.{world_fits}
 use Rattle.seen.specs.Reports.{HasCome}
 use Rattle.seen.specs.Watching.{observation, observations}
 use Rattle.seen.proofs.ServerLemmas.{is_packets}
-use Rattle.seen.proofs.PlaceLemmas.{list_at, found, seen_since, seen_append}
+use Rattle.seen.proofs.PlaceLemmas.{list_at, found, seen_since, seen_append, with_one}
 use Rattle.seen.proofs.ArriveLemmas.{ArriveLaws, Arrives, arrives, comes}
 use Rattle.seen.proofs.CheckLemmas.{Came}
 use Rattle.seen.proofs.QuietLemmas.{TakingLaws}
-use Rattle.seen.proofs.TakingLemmas.{with_one}
 
 -- ---- what was sent stays sent
 

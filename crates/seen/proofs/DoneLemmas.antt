@@ -188,7 +188,7 @@ ok_by w past e None r h = (refl, h)
 ok_by w past e (Some fault) r h = absurd cc
 
 -- The entry of a step of a server of its own.
-own_entry : (s : ℕ) (y : Entry) (ps : List FrameStep) → entry_by s ps (Some (OfServer s (Happens y))) ≡ Some y
+pub own_entry : (s : ℕ) (y : Entry) (ps : List FrameStep) → entry_by s ps (Some (OfServer s (Happens y))) ≡ Some y
 own_entry s y ps = by (s == s) (eq-eqb s s refl)
   where
     by : (b : Bool) → b ≡ true → (if b then Some y else None) ≡ Some y

@@ -80,7 +80,7 @@ of_job None j k origin h = absurd cc
 of_job (Some w) j k origin h = job_found w j k (slice_get w.jobs j) origin refl h
 
 -- The job file of a run that came to a server is seen.
-text_seen : FileLaws → (w : Setup) (s : ℕ) (evs : List Happening) (run : ℕ) (jobs : List Job) → w.servers ≤ MAX_SERVERS
+pub text_seen : FileLaws → (w : Setup) (s : ℕ) (evs : List Happening) (run : ℕ) (jobs : List Job) → w.servers ≤ MAX_SERVERS
     → (t : HasText (opening_of s) (list_at w s evs) run jobs) → text_of run (observations w evs) ≡ Some t.text
 text_seen laws w s evs run jobs few t =
     let c = came_in laws.taking w s evs (ToStage run t.text) few refl t.came in

@@ -76,15 +76,15 @@ no_issue_by true body j h = no_issue_in body j h
 no_issue_by false body j h = cc
 
 -- Only a worker asks for a write.
-asks_issue : (me j : ℕ) (x : Event) → request_of me x ≡ ToIssue j → x ≡ inputs.Issue j
+pub asks_issue : (me j : ℕ) (x : Event) → request_of me x ≡ ToIssue j → x ≡ inputs.Issue j
 asks_issue me j (inputs.Deliver p) h = absurd (no_issue_by (is_client p.from && is_server me p.to) p.body j h)
 asks_issue me j (inputs.Issue i) h = cc
 asks_issue me j (inputs.WriteDone ticket end) h = absurd cc
 asks_issue me j (inputs.CheckDone boot a i report) h = absurd cc
 
 -- The happening of a request for a write.
-issue_happens : (w : Setup) (past : List Change) (s : ℕ) (e : Happening) (r : Outcome) (j : ℕ) (left : Left) → Makes w past s e r (Met (inputs.Issue j) left)
-    → (e ≡ Issue s j) × (c : Change) × (r ≡ Does c)
+pub issue_happens : (w : Setup) (past : List Change) (s : ℕ) (e : Happening) (r : Outcome) (j : ℕ) (left : Left)
+    → Makes w past s e r (Met (inputs.Issue j) left) → (e ≡ Issue s j) × (c : Change) × (r ≡ Does c)
 issue_happens w past s e r j left (ByFrame i f p l event there to says free saved is does) = absurd cc
 issue_happens w past s e r j left (ByLoss x l is lost d due_is) =
     let same = same_event (inputs.Issue j) x left l is in
@@ -176,7 +176,7 @@ answered now j origin f =
     ap (issue_of j) f.is ∙ ap (issue_of_job f.at j) f.has_job
     ∙ ap (λ (z : Origin). answer_to z (is_halted f.at) (history z f.at.since)) (sym f.origin_is)
 
-same_answer : (x : Issued) (t : Ticket) → answers.Issued x ≡ answers.Issued (Write t) → x ≡ Write t
+pub same_answer : (x : Issued) (t : Ticket) → answers.Issued x ≡ answers.Issued (Write t) → x ≡ Write t
 same_answer x t h = cc
 
 -- A write that is given in the run of an origin is given with its ticket.

@@ -67,17 +67,23 @@ not_first false x y t none is = is
 same_ticket : (t u : Ticket) → Write t ≡ Write u → t ≡ u
 same_ticket t u h = cc
 
--- A write that is given is given with the ticket of its number.
-pub of_origin : (origin : Origin) (stopped failed : Bool) (next : ℕ) (writes : List ℕ) (t : Ticket) → answer_by origin stopped failed next writes ≡ Write t
-    → t ≡ ticket_of origin t.seq
-of_origin origin stopped failed next writes t is =
+-- A write that is given is the next one.
+pub is_next : (origin : Origin) (stopped failed : Bool) (next : ℕ) (writes : List ℕ) (t : Ticket) → answer_by origin stopped failed next writes ≡ Write t
+    → t ≡ ticket_of origin next
+is_next origin stopped failed next writes t is =
     let a = not_first (stopped || failed) issuing.Stopped _ t (λ e. cc) is in
     let b = not_first (nat_le origin.job.total next) issuing.Finished _ t (λ e. cc) a in
     let c = not_first (nat_le origin.job.depth (length writes)) issuing.Full _ t (λ e. cc) b in
     let d = not_first (is_held origin.job.window next writes) issuing.Held _ t (λ e. cc) c in
     let f = not_first (any_goes_to origin.job (block_of origin.job next) writes) issuing.Overlap _ t (λ e. cc) d in
-    let same = same_ticket (ticket_of origin next) t f in
-    sym same ∙ ap (ticket_of origin) (ap (λ (u : Ticket). u.seq) same)
+    sym (same_ticket (ticket_of origin next) t f)
+
+-- It is given with the ticket of its number.
+pub of_origin : (origin : Origin) (stopped failed : Bool) (next : ℕ) (writes : List ℕ) (t : Ticket) → answer_by origin stopped failed next writes ≡ Write t
+    → t ≡ ticket_of origin t.seq
+of_origin origin stopped failed next writes t is =
+    let same = is_next origin stopped failed next writes t is in
+    same ∙ ap (ticket_of origin) (ap (λ (u : Ticket). u.seq) (sym same))
 
 -- ---- one more request
 

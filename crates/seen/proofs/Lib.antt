@@ -14,6 +14,7 @@ mod FrameLemmas
 mod GivenLemmas
 mod HistoryLemmas
 mod HonestLemmas
+mod IssuedLemmas
 mod MakeLemmas
 mod MarkLemmas
 mod NumberLemmas
@@ -26,6 +27,7 @@ mod RequestLemmas
 mod RunLemmas
 mod SeenLemmas
 mod ServerLemmas
+mod SettingLemmas
 mod TakingLemmas
 mod TextLemmas
 mod WorkLemmas

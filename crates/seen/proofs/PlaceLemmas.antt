@@ -26,6 +26,9 @@ entry_now w s events e = entry_by s (steps (world w events)) (step_in (outcome w
 pub one_more : (w : Setup) (s : ℕ) (events : List Happening) (e : Happening) → list_at w s (e ∷ events) ≡ with_entry (entry_now w s events e) (list_at w s events)
 one_more w s events e = list_with w s (world w events) (outcome w (world w events) e)
 
+pub with_one : (w : Setup) (s : ℕ) (evs : List Happening) (e : Happening) (y : Entry) → entry_now w s evs e ≡ Some y → list_at w s (e ∷ evs) ≡ y ∷ list_at w s evs
+with_one w s evs e y is = one_more w s evs e ∙ ap (λ z. with_entry z (list_at w s evs)) is
+
 -- ---- where an entry came
 
 -- The event with which an entry came, and what was heard before it.

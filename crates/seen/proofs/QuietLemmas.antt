@@ -187,10 +187,10 @@ pub record TakenAt (w : Setup) (s run : ℕ) (base : List Happening) : Type 0 wh
   pub pulls : takes run job (request_of s trigger) (work (opening_of s) older) ≡ Some state
   pub last : run ≤ last_run (opening_of s) (list_at w s base)
 
-none_is_given : TakingLaws → (w : Setup) (s run : ℕ) (mid base : List Happening) → TakenAt w s run base
-    → last_run (opening_of s) (list_at w s (mid ++ base)) ≤ run → IsGiven (seen_since w mid base) s → ⊥
-none_is_given laws w s run [] base at upto g = none_in g.given g.there
-none_is_given laws w s run (e ∷ mid) base at upto g =
+none_is_given : TakingLaws → (w : Setup) (s run job write : ℕ) (mid base : List Happening) → TakenAt w s run base
+    → last_run (opening_of s) (list_at w s (mid ++ base)) ≤ run → IsGiven (seen_since w mid base) s job write → ⊥
+none_is_given laws w s run job write [] base at upto g = none_in g.given g.there
+none_is_given laws w s run job write (e ∷ mid) base at upto g =
     let o = opening_of s in
     let past = world w (mid ++ base) in
     let a = last_more laws.server.grow w s (mid ++ base) e in
@@ -198,24 +198,33 @@ none_is_given laws w s run (e ∷ mid) base at upto g =
     let least = at.last in
     let now : last_run o (list_at w s (mid ++ base)) ≡ run = omega (arith, a, b, least, upto) in
     elim (first_or_behind (observation w (mid ++ base) e) (seen_since w mid base) g.given g.there) [
-      | inl here ↦ let is : e ≡ Issue s g.job = subst (λ (x : Observation). x.event ≡ Issue s g.job) (sym here) g.event in
+      | inl here ↦ let is : e ≡ Issue s job = subst (λ (x : Observation). x.event ≡ Issue s job) (sym here) g.event in
           let told : told_of_happening w past e ≡ Ok g.answer = subst (λ (x : Observation). x.told ≡ Ok g.answer) (sym here) g.told in
-          let answer : worlds.answer w past (Issue s g.job) ≡ answers.Issued (Write g.ticket) =
+          let answer : worlds.answer w past (Issue s job) ≡ answers.Issued (Write g.ticket) =
           ap (worlds.answer w past) (sym is) ∙ sym (told_answer w past e (outcome w past e) g.answer told) ∙ g.write in
-          let yes = write_of (issue o (list_at w s (mid ++ base)) (inputs.Issue g.job)) g.ticket answer in
+          let yes = write_of (issue o (list_at w s (mid ++ base)) (inputs.Issue job)) g.ticket answer in
           let list : list_at w s (mid ++ base) ≡ since w s mid base ++ Met at.trigger at.was ∷ at.older =
           since_is w s mid base ∙ ap (λ l. since w s mid base ++ l) at.list in
-          let no = laws.quiet o at.older (since w s mid base) at.trigger (inputs.Issue g.job) at.was run at.job at.state at.pulls
+          let no = laws.quiet o at.older (since w s mid base) at.trigger (inputs.Issue job) at.was run at.job at.state at.pulls
           (subst (λ l. last_run o l ≡ run) list now) in
-          let both : true ≡ false = sym yes ∙ subst (λ l. gives_write (issue o l (inputs.Issue g.job)) ≡ false) (sym list) no in
+          let both : true ≡ false = sym yes ∙ subst (λ l. gives_write (issue o l (inputs.Issue job)) ≡ false) (sym list) no in
           absurd cc
-      | inr there ↦ none_is_given laws w s run mid base at (omega (arith, now))
-          (record { given = g.given; there = there; job = g.job; event = g.event; answer = g.answer; told = g.told; ticket = g.ticket; write = g.write })
+      | inr there ↦ none_is_given laws w s run job write mid base at (omega (arith, now))
+          (record {
+            given = g.given;
+            there = there;
+            event = g.event;
+            answer = g.answer;
+            told = g.told;
+            ticket = g.ticket;
+            write = g.write;
+            number = g.number;
+          })
     ]
 
 pub is_quiet : TakingLaws → (w : Setup) (s run : ℕ) (later base : List Happening) → w.servers ≤ MAX_SERVERS → TakenAt w s run base
     → IsQuiet (seen_since w later base) s run
-is_quiet laws w s run later base few at newer between o split reported given =
+is_quiet laws w s run later base few at newer between o split reported job write given =
     let k = seen_at w later base newer o between split in
     let last = reported_run laws w s (k.earlier ++ base) k.event run few (subst (λ x. IsReported x s run) (sym k.here) reported) in
-    none_is_given laws w s run k.earlier base at (omega (arith, last)) (subst (λ l. IsGiven l s) (sym k.before) given)
+    none_is_given laws w s run job write k.earlier base at (omega (arith, last)) (subst (λ l. IsGiven l s job write) (sym k.before) given)

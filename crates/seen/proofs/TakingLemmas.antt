@@ -10,7 +10,7 @@ use Rattle.disk_model.specs.declared.left.Left.{Left}
 use Rattle.disk_model.specs.declared.left.Left.TheVariants.{Saved}
 use Rattle.messages.specs.declared.body.Body.TheVariants as bodies
 use Rattle.messages.specs.declared.refusal.Act.{Act}
-use Rattle.messages.specs.Hearing.{Comes as ComesFrame, with_entry}
+use Rattle.messages.specs.Hearing.{Comes as ComesFrame}
 use Rattle.server_core.specs.declared.event.Event.{Event}
 use Rattle.server_core.specs.History.{Opening, Entry, Met}
 use Rattle.server_core.specs.Request.{ToStart, ToTrigger, request_of}
@@ -24,15 +24,19 @@ use Rattle.net_world.specs.Happenings.{Happening}
 use Rattle.net_world.specs.Trace.{opening_of}
 use Rattle.seen.specs.Observations.{frames_in}
 use Rattle.seen.specs.Sightings.{IsAmong, Comes, IsSeen, from_server, to_server}
+use Rattle.seen.specs.Texts.{job_of}
 use Rattle.seen.specs.Takings.{IsTaken}
 use Rattle.seen.specs.Claims.{EachIsTaken}
 use Rattle.seen.specs.Watching.{observation, observations, OfAllThatIsSeen}
 use Rattle.seen.proofs.ServerLemmas.{is_packets, sends, due_is_answered, taking_is_of, taking_is_answered, asks_start, asks_trigger}
-use Rattle.seen.proofs.PlaceLemmas.{list_at, entry_now, one_more, found, since, since_is, seen_since, seen_append}
+use Rattle.seen.proofs.PlaceLemmas.{list_at, entry_now, found, since, since_is, seen_since, seen_append, with_one}
 use Rattle.seen.proofs.SeenLemmas.{all_taken, seen_was_taken}
 use Rattle.seen.proofs.DoneLemmas.{DoneLaws, done_is_seen, seen_is_done, last_more}
 use Rattle.seen.proofs.ArriveLemmas.{arrives, comes}
 use Rattle.seen.proofs.QuietLemmas.{TakingLaws, seen_sent, hears_it, short_packet, not_jobs, started_upto, TakenAt, is_quiet}
+use Rattle.seen.proofs.FileLemmas.{FileLaws}
+use Rattle.seen.proofs.IssuedLemmas.{IssuedLaws}
+use Rattle.seen.proofs.SettingLemmas.{is_set, issued_are_given}
 
 -- What is known of a taking: the events of its Start and of its Trigger, and what came with them.
 record Places (w : Setup) (later : List Happening) (e : Happening) (mid : List Happening) (f : Happening) (earlier : List Happening) (state : State)
@@ -55,9 +59,6 @@ record Places (w : Setup) (later : List Happening) (e : Happening) (mid : List H
       (k : ℕ)
       → IsDoneIn (opening_of state.key.server) (Met start Saved ∷ list_at w state.key.server earlier) (since w state.key.server mid (f ∷ earlier)) state.key k
       → has state.counted k ≡ true
-
-pub with_one : (w : Setup) (s : ℕ) (evs : List Happening) (e : Happening) (y : Entry) → entry_now w s evs e ≡ Some y → list_at w s (e ∷ evs) ≡ y ∷ list_at w s evs
-with_one w s evs e y is = one_more w s evs e ∙ ap (λ z. with_entry z (list_at w s evs)) is
 
 -- The server's start of a run, as it is seen.
 record Starts (w : Setup) (s run : ℕ) (f : Happening) (earlier : List Happening) : Type 0 where
@@ -140,9 +141,10 @@ triggers_so laws w e evs state trigger was few is pulls =
       last = sym (laws.server.last o list k.at k.is_at).run ∙ k.run_is;
     }
 
-taken_at : TakingLaws → (w : Setup) (later : List Happening) (e : Happening) (mid : List Happening) (f : Happening) (earlier : List Happening) (state : State)
+taken_at : FileLaws → (w : Setup) (later : List Happening) (e : Happening) (mid : List Happening) (f : Happening) (earlier : List Happening) (state : State)
     → w.servers ≤ MAX_SERVERS → Places w later e mid f earlier state → IsTaken (observations w (later ++ e ∷ (mid ++ f ∷ earlier))) state
-taken_at laws w later e mid f earlier state few p =
+taken_at files w later e mid f earlier state few p =
+    let laws = files.taking in
     let key = state.key in
     let s = key.server in
     let o = opening_of s in
@@ -154,6 +156,9 @@ taken_at laws w later e mid f earlier state few p =
     let more = last_more laws.server.grow w s taken_then e in
     let done : DoneLaws = record { grow = laws.server.grow; last = laws.server.last } in
     let last = b.last in
+    let set = is_set files w taken_then state (request_of s p.trigger) few p.pulls in
+    let issuing : IssuedLaws = record { grow = laws.server.grow; due = laws.server.due } in
+    let given = issued_are_given issuing w mid f earlier state (request_of s p.trigger) p.start p.staged p.started p.accepted a.last last p.pulls in
     let at : TakenAt w s key.run (e ∷ taken_then) =
     record {
       older = list_at w s taken_then;
@@ -180,6 +185,11 @@ taken_at laws w later e mid f earlier state few p =
       jobs = b.jobs;
       sent = b.says;
       seen_first = λ other same seen. none_before laws w taken_then p.trigger p.was state other few p.pulls same (subst (λ l. IsSeen l other) (sym inner) seen);
+      job = set.job;
+      has_job = subst (λ l. job_of key l ≡ Some set.job) inner set.has_job;
+      settings = set.settings;
+      issues = given.each;
+      issues_all = given.no_other;
       counts = λ k h. done_is_seen laws.server.last w s mid (f ∷ earlier) (Met p.start Saved ∷ list_at w s earlier) key k (p.counts k h);
       counts_all = λ k d. p.counts_all k (seen_is_done done w s key.run mid (f ∷ earlier) (Met p.start Saved ∷ list_at w s earlier) key.job k list a.last b.last d);
       quiet = is_quiet laws w s key.run later (e ∷ taken_then) few at;
@@ -231,11 +241,12 @@ places w evs state t =
       },
     )
 
-pub each_is_taken : TakingLaws → OfAllThatIsSeen EachIsTaken
-each_is_taken laws w evs few state seen =
+pub each_is_taken : FileLaws → OfAllThatIsSeen EachIsTaken
+each_is_taken files w evs few state seen =
+    let laws = files.taking in
     let key = state.key in
     let is = seen_was_taken laws.seen w evs few state seen in
     let i : Contains (all_taken w evs key) state = subst (λ l. Contains l state) (sym is) (first_of state []) in
     let t = laws.counts (opening_of key.server) key.run key.job (list_at w key.server evs) state i in
     let p = places w evs state t in
-    subst (λ l. IsTaken (observations w l) state) (sym p.5) (taken_at laws w p.0 p.1 p.2 p.3 p.4 state few p.6)
+    subst (λ l. IsTaken (observations w l) state) (sym p.5) (taken_at files w p.0 p.1 p.2 p.3 p.4 state few p.6)

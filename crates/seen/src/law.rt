@@ -53,6 +53,7 @@ pub fn each_is_taken()
     open_check_is_last();
     counts_the_done();
     quiet();
+    numbers_are_given_once();
 }
 
 /// The report that a check is told is the one of what its file is seen to hold, and blames no disk that

@@ -1,0 +1,20 @@
+"""Judges all that there is to judge of a script and of what is printed of it."""
+
+from judging.cuts import judge_cuts
+from judging.reports import judge_reports
+from judging.story import Story
+from judging.takings import judge_states
+from judging.verdict import Unreadable, Verdict
+
+
+def judge(script, output):
+    """The verdict on a script and its output."""
+    verdict = Verdict()
+    try:
+        story = Story(script, output, verdict)
+        judge_states(story, verdict)
+        judge_cuts(story, verdict)
+        judge_reports(story, verdict)
+    except (Unreadable, ValueError, IndexError) as why:
+        verdict.wrong.append(("output", f"it can't be read: {why}"))
+    return verdict
