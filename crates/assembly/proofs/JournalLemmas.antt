@@ -9,10 +9,10 @@ use Rattle.hub.specs.declared.line.Line.{Line}
 use Rattle.hub.specs.Network.{Network}
 use Rattle.hub.specs.Waiting.{is_same_node}
 use Rattle.hub.specs.Journal.{count_sent}
-use Rattle.node_history.specs.declared.logged.Logged.{Logged}
-use Rattle.node_traces.specs.Marks.{Mark, mark_of_line, marks_in, marks_of}
-use Rattle.node_traces.specs.Orders.{places_between, next_place, up_to_last}
-use Rattle.node_traces.specs.Rising.{HistoriesRise, marks_before}
+use Rattle.cells.specs.declared.logged.Logged.{Logged}
+use Rattle.assembly.specs.Marks.{Mark, mark_of_line, marks_in, marks_of}
+use Rattle.assembly.specs.Orders.{places_between, next_place, up_to_last}
+use Rattle.assembly.specs.Rising.{HistoriesRise, marks_before}
 use Rattle.assembly.specs.declared.fault.AssembleFault.{AssembleFault}
 use Rattle.assembly.specs.declared.fault.AssembleFault.TheVariants.{Unlike, NoMemory}
 use Rattle.assembly.specs.Ran.{Ran, history_of}

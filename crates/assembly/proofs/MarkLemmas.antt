@@ -5,14 +5,26 @@ use Rattle.std.specs.Prelude.{reverse, if◌then◌else◌, slice_get}
 use Rattle.std.specs.Option.{ForSome}
 use Rattle.std.proofs.lemmas.List.{append_assoc, length-append, length-reverse}
 use Rattle.std.proofs.lemmas.Option.{slice_get_cases}
-use Rattle.node_history.specs.declared.logged.Logged.{Logged}
-use Rattle.node_history.specs.AtHub.{is_left_out}
-use Rattle.node_traces.specs.Marks.{Mark, frame_of, mark_of, marks_if, marks_of}
-use Rattle.node_traces.specs.Rising.{MarksRise, marks_before}
+use Rattle.cells.specs.declared.logged.Logged.{Logged}
+use Rattle.cells.specs.AtHub.{is_left_out}
+use Rattle.assembly.specs.Marks.{Mark, frame_of, mark_of, marks_if, marks_of}
+use Rattle.assembly.specs.Rising.{MarksRise, marks_before}
 use Rattle.assembly.specs.Unlike.{GoesOn, first_place, DifferAt}
 use Rattle.assembly.specs.Order.{whole_mark, IsMarkedAt, IsOther}
 
 -- ---- one event
+
+-- It took and sent nothing.
+pub record HasNone (taken : Option (List ℕ)) (sent : List (List ℕ)) (marks : List Mark) : Type 0 where
+  pub no_frame : taken ≡ None
+  pub no_sent : sent ≡ []
+  pub no_mark : marks ≡ []
+
+pub none_or_one : (at : ℕ) (taken : Option (List ℕ)) (sent : List (List ℕ))
+    → HasNone taken sent (marks_if at taken sent) ⊎ (marks_if at taken sent ≡ (record { at = at; taken = taken; sent = sent }) ∷ [])
+none_or_one at None [] = inl (record { no_frame = refl; no_sent = refl; no_mark = refl })
+none_or_one at None (f ∷ fs) = inr refl
+none_or_one at (Some bytes) sent = inr refl
 
 -- An event has its whole mark, or none.
 abbrev pub OneMark : ℕ → Logged → Type 0
@@ -20,9 +32,12 @@ OneMark at l = (mark_of at l ≡ []) ⊎ (mark_of at l ≡ whole_mark at l ∷ [
 
 one_if : (at : ℕ) (taken : Option (List ℕ)) (sent : List (List ℕ))
     → (marks_if at taken sent ≡ []) ⊎ (marks_if at taken sent ≡ (record { at = at; taken = taken; sent = sent }) ∷ [])
-one_if at None [] = inl refl
-one_if at None (f ∷ fs) = inr refl
-one_if at (Some bytes) sent = inr refl
+one_if at taken sent = by_mark (none_or_one at taken sent)
+  where
+    by_mark : HasNone taken sent (marks_if at taken sent) ⊎ (marks_if at taken sent ≡ (record { at = at; taken = taken; sent = sent }) ∷ [])
+        → (marks_if at taken sent ≡ []) ⊎ (marks_if at taken sent ≡ (record { at = at; taken = taken; sent = sent }) ∷ [])
+    by_mark (inl none) = inl none.no_mark
+    by_mark (inr one) = inr one
 
 one_by : (at : ℕ) (l : Logged) (b : Bool) →
     ((if b then [] else marks_if at (frame_of l.came) l.sent) ≡ []) ⊎ ((if b then [] else marks_if at (frame_of l.came) l.sent) ≡ whole_mark at l ∷ [])

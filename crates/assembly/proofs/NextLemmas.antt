@@ -11,7 +11,7 @@ use Rattle.messages.specs.declared.node.Node.TheVariants.{Server, Client, Mirror
 use Rattle.messages.specs.Nodes.{node_number, is_node}
 use Rattle.hub.specs.Waiting.{is_same_node}
 use Rattle.hub.proofs.NodeLemmas.{number_below, other_number}
-use Rattle.node_history.specs.declared.logged.Logged.{Logged}
+use Rattle.cells.specs.declared.logged.Logged.{Logged}
 use Rattle.assembly.specs.Ran.{Ran, history_of}
 use Rattle.assembly.specs.Order.{next_of, with_next}
 

@@ -6,14 +6,14 @@ use Rattle.std.proofs.lemmas.Bool.Decides.{nat_tests}
 use Rattle.std.proofs.lemmas.Option.{slice_get_within, slice_get-get_or, get_or_from_slice_get}
 use Rattle.messages.specs.declared.node.Node.{Node}
 use Rattle.messages.specs.declared.node.Node.TheVariants.{Server, Client, Mirror}
-use Rattle.node_history.specs.declared.logged.Logged.{Logged}
-use Rattle.server_cell.specs.Seated.{Seated}
-use Rattle.node_history.specs.Seats.{times}
+use Rattle.cells.specs.declared.logged.Logged.{Logged}
+use Rattle.cells.specs.Seated.{Seated}
+use Rattle.cells.specs.Seats.{times}
 use Rattle.server_core.specs.History.{Opening}
-use Rattle.server_cell.specs.Cells.{ServerLog}
-use Rattle.server_cell.specs.Calls.{is_right}
+use Rattle.cells.specs.ServerCells.{ServerLog}
+use Rattle.cells.specs.ServerCalls.{is_right}
 use Rattle.client_core.specs.Note.{is_blank as says_nothing}
-use Rattle.client_cell.specs.Cells.{ClientLog}
+use Rattle.cells.specs.ClientCells.{ClientLog}
 use Rattle.net_world.specs.Trace.{opening_of}
 use Rattle.assembly.specs.Ran.{Ran, ran_of, history_of}
 use Rattle.assembly.specs.Agrees.{IsOpened, IsSeatOf}

@@ -6,14 +6,14 @@ use Rattle.std.specs.Option.{ForSome}
 use Rattle.std.proofs.lemmas.Bool.Decides.{nat_tests}
 use Rattle.std.proofs.lemmas.List.{append_assoc, append-nil, reverse-append, length-reverse}
 use Rattle.messages.specs.declared.node.Node.{Node}
-use Rattle.node_history.specs.declared.came.Came.{Came}
-use Rattle.node_history.specs.declared.came.Came.TheVariants as came
-use Rattle.node_history.specs.declared.logged.Logged.{Logged}
-use Rattle.node_history.specs.AtHub.{is_frame, is_left_out, is_quiet}
-use Rattle.node_traces.specs.declared.place.Place.{Place}
-use Rattle.node_traces.specs.Marks.{Mark, frame_of, mark_of, marks_if}
-use Rattle.node_traces.specs.Orders.{places_between}
-use Rattle.node_traces.specs.Rising.{HistoriesRise, marks_before}
+use Rattle.cells.specs.declared.came.Came.{Came}
+use Rattle.cells.specs.declared.came.Came.TheVariants as came
+use Rattle.cells.specs.declared.logged.Logged.{Logged}
+use Rattle.cells.specs.AtHub.{is_frame, is_left_out, is_quiet}
+use Rattle.assembly.specs.declared.place.Place.{Place}
+use Rattle.assembly.specs.Marks.{Mark, frame_of, mark_of, marks_if}
+use Rattle.assembly.specs.Orders.{places_between}
+use Rattle.assembly.specs.Rising.{HistoriesRise, marks_before}
 use Rattle.assembly.specs.declared.fault.AssembleFault.{AssembleFault}
 use Rattle.assembly.specs.declared.fault.AssembleFault.TheVariants.{Unlike, NoMemory}
 use Rattle.assembly.specs.Order.{Followed, next_of, with_next, whole_mark, IsPassed, IsMarkedAt, IsStopped, IsTold, IsOther, IsUntold}

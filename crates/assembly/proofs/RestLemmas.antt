@@ -9,12 +9,12 @@ use Rattle.std.proofs.lemmas.Option.{slice_get_past, slice_get_read}
 use Rattle.messages.specs.declared.node.Node.{Node}
 use Rattle.messages.specs.declared.node.Node.TheVariants.{Server, Client, Mirror}
 use Rattle.hub.specs.Network.{Network}
-use Rattle.server_cell.specs.Cells.{ServerLog}
-use Rattle.node_history.specs.declared.logged.Logged.{Logged}
-use Rattle.node_traces.specs.declared.place.Place.{Place}
-use Rattle.node_traces.specs.Marks.{marks_in, marks_of}
-use Rattle.node_traces.specs.Orders.{next_place, up_to_last, left_of, left_below, merged_order}
-use Rattle.node_traces.specs.Rising.{HistoriesRise, marks_before}
+use Rattle.cells.specs.ServerCells.{ServerLog}
+use Rattle.cells.specs.declared.logged.Logged.{Logged}
+use Rattle.assembly.specs.declared.place.Place.{Place}
+use Rattle.assembly.specs.Marks.{marks_in, marks_of}
+use Rattle.assembly.specs.Orders.{next_place, up_to_last, left_of, left_below, merged_order}
+use Rattle.assembly.specs.Rising.{HistoriesRise, marks_before}
 use Rattle.assembly.specs.declared.fault.AssembleFault.{AssembleFault}
 use Rattle.assembly.specs.declared.fault.AssembleFault.TheVariants.{Unlike, NoMemory}
 use Rattle.assembly.specs.Ran.{Ran, history_of}

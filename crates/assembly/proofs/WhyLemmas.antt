@@ -1,8 +1,8 @@
 -- Why there is no list of events.
 use Rattle.std.proofs.Common.{inr, List}
 use Rattle.hub.specs.Network.{Network}
-use Rattle.server_cell.specs.Seated.{Seated}
-use Rattle.node_traces.specs.Marks.{marks_in, marks_of}
+use Rattle.cells.specs.Seated.{Seated}
+use Rattle.assembly.specs.Marks.{marks_in, marks_of}
 use Rattle.assembly.specs.declared.fault.AssembleFault.{AssembleFault}
 use Rattle.assembly.specs.declared.fault.AssembleFault.TheVariants.{Unlike, NoMemory}
 use Rattle.assembly.specs.Ran.{Ran, history_of}

@@ -6,10 +6,10 @@ use Rattle.messages.specs.declared.node.Node.{Node}
 use Rattle.messages.specs.declared.node.Node.TheVariants.{Server, Client, Mirror}
 use Rattle.hub.specs.Network.{Network}
 use Rattle.client_core.specs.Note.{is_blank}
-use Rattle.server_cell.specs.Seated.{Seated}
-use Rattle.node_history.specs.Seats.{times}
+use Rattle.cells.specs.Seated.{Seated}
+use Rattle.cells.specs.Seats.{times}
 use Rattle.net_world.specs.Trace.{opening_of}
-use Rattle.node_traces.specs.Marks.{marks_in, marks_of}
+use Rattle.assembly.specs.Marks.{marks_in, marks_of}
 use Rattle.assembly.specs.Ran.{Ran, history_of}
 
 -- The client was opened over a blank note, and drives just the servers that ran, eight at most; the

@@ -1,6 +1,13 @@
-pub mod Fault
-pub mod Ran
 pub mod Agrees
-pub mod Unlike
+pub mod Examples
+pub mod Fault
+pub mod Laws
+pub mod Lists
+pub mod Marks
+pub mod Names
 pub mod Order
+pub mod Orders
+pub mod Ran
+pub mod Rising
+pub mod Unlike
 pub mod Verdict

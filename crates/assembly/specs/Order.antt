@@ -7,11 +7,11 @@ use Rattle.messages.specs.declared.limits.TheConstants.{MAX_NODES}
 use Rattle.messages.specs.Nodes.{node_number, is_node}
 use Rattle.hub.specs.declared.line.Line.{Line}
 use Rattle.hub.specs.Network.{Network}
-use Rattle.node_history.specs.declared.logged.Logged.{Logged}
-use Rattle.node_traces.specs.declared.place.Place.{Place}
-use Rattle.node_traces.specs.Marks.{Mark, frame_of, marks_in, marks_of}
-use Rattle.node_traces.specs.Orders.{places_between, next_place, up_to_last}
-use Rattle.node_traces.specs.Rising.{marks_before}
+use Rattle.cells.specs.declared.logged.Logged.{Logged}
+use Rattle.assembly.specs.declared.place.Place.{Place}
+use Rattle.assembly.specs.Marks.{Mark, frame_of, marks_in, marks_of}
+use Rattle.assembly.specs.Orders.{places_between, next_place, up_to_last}
+use Rattle.assembly.specs.Rising.{marks_before}
 use Rattle.assembly.specs.declared.fault.AssembleFault.{AssembleFault}
 use Rattle.assembly.specs.declared.fault.AssembleFault.TheVariants.{Unlike, NoMemory}
 use Rattle.assembly.specs.Ran.{Ran, history_of}

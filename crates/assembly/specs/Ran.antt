@@ -3,9 +3,9 @@ use Rattle.std.specs.Prelude.{List, [], slice_get}
 use Rattle.std.specs.Option.{option_map_or}
 use Rattle.messages.specs.declared.node.Node.{Node}
 use Rattle.messages.specs.declared.node.Node.TheVariants.{Server, Client, Mirror}
-use Rattle.node_history.specs.declared.logged.Logged.{Logged}
-use Rattle.server_cell.specs.Cells.{ServerLog}
-use Rattle.client_cell.specs.Cells.{ClientLog}
+use Rattle.cells.specs.declared.logged.Logged.{Logged}
+use Rattle.cells.specs.ServerCells.{ServerLog}
+use Rattle.cells.specs.ClientCells.{ClientLog}
 
 -- What ran: the client, and the servers in the order of their numbers.
 pub record Ran : Type 0 where

@@ -2,8 +2,8 @@
 use Rattle.std.specs.Prelude.{◌≡◌, ◌≢◌, ◌⊎◌, ℕ, min, List, ◌∷◌, ◌++◌, Option, Some, None, All}
 use Rattle.messages.specs.declared.node.Node.{Node}
 use Rattle.hub.specs.Network.{Network}
-use Rattle.server_cell.specs.Seated.{Seated}
-use Rattle.node_traces.specs.Marks.{Mark, marks_in, marks_of}
+use Rattle.cells.specs.Seated.{Seated}
+use Rattle.assembly.specs.Marks.{Mark, marks_in, marks_of}
 use Rattle.assembly.specs.declared.fault.AssembleFault.{AssembleFault}
 use Rattle.assembly.specs.declared.fault.AssembleFault.TheVariants.{Unlike, NoMemory}
 use Rattle.assembly.specs.Ran.{Ran, history_of}

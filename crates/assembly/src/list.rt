@@ -1,21 +1,21 @@
 //! One list of events out of the histories of all nodes.
 
 ghost use Rattle.std.specs.Prelude.{◌≡◌, length, reverse, IfOk, IfErr, OnOk};
-ghost use Rattle.node_traces.specs.Orders.{merged_order};
-ghost use Rattle.node_traces.specs.Names.{IsOrder};
+ghost use Rattle.assembly.specs.Orders.{merged_order};
+ghost use Rattle.assembly.specs.Names.{IsOrder};
 ghost use Rattle.assembly.specs.Ran.{ran_of, history_of};
 ghost use Rattle.assembly.specs.Agrees.{AllAgree};
 ghost use Rattle.assembly.specs.Unlike.{IsWhy};
 ghost use Rattle.assembly.specs.Verdict.{HoldOneStateEach};
 
 use crate::fault::AssembleFault;
+use crate::law::{agreeing_nodes_are_a_trace, assembled_nodes_hold_one_state};
 use crate::opened::{wrongly_opened, wrongly_seated};
+use crate::place::Place;
 use crate::told::told;
-use client_cell::ClientCell;
+use cells::{ClientCell, Seat, ServerCell};
 use disk_model::Notes;
 use hub::Hub;
-use node_traces::{Place, agreeing_nodes_are_a_trace, assembled_nodes_hold_one_state};
-use server_cell::{Seat, ServerCell};
 use std::alloc::Global;
 
 /// All events that stand in the nodes' lists, the oldest first.

@@ -2,12 +2,12 @@
 
 ghost use Rattle.std.specs.Prelude.{◌≡◌, ◌+◌, ◌<◌, ◌≤◌, ◌^◌, ℕ, [], ◌∷◌, length, take, drop, is_some, if◌then◌else◌, slice_get, Some, Decides};
 ghost use Rattle.std.specs.Option.{option_and_then};
-ghost use Rattle.node_traces.specs.Marks.{frame_of, mark_of, mark_of_line};
+ghost use Rattle.assembly.specs.Marks.{frame_of, mark_of, mark_of_line};
 ghost use Rattle.assembly.specs.Order.{whole_mark};
 
+use cells::{Came, Logged, is_left_out};
 use hub::{Hub, Line};
 use messages::Frames;
-use node_history::{Came, Logged, is_left_out};
 
 /// Whether an event took a frame or sent some.
 pub(crate) fn is_marked(event: &Logged) -> bool

@@ -7,11 +7,10 @@ ghost use Rattle.net_world.specs.Trace.{opening_of};
 ghost use Rattle.assembly.specs.Ran.{ran_of};
 ghost use Rattle.assembly.specs.Agrees.{IsOpened, IsSeatOf};
 
-use client_cell::ClientCell;
+use cells::{ClientCell, Seat, ServerCell};
 use disk_model::Notes;
 use fc_base::{MAX_SERVERS, ServerNo};
 use messages::Node;
-use server_cell::{Seat, ServerCell};
 
 /// A node that wasn't opened rightly, if there is one.
 pub(crate) fn wrongly_opened<N: Notes + Drop>(

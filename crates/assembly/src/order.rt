@@ -1,17 +1,18 @@
 //! The order of all events, and how far each node was followed.
 
 ghost use Rattle.std.specs.Prelude.{◌≡◌, ◌+◌, ◌<◌, ◌≤◌, ◌^◌, ◌++◌, ◌∷◌, [], List, length, reverse, IfErr, OnOk};
-ghost use Rattle.node_history.specs.declared.logged.Logged.{Logged as Event};
-ghost use Rattle.node_traces.specs.Marks.{mark_of_line};
+ghost use Rattle.cells.specs.declared.logged.Logged.{Logged as Event};
+ghost use Rattle.assembly.specs.Marks.{mark_of_line};
 ghost use Rattle.assembly.specs.declared.fault.AssembleFault.TheVariants.{Unlike, NoMemory};
 ghost use Rattle.assembly.specs.Order.{nothing_followed, next_of, with_next, IsPassed, IsStopped, IsTold, IsUntold};
 
 use crate::fault::AssembleFault;
+use crate::law::histories_rise;
 use crate::marks::{is_marked, is_told_by};
+use crate::place::Place;
+use cells::History;
 use hub::{Hub, Line};
 use messages::{MAX_NODES, Node};
-use node_history::History;
-use node_traces::{Place, histories_rise};
 use std::alloc::Global;
 use std::marker::Model;
 

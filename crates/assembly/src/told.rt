@@ -2,23 +2,22 @@
 
 ghost use Rattle.std.specs.Prelude.{◌≡◌, ◌≤◌, [], length, reverse, IfOk, IfErr, OnOk};
 ghost use Rattle.hub.specs.Journal.{IsLegal};
-ghost use Rattle.node_traces.specs.Laws.{Agree};
-ghost use Rattle.node_traces.specs.Orders.{merged_order};
+ghost use Rattle.assembly.specs.Laws.{Agree};
+ghost use Rattle.assembly.specs.Orders.{merged_order};
 ghost use Rattle.messages.specs.declared.node.Node.{Node as Name};
 ghost use Rattle.assembly.specs.Ran.{ran_of, history_of};
 ghost use Rattle.assembly.specs.Agrees.{IsOpened, IsMarked};
 ghost use Rattle.assembly.specs.Order.{Differs, IsFollowed, nothing_followed};
 
 use crate::fault::AssembleFault;
+use crate::law::histories_rise;
 use crate::order::Order;
-use client_cell::ClientCell;
+use crate::place::Place;
+use cells::{ClientCell, History, ServerCell};
 use disk_model::Notes;
 use fc_base::{MAX_SERVERS, ServerNo};
 use hub::Hub;
 use messages::Node;
-use node_history::History;
-use node_traces::{Place, histories_rise};
-use server_cell::ServerCell;
 use std::alloc::Global;
 
 /// The events of nodes that were opened rightly, in the order that the journal gives. A node and the journal

@@ -19,11 +19,11 @@ use Rattle.server_core.specs.contracts.open_check.OpenCheck as open_check
 use Rattle.server_core.specs.contracts.machine.Machine as machine
 use Rattle.server_core.specs.contracts.server.Server as server_core
 use Rattle.client_core.specs.contracts.client.Client as client_core
-use Rattle.node_history.specs.contracts.logged.Logged as logged
-use Rattle.node_history.specs.contracts.power.Power as power
-use Rattle.client_cell.specs.contracts.cell.ClientCell as client
-use Rattle.server_cell.specs.contracts.cell.ServerCell as server
-use Rattle.server_cell.specs.contracts.seat.Seat as seat
+use Rattle.cells.specs.contracts.logged.Logged as logged
+use Rattle.node_power.specs.contracts.power.Power as power
+use Rattle.cells.specs.contracts.client_cell.ClientCell as client
+use Rattle.cells.specs.contracts.server_cell.ServerCell as server
+use Rattle.cells.specs.contracts.server_cell.seat.Seat as seat
 use Rattle.fleet_threads.specs.contracts.crew.Hand as hand
 use Rattle.fleet_threads.specs.contracts.flags.Flags as flags
 use Rattle.fleet_threads.specs.contracts.nodes.Nodes as nodes

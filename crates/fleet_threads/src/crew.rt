@@ -4,8 +4,8 @@ ghost use Rattle.std.specs.Prelude.{◌≤◌, length};
 
 use crate::flags::Flags;
 use crate::nodes::{Nodes, Server};
+use cells::Seat;
 use disk_model::MemDisk;
-use server_cell::Seat;
 use std::alloc::Global;
 use std::sync::{Mutex, Wait};
 use std::thread;

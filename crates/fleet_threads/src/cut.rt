@@ -2,10 +2,9 @@
 
 ghost use Rattle.std.specs.Prelude.{◌≡◌, length};
 
+use cells::{CallerAnswer, Seat, ServerCell, ServerTask};
 use disk_model::{MemDisk, Notes};
 use fc_base::Fault;
-use node_history::CallerAnswer;
-use server_cell::{Seat, ServerCell, Task};
 use std::sync::{Mutex, Wait};
 use std::thread;
 
@@ -47,7 +46,7 @@ pub(crate) fn cut_all<R: Wait, N: Notes + Drop>(
 /// [`CUTS`] times: a server that then is still on refuses its workers' requests for want of memory, too.
 fn cut_off<R: Wait, N: Notes + Drop>(rt: &R, server: &Mutex<ServerCell<N>>, seat: &mut Seat) {
     for _ in 0..CUTS {
-        let cut = done(server.lock(rt).apply(seat, Task::Cut));
+        let cut = done(server.lock(rt).apply(seat, ServerTask::Cut));
         if cut != Err(Fault::NoMemory) {
             return;
         }
@@ -69,8 +68,8 @@ fn turn_on<R: Wait>(rt: &R, files: &[Mutex<MemDisk>], boot: u64) {
 
 /// The server loses its power and is started again. Its new boot.
 fn start_again<N: Notes + Drop>(cell: &mut ServerCell<N>, seat: &mut Seat) -> Result<u64, Fault> {
-    done(cell.apply(seat, Task::Cut))?;
-    done(cell.apply(seat, Task::Restart))?;
+    done(cell.apply(seat, ServerTask::Cut))?;
+    done(cell.apply(seat, ServerTask::Restart))?;
     match cell.server() {
         Some(server) => Ok(server.status().boot),
         None => Err(Fault::NodeOff),

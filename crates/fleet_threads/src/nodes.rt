@@ -4,11 +4,10 @@ ghost use Rattle.std.specs.Prelude.{◌≡◌, ◌<◌, ◌≤◌, ◌+◌, ◌+
 
 use crate::crew::Hand;
 use crate::fault::FleetFault;
-use client_cell::ClientCell;
+use cells::{ClientCell, Seat, ServerCell};
 use disk_model::{MemDisk, MemNotes};
 use fc_base::{Fault, MAX_JOBS, MAX_SERVERS, MAX_WORKERS, ServerNo};
 use hub::Hub;
-use server_cell::{Seat, ServerCell};
 use std::alloc::Global;
 use std::sync::Mutex;
 

@@ -3,16 +3,14 @@
 ghost use Rattle.std.specs.Prelude.{◌≡◌, length};
 
 use crate::cut::cut;
-use client_cell::ClientCell;
+use cells::{CallerAnswer, ClientCell, Node, Seat, ServerCell};
 use disk_model::{MemDisk, Notes};
 use fc_base::Fault;
 use hub::Hub;
 use messages::{Act, Node as NodeName};
-use node_history::{CallerAnswer, Node};
 use rand_xoshiro::Xoshiro256PlusPlus;
 use rand_xoshiro::rand_core::SeedableRng;
 use rand_xoshiro::rand_core::utils::NextWord;
-use server_cell::{Seat, ServerCell};
 use std::sync::atomic::{AtomicBool, Ordering};
 use std::sync::{Mutex, Wait};
 use std::thread;

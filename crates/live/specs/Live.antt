@@ -10,8 +10,8 @@ use Rattle.job_file.specs.JobSet.{refusal_of, phase_in}
 use Rattle.program_io.specs.Reports.{report_words}
 use Rattle.fleet_threads.specs.declared.fault.FleetFault.{FleetFault}
 use Rattle.fleet_threads.specs.declared.fault.FleetFault.TheVariants.{Refused}
-use Rattle.fleet.specs.declared.ends.CheckEnd.{CheckEnd}
-use Rattle.fleet.specs.Heard.{AreOfOneRun}
+use Rattle.node_threads.specs.declared.ends.CheckEnd.{CheckEnd}
+use Rattle.node_threads.specs.Heard.{AreOfOneRun}
 use Rattle.live.specs.declared.run.TheConstants.{MAX_INPUT}
 use Rattle.program_io.specs.declared.refusal.PrintedRefusal.{PrintedRefusal}
 use Rattle.program_io.specs.Words.{with_blanks_between, with_line_feed, Finishes}

@@ -7,7 +7,7 @@ ghost use Rattle.live.specs.Live.{end_words, end_line, end_lines, ends_text, end
 
 use crate::run::{FAULTY, PRINTED};
 use fc_base::{CheckReport, Fault};
-use fleet::CheckEnd;
+use node_threads::CheckEnd;
 use program_io::{REFUSED, write_report_words};
 use std::io;
 use std::io::Write;

@@ -1,6 +1,6 @@
 //! A trigger that is a file.
 
-use fleet::Trigger;
+use node_threads::Trigger;
 use std::fs;
 use std::fs::Files;
 

@@ -10,15 +10,14 @@ use crate::ends::{status_of, write_ends};
 use crate::texts::texts_of;
 use commands::FleetSize;
 use fc_base::{Fault, MAX_TEXT};
-use fleet::{CheckEnd, FleetFault, Trigger, run_fleet};
 use job_file::{Phase, parse};
+use node_threads::{CheckEnd, FleetFault, OpenGate, Trigger, run_fleet};
 use program_io::{PrintedRefusal, REFUSED, read_input, read_law, write_refusal};
 use std::alloc::Global;
 use std::io;
 use std::io::{Read, Write};
 use std::sync::Wait;
 use std::thread::Threads;
-use workers::OpenGate;
 
 /// The exit status where no report has faults.
 pub(crate) const PRINTED: u8 = 0;

@@ -1,6 +1,6 @@
-//! The tests of nodes under locks and of threads, of `server_cell`, `client_cell`, `assembly`, `workers`, `fleet`
-//! and `node_threads`, and those of `commands` and `live`. They stand in one crate of their own, so that the
-//! gate proves each library once, and loads what is below them once for all these tests.
+//! The tests of nodes under locks and of threads, of `cells`, `assembly`, `workers`, `fleet_threads` and
+//! `node_threads`, and those of `commands` and `live`. They stand in one crate of their own, so that the gate
+//! proves each library once, and loads what is below them once for all these tests.
 #![tactic(auto)]
 
 #[cfg(test)]

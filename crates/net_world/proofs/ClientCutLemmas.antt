@@ -21,8 +21,8 @@ use Rattle.client_core.specs.Words.{words_noted}
 use Rattle.client_core.specs.Saves.{Addition, unless_refused, due_by, noted_after}
 use Rattle.client_core.specs.Hearing.{FrameEntry, Met, Cut, rules, heard_at, packets_heard, arrival, is_up}
 use Rattle.client_core.specs.FrameAnswers.{sense, due, answered_entry}
-use Rattle.net_world.specs.declared.client_node.ClientNode.{ClientNode}
-use Rattle.net_world.specs.declared.client_node.ClientNode.TheVariants.{On, Off}
+use Rattle.net_world.specs.ClientNodes.{ClientNode}
+use Rattle.node_power.specs.declared.power.Power.TheVariants.{On, Off, Lent}
 use Rattle.net_world.specs.ClientNodes.{client_nodes, Stands, IsEmptyIfBlank}
 use Rattle.net_world.proofs.NodeLemmas.{Saves, never}
 
@@ -96,6 +96,7 @@ off_again o a b (Off notes) s up off same = (
   off,
   subst (λ n. IsEmptyIfBlank (note_of notes).bytes n) same s.2,
 )
+off_again o a b Lent s up off same = absurd s
 
 saved_by : (x : Option Addition) → is_some x ≡ true → saved_for x ≡ Saved
 saved_by None h = cc

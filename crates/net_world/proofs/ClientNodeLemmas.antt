@@ -18,7 +18,7 @@ use Rattle.client_core.specs.Words as words
 use Rattle.client_core.specs.Hearing.{FrameEntry, Met, rules, heard_at, packets_heard, is_up}
 use Rattle.client_core.specs.FrameEnds as core
 use Rattle.net_world.specs.declared.asked.Asked.{Asked}
-use Rattle.net_world.specs.declared.client_node.ClientNode.TheVariants.{On}
+use Rattle.node_power.specs.declared.power.Power.TheVariants.{On}
 use Rattle.net_world.specs.ClientNodes.{client_nodes, Asks, answer_to}
 use Rattle.net_world.proofs.NodeLemmas.{Laws, stays, ends}
 

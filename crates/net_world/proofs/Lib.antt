@@ -18,6 +18,7 @@ pub mod ClientCutLemmas
 pub mod ClientFrameLemmas
 pub mod ClientHeardLemmas
 pub mod ClientNodeLemmas
+pub mod ClientPowerLemmas
 pub mod ClientPlainLemmas
 pub mod ConflictLemmas
 pub mod TextLemmas

@@ -10,7 +10,7 @@ use Rattle.server_core.specs.declared.input.Input.TheVariants as inputs
 use Rattle.server_core.specs.Hearing as hearing
 use Rattle.server_core.specs.Hearing.{FrameEntry, coming_of}
 use Rattle.net_world.specs.declared.mirror_node.Mirrored.{Mirrored}
-use Rattle.net_world.specs.declared.server_node.ServerNode.{ServerNode}
+use Rattle.net_world.specs.ServerNodes.{ServerNode}
 use Rattle.net_world.specs.declared.world.World.{World}
 use Rattle.net_world.specs.Setup.{Setup}
 use Rattle.net_world.specs.Trace.{opening_of, client_opening}

@@ -13,7 +13,7 @@ use Rattle.mirror_core.specs.Words as words
 use Rattle.mirror_core.specs.Words.{refusal, due}
 use Rattle.mirror_core.specs.Packets.{packets, packets_for}
 use Rattle.mirror_core.specs.Requests.{request_in}
-use Rattle.net_world.specs.declared.mirror_node.MirrorNode.{MirrorNode}
+use Rattle.net_world.specs.MirrorNodes.{MirrorNode}
 use Rattle.net_world.specs.declared.told.Told.{Told}
 use Rattle.net_world.specs.declared.world.World.{World}
 use Rattle.net_world.specs.Setup.{Setup}

@@ -26,8 +26,8 @@ use Rattle.mirror_core.specs.Words as words
 use Rattle.mirror_core.specs.Words.{refusal, due}
 use Rattle.mirror_core.specs.Packets.{packets, frame_bytes}
 use Rattle.mirror_core.specs.Ends.{answered_entry}
-use Rattle.net_world.specs.declared.server_node.ServerNode.{ServerNode}
-use Rattle.net_world.specs.declared.mirror_node.MirrorNode.{MirrorNode}
+use Rattle.net_world.specs.ServerNodes.{ServerNode}
+use Rattle.net_world.specs.MirrorNodes.{MirrorNode}
 use Rattle.net_world.specs.declared.told.WorldAnswer.TheVariants.{Plain}
 use Rattle.net_world.specs.declared.told.Told.{Told}
 use Rattle.net_world.specs.declared.world.World.{World}

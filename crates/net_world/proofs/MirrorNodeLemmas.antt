@@ -1,11 +1,14 @@
 -- A mirror's node takes what comes as its list does, and loses its power within a save.
-use Rattle.std.proofs.Common.{◌≡◌, refl, subst, inr, ℕ, arith, Bool, true, false, ◌&&◌, List, [], ◌∷◌, Option, Some, None}
+use Rattle.std.proofs.Common.{◌≡◌, refl, sym, subst, inl, inr, ℕ, arith, Bool, true, false, ◌&&◌, List, [], ◌∷◌, Option, Some, None, Result, Ok, Err}
 use Rattle.std.specs.Prelude.{is_some}
 use Rattle.fc_base.specs.declared.fault.Fault.{Fault}
-use Rattle.disk_model.specs.MemNotes.{note_of}
+use Rattle.fc_base.specs.declared.fault.Fault.TheVariants.{NoMemory, LoadFault, BadNote}
+use Rattle.disk_model.specs.MemNotes.{Saved as Kept, note_of}
+use Rattle.disk_model.specs.Notes.{Note}
 use Rattle.disk_model.specs.declared.left.Left.TheVariants.{LostNew, LostOld}
 use Rattle.disk_model.specs.Left.{saved_for, has_new, is_lost}
 use Rattle.messages.specs.declared.frame.Frame.{Frame}
+use Rattle.mirror_core.specs.declared.mirror.Mirror.{Mirror}
 use Rattle.mirror_core.specs.declared.noted.Noted.{Noted}
 use Rattle.mirror_core.specs.History.{Entry, Met, Cut}
 use Rattle.mirror_core.specs.Note.{Says, blank}
@@ -13,10 +16,12 @@ use Rattle.mirror_core.specs.Saves.{Addition, addition_of, unless_refused, noted
 use Rattle.mirror_core.specs.Requests.{request_in}
 use Rattle.mirror_core.specs.Words.{is_on, words_noted, refusal, due}
 use Rattle.mirror_core.specs.Ends.{answered_entry}
-use Rattle.net_world.specs.declared.mirror_node.MirrorNode.{MirrorNode}
-use Rattle.net_world.specs.declared.mirror_node.MirrorNode.TheVariants.{On, Off}
-use Rattle.net_world.specs.MirrorNodes.{mirror_nodes, Stands}
-use Rattle.net_world.proofs.NodeLemmas.{Laws, Saves, stays}
+use Rattle.mirror_core.specs.Stands.{NotOpened, Restarts as Opened}
+use Rattle.node_power.specs.Kinds as nodes
+use Rattle.node_power.specs.MirrorKind.{mirror_kind}
+use Rattle.node_power.specs.declared.power.Power.TheVariants.{On, Off, Lent}
+use Rattle.net_world.specs.MirrorNodes.{MirrorNode, mirror_nodes, Stands, Restarts}
+use Rattle.net_world.proofs.NodeLemmas.{Laws, Saves, stays, never}
 
 pub laws : (o : Noted) → Laws (mirror_nodes o) On
 laws o = record {
@@ -51,10 +56,12 @@ landed_new : (o : Noted) (past : List Entry) (f : Frame) (new : MirrorNode) → 
     → Stands o (Cut ∷ answered_entry o past f ∷ past) new → Stands o (Met f LostNew ∷ past) new
 landed_new o past f (On m) d s = let clash = s.1 in absurd cc
 landed_new o past f (Off notes) d s = (subst (Says (note_of notes).bytes) (saved_new (due o past f) (words_noted o past) d) s.0, and_false (is_on past))
+landed_new o past f Lent d s = absurd s
 
 landed_old : (o : Noted) (past : List Entry) (f : Frame) (new : MirrorNode) → Stands o (Cut ∷ past) new → Stands o (Met f LostOld ∷ past) new
 landed_old o past f (On m) s = let clash = s.1 in absurd cc
 landed_old o past f (Off notes) s = (subst (Says (note_of notes).bytes) (saved_old (due o past f) (words_noted o past)) s.0, and_false (is_on past))
+landed_old o past f Lent s = absurd s
 
 free_of : (r : Option Fault) (x : Option Addition) → is_some (unless_refused r x) ≡ true → r ≡ None
 free_of None x d = refl
@@ -69,3 +76,41 @@ saves o past f up d = record {
   new = λ node s. landed_new o past f node d s;
   old = λ node s. landed_old o past f node s;
 }
+
+-- ---- its power
+
+-- A mirror of a world is one that may have no power.
+pub weak : (o : Noted) (past : List Entry) (node : MirrorNode) → Stands o past node → nodes.Stands (mirror_kind note_of o) past node
+weak o past (On mirror) s = s.0
+weak o past (Off notes) s = s
+weak o past Lent s = s
+
+stays_off : (o : Noted) (past : List Entry) (node : MirrorNode) → Stands o past node → is_on past ≡ false → Stands o (Cut ∷ past) node
+stays_off o past (On mirror) s off = absurd (never (is_on past) s.1 off)
+stays_off o past (Off notes) s off = (s.0, refl)
+stays_off o past Lent s off = absurd s
+
+pub cut_stands : (o : Noted) (past : List Entry) (old new : MirrorNode) (done : Result (Unit {0}) Fault) → Stands o past old
+    → nodes.Cuts (mirror_kind note_of o) past old new done → Stands o (Cut ∷ past) new
+cut_stands o past old new (Ok t) s c = subst (Stands o (Cut ∷ past)) (sym c.off) (c.left.says, refl)
+cut_stands o past old new (Err fault) s (is, off, same) = subst (Stands o (Cut ∷ past)) (sym same) (stays_off o past old s off)
+
+says_same : (old new : Note) (n : Noted) → new ≡ old → Says old.bytes n → Says new.bytes n
+says_same old new n h s = subst (λ (x : Note). Says x.bytes n) (sym h) s
+
+unstarted : (o : Noted) (past : List Entry) (notes back : Kept) (fault : Fault) → is_on past ≡ false → Says (note_of notes).bytes (words_noted o past)
+    → NotOpened (note_of notes) (note_of back) fault → Restarts o past (Off back) (Err fault)
+unstarted o past notes back LoadFault off says h = absurd (omega (arith, h.0))
+unstarted o past notes back BadNote off says h = absurd (h.1 (words_noted o past) says)
+unstarted o past notes back NoMemory off says h = (off, (says_same (note_of notes) (note_of back) (words_noted o past) h says, off))
+unstarted o past notes back _ off says h = absurd h
+
+pub restarted : (o : Noted) (past : List Entry) (old new : MirrorNode) (done : Result (Unit {0}) Fault) → Stands o past old
+    → nodes.Restarts (mirror_kind note_of o) (λ notes result. Opened note_of (note_of notes) result) past old new done → Restarts o past new done
+restarted o past old new done s (inl w) = rw (w.told, w.same) (w.on, s)
+restarted o past old new done s (inr h) = rw (h.new_is, h.told) (by_made h.made h.opens)
+  where
+    by_made : (made : Result (Mirror Kept) (Kept × Fault)) → Opened note_of (note_of h.notes) made
+        → Restarts o past (nodes.left_by made) (nodes.told_of made)
+    by_made (Ok mirror) opens = (h.off, (opens.stands o past h.left.says, refl))
+    by_made (Err back) opens = unstarted o past h.notes back.0 back.1 h.off h.left.says opens

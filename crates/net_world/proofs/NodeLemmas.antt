@@ -2,6 +2,7 @@
 use Rattle.std.proofs.Common.{◌≡◌, refl, sym, ◌∙◌, subst, inl, inr, arith, Bool, true, false, ◌&&◌, List, ◌∷◌, Option, Some, None, Result, Ok, Err}
 use Rattle.std.specs.Prelude.{not, is_some}
 use Rattle.fc_base.specs.declared.fault.Fault.{Fault}
+use Rattle.fc_base.specs.declared.fault.Fault.TheVariants.{NodeOff}
 use Rattle.fc_base.specs.declared.fault.FaultSort.{FaultSort}
 use Rattle.fc_base.specs.declared.fault.FaultSort.TheVariants as sorts
 use Rattle.fc_base.specs.Fault.{sort_of}
@@ -57,6 +58,11 @@ ends n run l past e old new (Ok outs) up h = record {
   stands = l.runs (answered n.core past e ∷ past) new h.stands (l.stays_up past e (saved_for (n.core.due past e)) up (not_lost (n.core.due past e)));
 }
 ends n run l past e old new (Err fault) up h = unanswered n run l past e fault old new up (sort_of fault) h
+
+-- One that is off takes nothing.
+pub off_ends : {N S E X D O : Type 0} (n : Nodes N S E X D O) (past : List X) (e : E) (fault : Fault) (node : N)
+    → (fault ≡ NodeOff) × (n.is_up past ≡ false) → n.Stands past node → Ends n past e node (Err fault)
+off_ends n past e fault node off s = rw off.0 (inl (record { off = off.1; why = refl; unchanged = s }))
 
 -- ---- a cut within a save
 

@@ -12,7 +12,7 @@ use Rattle.mirror_core.specs.History as mirror
 use Rattle.messages.specs.Hearing.{Happens}
 use Rattle.messages.specs.Ranges.{is_generation}
 use Rattle.net_world.specs.declared.config.Config.{Config}
-use Rattle.net_world.specs.declared.mirror_node.MirrorNode.{MirrorNode}
+use Rattle.net_world.specs.MirrorNodes.{MirrorNode}
 use Rattle.net_world.specs.declared.mirror_node.Mirrored.{Mirrored}
 use Rattle.net_world.specs.declared.world.World.{World}
 use Rattle.net_world.specs.Setup.{Setup, setup_of}

@@ -13,7 +13,7 @@ use Rattle.messages.specs.declared.refusal.Act.TheVariants as acts
 use Rattle.server_core.specs.Words as words
 use Rattle.server_core.specs.Hearing as hearing
 use Rattle.server_core.specs.Hearing.{FrameEntry, is_up, packets_heard}
-use Rattle.net_world.specs.declared.server_node.ServerNode.{ServerNode}
+use Rattle.net_world.specs.ServerNodes.{ServerNode}
 use Rattle.net_world.specs.declared.told.WorldAnswer.{WorldAnswer}
 use Rattle.net_world.specs.declared.told.WorldAnswer.TheVariants.{Plain}
 use Rattle.net_world.specs.declared.told.Told.{Told}

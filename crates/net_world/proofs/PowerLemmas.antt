@@ -1,5 +1,5 @@
 -- A server's node loses its power, and is started again.
-use Rattle.std.proofs.Common.{◌≡◌, refl, sym, subst, ℕ, ◌+◌, ◌-◌, ◌^◌, arith, List, Ok, Err}
+use Rattle.std.proofs.Common.{◌≡◌, refl, sym, subst, inl, inr, ℕ, ◌+◌, ◌-◌, ◌^◌, arith, List, Result, Ok, Err}
 use Rattle.std.proofs.lemmas.Bool.{lt-ltb, le-ltb}
 use Rattle.fc_base.specs.declared.fault.Fault.{Fault}
 use Rattle.fc_base.specs.declared.fault.Fault.TheVariants.{NoMemory, LoadFault, SaveFault, BadNote, NumbersSpent}
@@ -12,9 +12,11 @@ use Rattle.server_core.specs.Note.{Says}
 use Rattle.server_core.specs.Words.{boot, words_noted}
 use Rattle.server_core.specs.Serves.{NotOpened}
 use Rattle.server_core.specs.Hearing.{FrameEntry, packets_heard}
-use Rattle.server_core.specs.FrameEnds.{Restarts as Opened}
-use Rattle.net_world.specs.declared.server_node.ServerNode.TheVariants.{On, Off}
-use Rattle.net_world.specs.ServerNodes.{Stands, Restarts}
+use Rattle.server_core.specs.FrameEnds.{Opens, Restarts as Opened}
+use Rattle.node_power.specs.declared.power.Power.TheVariants.{On, Off}
+use Rattle.node_power.specs.Kinds as nodes
+use Rattle.node_power.specs.ServerKind.{server_kind}
+use Rattle.net_world.specs.ServerNodes.{ServerNode, Stands, Restarts}
 
 says_same : (old new : Note) (n : Noted) → new ≡ old → Says old.bytes n → Says new.bytes n
 says_same old new n h s = subst (λ (x : Note). Says x.bytes n) (sym h) s
@@ -38,3 +40,12 @@ restart_err o past notes back NumbersSpent s h = (
 restart_err o past notes back NoMemory s h = (s.1, (says_same (note_of notes) (note_of back) (words_noted o (packets_heard o past)) h s.0, s.1))
 restart_err o past notes back SaveFault s h = absurd (omega (arith, h.0))
 restart_err o past notes back _ s h = absurd h
+
+pub restarted : (o : Opening) (past : List FrameEntry) (me : ℕ) (old new : ServerNode) (done : Result (Unit {0}) Fault) → o.me ≡ me → Stands o past old
+    → nodes.Restarts (server_kind note_of o) (Opens note_of me) past old new done → Restarts o past new done
+restarted o past me old new done is s (inl w) = rw (w.told, w.same) (w.on, s)
+restarted o past me old new done is s (inr h) = rw (h.new_is, h.told) (by_made h.made h.opens)
+  where
+    by_made : (made : Result (Server Kept) (Kept × Fault)) → Opens note_of me h.notes made → Restarts o past (nodes.left_by made) (nodes.told_of made)
+    by_made (Ok server) opens = restart_ok o past h.notes server me is (h.left.says, h.off) opens
+    by_made (Err back) opens = restart_err o past h.notes back.0 back.1 (h.left.says, h.off) opens

@@ -9,7 +9,7 @@ use Rattle.fc_base.specs.declared.fault.Fault.TheVariants.{NoMemory, LoadFault, 
 use Rattle.verify_state.specs.State.{State}
 use Rattle.disk_model.specs.MemNotes.{Saved as Kept, note_of}
 use Rattle.disk_model.specs.Notes.{Note}
-use Rattle.disk_model.specs.declared.left.Left.TheVariants.{Saved, LostNew, LostOld}
+use Rattle.disk_model.specs.declared.left.Left.TheVariants.{Saved, LostNew}
 use Rattle.messages.specs.Ranges.{is_generation}
 use Rattle.client_core.specs.declared.noted.Noted.{Noted}
 use Rattle.client_core.specs.History.{Opening}
@@ -17,8 +17,8 @@ use Rattle.client_core.specs.Hearing.{FrameEntry, Renew, Cut, packets_heard}
 use Rattle.client_core.specs.Note.{Says, SaysOneThing, blank, is_blank}
 use Rattle.client_core.specs.Words.{words_noted}
 use Rattle.client_core.specs.Stands.{IsBadNote, NotOpened, NotRenewed}
-use Rattle.net_world.specs.declared.client_node.ClientNode.{ClientNode}
-use Rattle.net_world.specs.declared.client_node.ClientNode.TheVariants.{On, Off}
+use Rattle.net_world.specs.ClientNodes.{ClientNode}
+use Rattle.node_power.specs.declared.power.Power.TheVariants.{On, Off, Lent}
 use Rattle.net_world.specs.ClientNodes.{Stands, IsEmptyIfBlank, Restarts, Renews, CutsInRenewal}
 use Rattle.net_world.proofs.NodeLemmas.{never}
 use Rattle.net_world.proofs.ClientNodeLemmas.{says_blank}
@@ -100,11 +100,7 @@ pub cut_new : (o : Opening) (past : List FrameEntry) (g : ℕ) (new : ClientNode
     → Stands o (Renew g LostNew ∷ past) new
 cut_new o past g (On client) s = let clash = s.1 in absurd cc
 cut_new o past g (Off notes) s = (s.0, refl, s.2)
-
--- Before it: there is no note, as before.
-pub cut_old : (o : Opening) (past : List FrameEntry) (g : ℕ) (notes : Kept) → (note_of notes).bytes ≡ []
-    → is_blank (words_noted o (packets_heard o past)) ≡ true → Stands o (Renew g LostOld ∷ past) (Off notes)
-cut_old o past g notes none h = (says_nothing (note_of notes).bytes (words_noted o (packets_heard o past)) none h, refl, inl none)
+cut_new o past g Lent s = absurd s
 
 -- A renewal that is refused saves nothing: there is a note, or it is refused as it is.
 module _ (o : Opening) (past : List FrameEntry) (g : ℕ) (landed : Bool) (new : ClientNode) where

@@ -36,7 +36,7 @@ use Rattle.server_core.specs.Hearing.{FrameEntry, Met, rules, heard_at, coming_o
 use Rattle.server_core.specs.FrameAnswers as answers
 use Rattle.net_world.specs.declared.served.Served.{Served}
 use Rattle.net_world.specs.declared.mirror_node.Mirrored.{Mirrored}
-use Rattle.net_world.specs.declared.server_node.ServerNode.{ServerNode}
+use Rattle.net_world.specs.ServerNodes.{ServerNode}
 use Rattle.net_world.specs.declared.world.World.{World}
 use Rattle.net_world.specs.Setup.{Setup}
 use Rattle.net_world.specs.Trace.{of_server, opening_of, client_opening}

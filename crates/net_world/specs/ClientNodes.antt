@@ -19,12 +19,21 @@ use Rattle.client_core.specs.Hearing.{FrameEntry, Restart, Renew, Lose, packets_
 use Rattle.client_core.specs.FrameAnswers.{sense}
 use Rattle.client_core.specs.FrameEnds.{StandsFor, steps}
 use Rattle.net_world.specs.declared.asked.Asked.{Asked}
-use Rattle.net_world.specs.declared.client_node.ClientNode.{ClientNode}
-use Rattle.net_world.specs.declared.client_node.ClientNode.TheVariants.{On, Off}
+use Rattle.node_power.specs.declared.power.Power.{Power}
+use Rattle.node_power.specs.declared.power.Power.TheVariants.{On, Off, Lent}
 use Rattle.net_world.specs.declared.told.WorldAnswer.{WorldAnswer}
 use Rattle.net_world.specs.declared.told.WorldAnswer.TheVariants as answers
 use Rattle.net_world.specs.Nodes.{Nodes, Answers, Faults, Starts}
 use Rattle.net_world.specs.Outcomes.{lost_by}
+
+-- The client of a world.
+abbrev pub ClientNode : Type 0
+ClientNode = Power (Client Kept) Kept
+
+-- A client that is off has no note.
+abbrev pub HasNone : ClientNode → Type 0
+HasNone (Off notes) = (note_of notes).bytes ≡ []
+HasNone _ = ⊥
 
 -- A note that says nothing has no bytes.
 abbrev pub IsEmptyIfBlank : List ℕ → Noted → Type 0
@@ -37,6 +46,7 @@ Stands o past (On client) = StandsFor note_of client o past × (is_up o past ≡
 Stands o past (Off notes) =
     Says (note_of notes).bytes (words_noted o (packets_heard o past)) × (is_up o past ≡ false)
     × IsEmptyIfBlank (note_of notes).bytes (words_noted o (packets_heard o past))
+Stands o past Lent = ⊥
 
 -- What has to be known of the client of a world. What is refused leaves it as it was, but where it
 -- drops a tag: that alone changes.

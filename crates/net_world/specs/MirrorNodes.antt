@@ -12,15 +12,20 @@ use Rattle.mirror_core.specs.Saves.{Addition}
 use Rattle.mirror_core.specs.Words.{is_on, words_noted}
 use Rattle.mirror_core.specs.Stands.{StandsFor}
 use Rattle.mirror_core.specs.Ends.{steps}
-use Rattle.net_world.specs.declared.mirror_node.MirrorNode.{MirrorNode}
-use Rattle.net_world.specs.declared.mirror_node.MirrorNode.TheVariants.{On, Off}
+use Rattle.node_power.specs.declared.power.Power.{Power}
+use Rattle.node_power.specs.declared.power.Power.TheVariants.{On, Off, Lent}
 use Rattle.net_world.specs.Nodes.{Nodes}
+
+-- The mirror of a world.
+abbrev pub MirrorNode : Type 0
+MirrorNode = Power (Mirror Kept) Kept
 
 -- A mirror that runs stands for the list, which says that it is on; of one that is off, which the
 -- list says, the note says what the list says.
 abbrev pub Stands : Noted → List Entry → MirrorNode → Type 0
 Stands o past (On mirror) = StandsFor note_of mirror o past × (is_on past ≡ true)
 Stands o past (Off notes) = Says (note_of notes).bytes (words_noted o past) × (is_on past ≡ false)
+Stands o past Lent = ⊥
 
 -- What has to be known of the mirror of a world. What is refused leaves it as it was.
 abbrev pub mirror_nodes : Noted →

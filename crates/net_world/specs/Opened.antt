@@ -7,9 +7,9 @@ use Rattle.disk_model.specs.declared.left.Left.TheVariants.{Saved}
 use Rattle.server_core.specs.Hearing.{Restart}
 use Rattle.mirror_core.specs.History as mirror
 use Rattle.net_world.specs.declared.config.Config.{Config}
-use Rattle.net_world.specs.declared.mirror_node.MirrorNode.{MirrorNode}
+use Rattle.net_world.specs.MirrorNodes.{MirrorNode}
 use Rattle.net_world.specs.declared.mirror_node.Mirrored.{Mirrored}
-use Rattle.net_world.specs.declared.server_node.ServerNode.{ServerNode}
+use Rattle.net_world.specs.ServerNodes.{ServerNode}
 use Rattle.net_world.specs.Trace.{opening_of, mirror_opening}
 use Rattle.net_world.specs.MirrorNodes as mirrors
 use Rattle.net_world.specs.ServerNodes.{Stands}

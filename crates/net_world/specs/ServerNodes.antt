@@ -16,10 +16,14 @@ use Rattle.server_core.specs.Words.{Staged, words_noted, has_boot}
 use Rattle.server_core.specs.Hearing.{FrameEntry, Restart, packets_heard, is_up}
 use Rattle.server_core.specs.FrameAnswers.{sense}
 use Rattle.server_core.specs.FrameEnds.{StandsFor, steps}
-use Rattle.net_world.specs.declared.server_node.ServerNode.{ServerNode}
-use Rattle.net_world.specs.declared.server_node.ServerNode.TheVariants.{On, Off}
+use Rattle.node_power.specs.declared.power.Power.{Power}
+use Rattle.node_power.specs.declared.power.Power.TheVariants.{On, Off, Lent}
 use Rattle.net_world.specs.Nodes.{Nodes, Starts}
 use Rattle.net_world.specs.Outcomes.{lost_by}
+
+-- A server of a world.
+abbrev pub ServerNode : Type 0
+ServerNode = Power (Server Kept) Kept
 
 -- A server that runs stands for the list, which says that it is on; of one that is off, which the
 -- list says, the note says what the list says.
@@ -27,6 +31,7 @@ abbrev pub Stands : Opening → List FrameEntry → ServerNode → Type 0
 Stands o past (On server) = StandsFor note_of server o past × (is_up o past ≡ true)
 Stands o past (Off notes) =
     Says (note_of notes).bytes (words_noted o (packets_heard o past)) × (is_up o past ≡ false)
+Stands o past Lent = ⊥
 
 -- What has to be known of a server of a world. What is refused leaves it as it was, but where it
 -- drops a tag: that alone changes.

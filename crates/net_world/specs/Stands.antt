@@ -7,8 +7,8 @@ use Rattle.disk_model.specs.MemDisk.{file_of}
 use Rattle.disk_model.specs.declared.mem_disk.MemDisk.{MemDisk}
 use Rattle.messages.specs.Ranges.{is_generation}
 use Rattle.mirror_core.specs.History.{Entry}
-use Rattle.net_world.specs.declared.mirror_node.MirrorNode.{MirrorNode}
-use Rattle.net_world.specs.declared.server_node.ServerNode.{ServerNode}
+use Rattle.net_world.specs.MirrorNodes.{MirrorNode}
+use Rattle.net_world.specs.ServerNodes.{ServerNode}
 use Rattle.net_world.specs.declared.world.World.{World}
 use Rattle.net_world.specs.Setup.{Setup}
 use Rattle.net_world.specs.Trace.{opening_of, client_opening, mirror_opening}

@@ -1,131 +1,113 @@
 //! The client of a world, which may be off.
 
-ghost use Rattle.std.specs.Prelude.{◌≡◌, ◌≤◌, ◌∷◌, [], false, List, IfOk, IfErr};
+ghost use Rattle.std.specs.Prelude.{◌≡◌, ◌≤◌, ◌&&◌, ◌∷◌, [], false, List, IfOk, IfErr};
 ghost use Rattle.std.specs.Option.{option_copied};
 ghost use Rattle.fc_base.specs.declared.limits.TheConstants.{MAX_SERVERS};
 ghost use Rattle.fc_base.specs.declared.fault.Fault.TheVariants.{NoMemory};
-ghost use Rattle.client_core.specs.Note.{blank};
+ghost use Rattle.disk_model.specs.MemNotes.{Saved as Kept};
+ghost use Rattle.client_core.specs.Note.{blank, is_blank};
 ghost use Rattle.client_core.specs.History.{Opening};
-ghost use Rattle.client_core.specs.Hearing.{FrameEntry, Restart, Cut, is_up};
+ghost use Rattle.client_core.specs.Hearing.{FrameEntry, Restart, Cut, is_up, packets_heard};
+ghost use Rattle.client_core.specs.Words.{words_noted};
+ghost use Rattle.node_power.specs.declared.power.Power.TheVariants.{Off};
+ghost use Rattle.net_world.specs.Nodes.{Shows};
+ghost use Rattle.net_world.specs.ClientNodes.{client_nodes, HasNone, Stands, Restarts};
 
 mod asks;
 mod cut_in;
 mod renewal;
 
+pub(crate) use asks::ask;
 use client_core::Client;
+pub(crate) use cut_in::{cut_in_begin, cut_in_delivery, cut_in_verify};
 use disk_model::MemNotes;
 use fc_base::Fault;
+use node_power::{ClientSeed, Power};
+pub(crate) use renewal::{cut_in_renewal, lose, open_renewed, renew};
 use std::alloc::Global;
-use std::mem;
 
-/// A client that runs, or the notes of one that is off.
-#[derive(Drop)]
-pub enum ClientNode {
-    On(Client<MemNotes>),
-    Off(MemNotes),
+/// A client that runs, or the notes of one that is off. Where these say nothing, they have no bytes: a client
+/// that was never saved leaves none.
+pub(crate) type ClientNode = Power<Client<MemNotes>, MemNotes>;
+
+/// A client of so many servers on a blank note.
+pub(crate) fn open(alloc: Global, servers: u32) -> Result<ClientNode, Fault>
+    requires some { 1 ≤ servers }
+    requires few { servers ≤ MAX_SERVERS }
+    ensures stands { IfOk result
+        (Stands (record { servers = servers; noted = blank }) (Restart false ∷ [])) }
+    ensures fault { IfErr result (λ fault. fault ≡ NoMemory) }
+{
+    match Client::restart(alloc, servers, false, MemNotes::new(Vec::new(alloc))) {
+        Ok(client) => Ok(Power::On(client)),
+        Err(_) => Err(Fault::NoMemory),
+    }
 }
 
-impl ClientNode {
-    ghost use Rattle.net_world.specs.declared.client_node.ClientNode.TheVariants.{Off};
-    ghost use Rattle.net_world.specs.Nodes.{Shows};
-    ghost use Rattle.net_world.specs.ClientNodes.{client_nodes, Stands, Restarts};
+/// Whether it runs.
+pub(crate) fn runs(node: &ClientNode) -> bool
+    ensures { (o : Opening) (past : List FrameEntry) → Stands o past node.now →
+        result ≡ is_up o past }
+{
+    node.core().is_some()
+}
 
-    /// A client of so many servers on a blank note.
-    pub(crate) fn open(alloc: Global, servers: u32) -> Result<ClientNode, Fault>
-        requires some { 1 ≤ servers }
-        requires few { servers ≤ MAX_SERVERS }
-        ensures stands { IfOk result
-            (Stands (record { servers = servers; noted = blank }) (Restart false ∷ [])) }
-        ensures fault { IfErr result (λ fault. fault ≡ NoMemory) }
-    {
-        match Client::restart(alloc, servers, false, MemNotes::new(Vec::new(alloc))) {
-            Ok(client) => Ok(ClientNode::On(client)),
-            Err(_) => Err(Fault::NoMemory),
-        }
-    }
+/// The client, while it runs.
+pub(crate) fn client(node: &ClientNode) -> Option<&Client<MemNotes>>
+    ensures { (o : Opening) (past : List FrameEntry) → Stands o past node.now →
+        Shows (client_nodes o) past (option_copied result) }
+{
+    node.core()
+}
 
-    /// Whether it runs.
-    pub(crate) fn on(&self) -> bool
-        ensures { (o : Opening) (past : List FrameEntry) → Stands o past self.now →
-            result ≡ is_up o past }
-    {
-        matches!(self, ClientNode::On(_))
+/// Loses its power, where it has any.
+pub(crate) fn cut(node: &mut ClientNode, alloc: Global)
+    ensures { (o : Opening) (past : List FrameEntry) → Stands o past node.old →
+        Stands o (Cut ∷ past) node.new }
+{
+    let says_nothing = says_nothing(node);
+    let _was_on = node.cut();
+    if says_nothing {
+        forget(node, alloc);
     }
+}
 
-    /// The client, while it runs.
-    pub(crate) fn client(&self) -> Option<&Client<MemNotes>>
-        ensures { (o : Opening) (past : List FrameEntry) → Stands o past self.now →
-            Shows (client_nodes o) past (option_copied result) }
-    {
-        match self {
-            ClientNode::On(client) => Some(client),
-            ClientNode::Off(_) => None,
-        }
+/// Whether it runs, and its note says nothing.
+fn says_nothing(node: &ClientNode) -> bool
+    ensures { (o : Opening) (past : List FrameEntry) → Stands o past node.now →
+        result ≡ (is_up o past && is_blank (words_noted o (packets_heard o past))) }
+{
+    client_core::looks_at_all();
+    match client(node) {
+        Some(client) => client.is_blank(),
+        None => false,
     }
+}
 
-    /// Loses its power.
-    pub(crate) fn cut(&mut self, alloc: Global)
-        ensures { (o : Opening) (past : List FrameEntry) → Stands o past self.old →
-            Stands o (Cut ∷ past) self.new }
-    {
-        let blank = ClientNode::Off(MemNotes::new(Vec::new(alloc)));
-        let notes = mem::replace(self, blank).off(alloc);
-        self.set(alloc, ClientNode::Off(notes));
+/// The notes of one that is off are lost.
+fn forget(node: &mut ClientNode, alloc: Global)
+    ensures { (notes : Kept) → node.old ≡ Off notes → HasNone node.new }
+{
+    if let Power::Off(notes) = node {
+        *notes = MemNotes::new(Vec::new(alloc));
     }
+}
 
-    /// The notes that are left where it loses its power: none at all, where they say nothing.
-    pub(crate) fn off(self, alloc: Global) -> MemNotes
-        ensures { (o : Opening) (past : List FrameEntry) → Stands o past self →
-            Stands o (Cut ∷ past) (Off result) }
-    {
-        client_core::looks_at_all();
-        match self {
-            ClientNode::On(client) => {
-                let is_blank = client.is_blank();
-                let notes = client.off();
-                if is_blank {
-                    MemNotes::new(Vec::new(alloc))
-                } else {
-                    notes
-                }
-            }
-            ClientNode::Off(notes) => notes,
-        }
-    }
-
-    /// It is this node from now on. The one that it was is switched off, so that only notes are dropped
-    /// here: the proof of `*self = node` would go through all that a node holds.
-    fn set(&mut self, alloc: Global, node: ClientNode)
-        ensures { self.new ≡ node }
-    {
-        let _notes = mem::replace(self, node).off(alloc);
-    }
-
-    /// Starts again, with a mirror or without one.
-    ///
-    /// `NodeOn`: it runs. `BadNote`: there is a mirror, and no note. `NoMemory`. Nothing changes.
-    pub(crate) fn restart(&mut self, alloc: Global, servers: u32, mirror: bool) -> Result<(), Fault>
-        requires some { 1 ≤ servers }
-        requires few { servers ≤ MAX_SERVERS }
-        ensures { (o : Opening) (past : List FrameEntry) → o.servers ≡ servers →
-            Stands o past self.old →
-            Restarts o past mirror self.new result }
-    {
-        client_core::one_note();
-        let kept = match self {
-            ClientNode::On(_) => return Err(Fault::NodeOn),
-            ClientNode::Off(notes) => notes,
-        };
-        let notes = mem::replace(kept, MemNotes::new(Vec::new(alloc)));
-        match Client::restart(alloc, servers, mirror, notes) {
-            Ok(client) => {
-                self.set(alloc, ClientNode::On(client));
-                Ok(())
-            }
-            Err((notes, fault)) => {
-                *kept = notes;
-                Err(fault)
-            }
-        }
-    }
+/// Starts again, with a mirror or without one.
+///
+/// `NodeOn`: it runs. `BadNote`: there is a mirror, and no note. `NoMemory`. Nothing changes.
+pub(crate) fn restart(
+    node: &mut ClientNode,
+    alloc: Global,
+    servers: u32,
+    mirror: bool,
+) -> Result<(), Fault>
+    requires some { 1 ≤ servers }
+    requires few { servers ≤ MAX_SERVERS }
+    ensures { (o : Opening) (past : List FrameEntry) → o.servers ≡ servers →
+        Stands o past node.old →
+        Restarts o past mirror node.new result }
+{
+    client_core::one_note();
+    node.restart(alloc, ClientSeed { servers, mirror })
 }

@@ -5,13 +5,18 @@ ghost use Rattle.mirror_core.specs.declared.noted.Noted.{Noted};
 ghost use Rattle.mirror_core.specs.Note.{blank};
 ghost use Rattle.mirror_core.specs.History.{Entry, Restart, Cut};
 ghost use Rattle.mirror_core.specs.Words.{is_on, due};
+ghost use Rattle.net_world.specs.Nodes.{Ends, CutsIn};
+ghost use Rattle.net_world.specs.MirrorNodes.{mirror_nodes, Stands, Restarts};
 
 use disk_model::MemNotes;
 use fc_base::Fault;
 use messages::{Frame, Frames};
 use mirror_core::Mirror;
+use node_power::Power;
 use std::alloc::{AllocError, Global};
-use std::mem;
+
+/// A mirror that runs, or the notes of one that is off.
+pub(crate) type MirrorNode = Power<Mirror<MemNotes>, MemNotes>;
 
 /// The mirror of a world, if it has one, and the greatest generation that was handed in: 0 where none was.
 pub struct Mirrored {
@@ -24,138 +29,87 @@ impl Drop for Mirrored {
     fn drop(self) {
         let Mirrored { node, greatest: _ } = self;
         if let Some(node) = node {
-            let _notes = node.off();
+            let _notes = node.into_notes();
         }
     }
 }
 
-/// A mirror that runs, or the notes of one that is off.
-#[derive(Drop)]
-pub enum MirrorNode {
-    On(Mirror<MemNotes>),
-    Off(MemNotes),
+/// A mirror on a blank note.
+pub(crate) fn open(alloc: Global) -> Result<MirrorNode, AllocError>
+    ensures { IfOk result (Stands blank (Restart ∷ [])) }
+{
+    match Mirror::restart(alloc, MemNotes::new(Vec::new(alloc))) {
+        Ok(mirror) => Ok(Power::On(mirror)),
+        Err(_) => Err(AllocError),
+    }
 }
 
-impl MirrorNode {
-    ghost use Rattle.net_world.specs.declared.mirror_node.MirrorNode.TheVariants.{Off};
-    ghost use Rattle.net_world.specs.Nodes.{Ends, CutsIn};
-    ghost use Rattle.net_world.specs.MirrorNodes.{mirror_nodes, Stands, Restarts};
+/// Whether it runs.
+pub(crate) fn runs(node: &MirrorNode) -> bool
+    ensures { (o : Noted) (past : List Entry) → Stands o past node.now → result ≡ is_on past }
+{
+    node.core().is_some()
+}
 
-    /// A mirror on a blank note.
-    pub(crate) fn open(alloc: Global) -> Result<MirrorNode, AllocError>
-        ensures { IfOk result (Stands blank (Restart ∷ [])) }
-    {
-        match Mirror::restart(alloc, MemNotes::new(Vec::new(alloc))) {
-            Ok(mirror) => Ok(MirrorNode::On(mirror)),
-            Err(_) => Err(AllocError),
-        }
-    }
+/// A frame comes to it. `NodeOff`: it doesn't run. Any other fault is the mirror's own.
+pub(crate) fn deliver(node: &mut MirrorNode, frame: &Frame) -> Result<Frames, Fault>
+    ensures { (o : Noted) (past : List Entry) → Stands o past node.old →
+        Ends (mirror_nodes o) past frame.now node.new result }
+{
+    node.on()?.deliver(frame)
+}
 
-    /// Whether it runs.
-    pub(crate) fn on(&self) -> bool
-        ensures { (o : Noted) (past : List Entry) → Stands o past self.now → result ≡ is_on past }
-    {
-        matches!(self, MirrorNode::On(_))
-    }
+/// Loses its power, where it has any.
+pub(crate) fn cut(node: &mut MirrorNode)
+    ensures { (o : Noted) (past : List Entry) → Stands o past node.old →
+        Stands o (Cut ∷ past) node.new }
+{
+    let _was_on = node.cut();
+}
 
-    /// A frame comes to it. `NodeOff`: it doesn't run. Any other fault is the mirror's own.
-    pub(crate) fn deliver(&mut self, frame: &Frame) -> Result<Frames, Fault>
-        ensures { (o : Noted) (past : List Entry) → Stands o past self.old →
-            Ends (mirror_nodes o) past frame.now self.new result }
-    {
-        match self {
-            MirrorNode::On(mirror) => mirror.deliver(frame),
-            MirrorNode::Off(_) => Err(Fault::NodeOff),
-        }
-    }
+/// Starts again.
+///
+/// `NodeOn`: it runs. `NoMemory`. Nothing changes.
+pub(crate) fn restart(node: &mut MirrorNode, alloc: Global) -> Result<(), Fault>
+    ensures { (o : Noted) (past : List Entry) → Stands o past node.old →
+        Restarts o past node.new result }
+{
+    node.restart(alloc, ())
+}
 
-    /// Loses its power.
-    pub(crate) fn cut(&mut self, alloc: Global)
-        ensures { (o : Noted) (past : List Entry) → Stands o past self.old →
-            Stands o (Cut ∷ past) self.new }
-    {
-        let blank = MirrorNode::Off(MemNotes::new(Vec::new(alloc)));
-        let notes = mem::replace(self, blank).off();
-        self.set(MirrorNode::Off(notes));
+/// Loses its power within the save that a frame would make.
+///
+/// `NodeOff`; `NoSave`: it would make none; `NoMemory`. Nothing changes.
+pub(crate) fn cut_in_delivery(
+    node: &mut MirrorNode,
+    landed: bool,
+    frame: &Frame,
+) -> Result<(), Fault>
+    ensures { (o : Noted) (past : List Entry) → Stands o past node.old →
+        CutsIn (mirror_nodes o) past landed frame.now node.new result }
+{
+    let Power::On(mirror) = node else {
+        return Err(Fault::NodeOff);
+    };
+    if !mirror.would_save(frame) {
+        return Err(Fault::NoSave);
     }
+    if landed {
+        return cut_behind_delivery(node, frame);
+    }
+    cut(node);
+    Ok(())
+}
 
-    /// The notes that are left where it loses its power.
-    pub(crate) fn off(self) -> MemNotes
-        ensures { (o : Noted) (past : List Entry) → Stands o past self →
-            Stands o (Cut ∷ past) (Off result) }
-    {
-        match self {
-            MirrorNode::On(mirror) => mirror.off(),
-            MirrorNode::Off(notes) => notes,
-        }
+/// Loses its power once what a frame brings is saved.
+fn cut_behind_delivery(node: &mut MirrorNode, frame: &Frame) -> Result<(), Fault>
+    ensures { (o : Noted) (past : List Entry) → Stands o past node.old →
+        is_on past ≡ true → is_some (due o past frame.now) ≡ true →
+        CutsIn (mirror_nodes o) past true frame.now node.new result }
+{
+    if let Err(fault) = deliver(node, frame) {
+        return Err(fault);
     }
-
-    /// It is this node from now on. The one that it was is switched off, so that only notes are dropped.
-    fn set(&mut self, node: MirrorNode)
-        ensures { self.new ≡ node }
-    {
-        let _notes = mem::replace(self, node).off();
-    }
-
-    /// Starts again.
-    ///
-    /// `NodeOn`: it runs. `NoMemory`. Nothing changes.
-    pub(crate) fn restart(&mut self, alloc: Global) -> Result<(), Fault>
-        ensures { (o : Noted) (past : List Entry) → Stands o past self.old →
-            Restarts o past self.new result }
-    {
-        let kept = match self {
-            MirrorNode::On(_) => return Err(Fault::NodeOn),
-            MirrorNode::Off(notes) => notes,
-        };
-        let notes = mem::replace(kept, MemNotes::new(Vec::new(alloc)));
-        match Mirror::restart(alloc, notes) {
-            Ok(mirror) => {
-                self.set(MirrorNode::On(mirror));
-                Ok(())
-            }
-            Err((notes, fault)) => {
-                *kept = notes;
-                Err(fault)
-            }
-        }
-    }
-
-    /// Loses its power within the save that a frame would make.
-    ///
-    /// `NodeOff`; `NoSave`: it would make none; `NoMemory`. Nothing changes.
-    pub(crate) fn cut_in_delivery(
-        &mut self,
-        alloc: Global,
-        landed: bool,
-        frame: &Frame,
-    ) -> Result<(), Fault>
-        ensures { (o : Noted) (past : List Entry) → Stands o past self.old →
-            CutsIn (mirror_nodes o) past landed frame.now self.new result }
-    {
-        let MirrorNode::On(mirror) = self else {
-            return Err(Fault::NodeOff);
-        };
-        if !mirror.would_save(frame) {
-            return Err(Fault::NoSave);
-        }
-        if landed {
-            return self.cut_behind_delivery(alloc, frame);
-        }
-        self.cut(alloc);
-        Ok(())
-    }
-
-    /// Loses its power once what a frame brings is saved.
-    fn cut_behind_delivery(&mut self, alloc: Global, frame: &Frame) -> Result<(), Fault>
-        ensures { (o : Noted) (past : List Entry) → Stands o past self.old →
-            is_on past ≡ true → is_some (due o past frame.now) ≡ true →
-            CutsIn (mirror_nodes o) past true frame.now self.new result }
-    {
-        if let Err(fault) = self.deliver(frame) {
-            return Err(fault);
-        }
-        self.cut(alloc);
-        Ok(())
-    }
+    cut(node);
+    Ok(())
 }

@@ -4,209 +4,157 @@ ghost use Rattle.std.specs.Prelude.{◌≡◌, ◌<◌, ◌∷◌, [], true, fal
 ghost use Rattle.std.specs.Option.{option_copied};
 ghost use Rattle.fc_base.specs.declared.limits.TheConstants.{MAX_SERVERS};
 ghost use Rattle.disk_model.specs.declared.left.Left.TheVariants.{Saved};
+ghost use Rattle.server_core.specs.declared.input.Input.TheVariants.{Deliver};
+ghost use Rattle.server_core.specs.declared.note.Noted.{Noted};
+ghost use Rattle.server_core.specs.FrameAnswers.{would_save};
 ghost use Rattle.server_core.specs.History.{Opening};
 ghost use Rattle.server_core.specs.Hearing.{FrameEntry, Restart, Cut, packets_heard, is_up};
-ghost use Rattle.server_core.specs.Words.{is_on};
 ghost use Rattle.server_core.specs.Note.{Says};
-ghost use Rattle.server_core.specs.declared.note.Noted.{Noted};
-ghost use Rattle.net_world.specs.ServerNodes.{no_save, boots};
+ghost use Rattle.server_core.specs.Words.{is_on};
+ghost use Rattle.net_world.specs.Nodes.{Shows, Ends, CutsIn};
+ghost use Rattle.net_world.specs.ServerNodes.{server_nodes, no_save, boots, Stands, Restarts, CutsInRestart};
 ghost use Rattle.net_world.specs.Trace.{opening_of};
 
 use disk_model::{MemNotes, Notes};
 use fc_base::{Fault, ServerNo};
 use messages::Frame;
+use node_power::Power;
 use server_core::{Input, Noted, Outs, Server, one_note};
 use std::alloc::{AllocError, Global};
-use std::mem;
 
 /// A server that runs, or the notes of one that is off.
-#[derive(Drop)]
-pub enum ServerNode {
-    On(Server<MemNotes>),
-    Off(MemNotes),
+pub(crate) type ServerNode = Power<Server<MemNotes>, MemNotes>;
+
+/// The server with this number on a blank note.
+pub(crate) fn open(alloc: Global, me: ServerNo) -> Result<ServerNode, AllocError>
+    requires { me < MAX_SERVERS }
+    ensures { IfOk result (Stands (opening_of me) (Restart Saved ∷ [])) }
+{
+    match Server::restart(alloc, me, MemNotes::new(Vec::new(alloc))) {
+        Ok(server) => Ok(Power::On(server)),
+        Err(_) => Err(AllocError),
+    }
 }
 
-impl ServerNode {
-    ghost use Rattle.net_world.specs.declared.server_node.ServerNode.TheVariants.{Off};
-    ghost use Rattle.net_world.specs.Nodes.{Shows, Ends, CutsIn};
-    ghost use Rattle.net_world.specs.ServerNodes.{server_nodes, Stands};
-    ghost use Rattle.net_world.specs.ServerNodes.{Restarts, CutsInRestart};
-    ghost use Rattle.server_core.specs.declared.input.Input.TheVariants.{Deliver};
-    ghost use Rattle.server_core.specs.FrameAnswers.{would_save};
+/// Whether it runs.
+pub(crate) fn runs(node: &ServerNode) -> bool
+    ensures { (o : Opening) (past : List FrameEntry) → Stands o past node.now →
+        result ≡ is_on (packets_heard o past) }
+{
+    node.core().is_some()
+}
 
-    /// The server with this number on a blank note.
-    pub(crate) fn open(alloc: Global, me: ServerNo) -> Result<ServerNode, AllocError>
-        requires { me < MAX_SERVERS }
-        ensures { IfOk result (Stands (opening_of me) (Restart Saved ∷ [])) }
-    {
-        match Server::restart(alloc, me, MemNotes::new(Vec::new(alloc))) {
-            Ok(server) => Ok(ServerNode::On(server)),
-            Err(_) => Err(AllocError),
+/// The server, while it runs.
+pub(crate) fn server(node: &ServerNode) -> Option<&Server<MemNotes>>
+    ensures { (o : Opening) (past : List FrameEntry) → Stands o past node.now →
+        Shows (server_nodes o) past (option_copied result) }
+{
+    node.core()
+}
+
+/// Takes what comes. `NodeOff`: it doesn't run. Any other fault is the server's.
+#[inline(always)]
+pub(crate) fn step(node: &mut ServerNode, input: Input) -> Result<Outs, Fault>
+    ensures { (o : Opening) (past : List FrameEntry) → Stands o past node.old →
+        Ends (server_nodes o) past input node.new result }
+{
+    node.on()?.step(input)
+}
+
+/// Loses its power, where it has any.
+pub(crate) fn cut(node: &mut ServerNode)
+    ensures { (o : Opening) (past : List FrameEntry) → Stands o past node.old →
+        Stands o (Cut ∷ past) node.new }
+{
+    let _was_on = node.cut();
+}
+
+/// Starts again, with the next boot.
+///
+/// `NodeOn`: it runs. `NumbersSpent`: its boots are used up. `NoMemory`. Nothing changes.
+pub(crate) fn restart(node: &mut ServerNode, alloc: Global, me: ServerNo) -> Result<(), Fault>
+    requires { me < MAX_SERVERS }
+    ensures { (o : Opening) (past : List FrameEntry) → o.me ≡ me → Stands o past node.old →
+        Restarts o past node.new result }
+{
+    node.restart(alloc, me)
+}
+
+/// Loses its power within the save that a frame would make.
+///
+/// `NodeOff`; `NoSave`: it would make none; `NoMemory`. Nothing changes.
+pub(crate) fn cut_in_delivery(
+    node: &mut ServerNode,
+    landed: bool,
+    frame: Frame,
+) -> Result<(), Fault>
+    ensures { (o : Opening) (past : List FrameEntry) → Stands o past node.old →
+        CutsIn (server_nodes o) past landed (Deliver frame) node.new result }
+{
+    let Some(server) = server(node) else {
+        return Err(Fault::NodeOff);
+    };
+    if !server.would_save(&frame) {
+        return Err(Fault::NoSave);
+    }
+    if !landed {
+        cut(node);
+        return Ok(());
+    }
+    cut_behind(node, frame)
+}
+
+/// Loses its power once the save that a frame makes has landed.
+fn cut_behind(node: &mut ServerNode, frame: Frame) -> Result<(), Fault>
+    ensures { (o : Opening) (past : List FrameEntry) → Stands o past node.old →
+        is_up o past ≡ true → would_save o past frame ≡ true →
+        CutsIn (server_nodes o) past true (Deliver frame) node.new result }
+{
+    let outs = match step(node, Input::Deliver(frame)) {
+        Ok(outs) => outs,
+        Err(fault) => return Err(fault),
+    };
+    let _unsent = outs;
+    cut(node);
+    Ok(())
+}
+
+/// Loses its power within the save of its restart.
+///
+/// `NodeOn`; `NoSave`: its boots are used up; `NoMemory`. Nothing changes.
+pub(crate) fn cut_in_restart(
+    node: &mut ServerNode,
+    alloc: Global,
+    landed: bool,
+    me: ServerNo,
+) -> Result<(), Fault>
+    requires { me < MAX_SERVERS }
+    ensures { (o : Opening) (past : List FrameEntry) → o.me ≡ me → Stands o past node.old →
+        CutsInRestart o past landed node.new result }
+{
+    if !landed {
+        return try_restart(node);
+    }
+    match restart(node, alloc, me) {
+        Ok(()) => {
+            cut(node);
+            Ok(())
         }
+        Err(fault) => Err(no_save(fault)),
     }
+}
 
-    /// Whether it runs.
-    pub(crate) fn on(&self) -> bool
-        ensures { (o : Opening) (past : List FrameEntry) → Stands o past self.now →
-            result ≡ is_on (packets_heard o past) }
-    {
-        matches!(self, ServerNode::On(_))
-    }
-
-    /// The server, while it runs.
-    pub(crate) fn server(&self) -> Option<&Server<MemNotes>>
-        ensures { (o : Opening) (past : List FrameEntry) → Stands o past self.now →
-            Shows (server_nodes o) past (option_copied result) }
-    {
-        match self {
-            ServerNode::On(server) => Some(server),
-            ServerNode::Off(_) => None,
-        }
-    }
-
-    /// Takes what comes. `NodeOff`: it doesn't run. Any other fault is the server's.
-    #[inline(always)]
-    pub(crate) fn step(&mut self, input: Input) -> Result<Outs, Fault>
-        ensures { (o : Opening) (past : List FrameEntry) → Stands o past self.old →
-            Ends (server_nodes o) past input self.new result }
-    {
-        match self {
-            ServerNode::On(server) => server.step(input),
-            ServerNode::Off(_) => Err(Fault::NodeOff),
-        }
-    }
-
-    /// Loses its power.
-    pub(crate) fn cut(&mut self, alloc: Global)
-        ensures { (o : Opening) (past : List FrameEntry) → Stands o past self.old →
-            Stands o (Cut ∷ past) self.new }
-    {
-        let blank = ServerNode::Off(MemNotes::new(Vec::new(alloc)));
-        let notes = mem::replace(self, blank).off();
-        self.set(ServerNode::Off(notes));
-    }
-
-    /// The notes that are left where it loses its power.
-    fn off(self) -> MemNotes
-        ensures { (o : Opening) (past : List FrameEntry) → Stands o past self →
-            Stands o (Cut ∷ past) (Off result) }
-    {
-        match self {
-            ServerNode::On(server) => server.off(),
-            ServerNode::Off(notes) => notes,
-        }
-    }
-
-    /// It is this node from now on. The one that it was is switched off, so that only notes are dropped
-    /// here: the proof of `*self = node` would go through all that a node holds.
-    fn set(&mut self, node: ServerNode)
-        ensures { self.new ≡ node }
-    {
-        let _notes = mem::replace(self, node).off();
-    }
-
-    /// Starts again, with the next boot.
-    ///
-    /// `NodeOn`: it runs. `NumbersSpent`: its boots are used up. `NoMemory`. Nothing changes.
-    pub(crate) fn restart(&mut self, alloc: Global, me: ServerNo) -> Result<(), Fault>
-        requires { me < MAX_SERVERS }
-        ensures { (o : Opening) (past : List FrameEntry) → o.me ≡ me → Stands o past self.old →
-            Restarts o past self.new result }
-    {
-        let kept = match self {
-            ServerNode::On(_) => return Err(Fault::NodeOn),
-            ServerNode::Off(notes) => notes,
-        };
-        let notes = mem::replace(kept, MemNotes::new(Vec::new(alloc)));
-        match Server::restart(alloc, me, notes) {
-            Ok(server) => {
-                self.set(ServerNode::On(server));
-                Ok(())
-            }
-            Err((notes, fault)) => {
-                *kept = notes;
-                Err(fault)
-            }
-        }
-    }
-
-    /// Loses its power within the save that a frame would make.
-    ///
-    /// `NodeOff`; `NoSave`: it would make none; `NoMemory`. Nothing changes.
-    pub(crate) fn cut_in_delivery(
-        &mut self,
-        alloc: Global,
-        landed: bool,
-        frame: Frame,
-    ) -> Result<(), Fault>
-        ensures { (o : Opening) (past : List FrameEntry) → Stands o past self.old →
-            CutsIn (server_nodes o) past landed (Deliver frame) self.new result }
-    {
-        let Some(server) = self.server() else {
-            return Err(Fault::NodeOff);
-        };
-        if !server.would_save(&frame) {
-            return Err(Fault::NoSave);
-        }
-        if !landed {
-            self.cut(alloc);
-            return Ok(());
-        }
-        self.cut_behind(alloc, frame)
-    }
-
-    /// Loses its power once the save that a frame makes has landed.
-    fn cut_behind(&mut self, alloc: Global, frame: Frame) -> Result<(), Fault>
-        ensures { (o : Opening) (past : List FrameEntry) → Stands o past self.old →
-            is_up o past ≡ true → would_save o past frame ≡ true →
-            CutsIn (server_nodes o) past true (Deliver frame) self.new result }
-    {
-        let outs = match self.step(Input::Deliver(frame)) {
-            Ok(outs) => outs,
-            Err(fault) => return Err(fault),
-        };
-        let _unsent = outs;
-        self.cut(alloc);
-        Ok(())
-    }
-
-    /// Loses its power within the save of its restart.
-    ///
-    /// `NodeOn`; `NoSave`: its boots are used up; `NoMemory`. Nothing changes.
-    pub(crate) fn cut_in_restart(
-        &mut self,
-        alloc: Global,
-        landed: bool,
-        me: ServerNo,
-    ) -> Result<(), Fault>
-        requires { me < MAX_SERVERS }
-        ensures { (o : Opening) (past : List FrameEntry) → o.me ≡ me → Stands o past self.old →
-            CutsInRestart o past landed self.new result }
-    {
-        if !landed {
-            return self.try_restart();
-        }
-        match self.restart(alloc, me) {
-            Ok(()) => {
-                self.cut(alloc);
-                Ok(())
-            }
-            Err(fault) => Err(no_save(fault)),
-        }
-    }
-
-    /// Loses its power before the next boot is saved.
-    fn try_restart(&mut self) -> Result<(), Fault>
-        ensures { (o : Opening) (past : List FrameEntry) → Stands o past self.old →
-            CutsInRestart o past false self.new result }
-    {
-        let ServerNode::Off(notes) = self else {
-            return Err(Fault::NodeOn);
-        };
-        match notes.load() {
-            Ok(bytes) => try_boot(&bytes),
-            Err(_) => Err(Fault::NoMemory),
-        }
+/// Loses its power before the next boot is saved.
+fn try_restart(node: &mut ServerNode) -> Result<(), Fault>
+    ensures { (o : Opening) (past : List FrameEntry) → Stands o past node.old →
+        CutsInRestart o past false node.new result }
+{
+    let Power::Off(notes) = node else {
+        return Err(Fault::NodeOn);
+    };
+    match notes.load() {
+        Ok(bytes) => try_boot(&bytes),
+        Err(_) => Err(Fault::NoMemory),
     }
 }
 

@@ -29,6 +29,7 @@ use crate::sent::Sent;
 use crate::server_node::ServerNode;
 use crate::told::Told;
 use crate::world::open::{open_client, open_files, open_mirror, open_servers};
+use crate::{client_node, server_node};
 use disk_model::MemDisk;
 use fc_base::{Fault, FaultSort, JobNo, Key, MAX_JOBS, ServerNo};
 use server_core::{Status, WriteEnd, looks_at_all};
@@ -55,7 +56,7 @@ pub struct World {
 impl Drop for World {
     fn drop(self) {
         let World {
-            alloc,
+            alloc: _,
             servers: _,
             client,
             mirror: _,
@@ -63,7 +64,7 @@ impl Drop for World {
             sent: _,
             block: _,
         } = self;
-        let _notes = client.off(alloc);
+        let _notes = client.into_notes();
     }
 }
 
@@ -188,9 +189,9 @@ impl World {
             option_copied result ≡ saved_state w past key }
     {
         client_core::looks_at_all();
-        match &self.client {
-            ClientNode::On(client) => client.saved(key),
-            ClientNode::Off(_) => None,
+        match client_node::client(&self.client) {
+            Some(client) => client.saved(key),
+            None => None,
         }
     }
 
@@ -203,7 +204,7 @@ impl World {
         if !self.has_server(server) {
             return None;
         }
-        match self.servers[server.0 as usize].server() {
+        match server_node::server(&self.servers[server.0 as usize]) {
             Some(core) => Some(core.status()),
             None => None,
         }

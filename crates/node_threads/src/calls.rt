@@ -2,13 +2,13 @@
 
 ghost use Rattle.std.specs.Prelude.{◌≡◌, false, IfErr, slice_get};
 ghost use Rattle.hub.specs.Waiting.{picked_frame, waiting_frames};
-ghost use Rattle.node_history.specs.Calls.{Replays, Delivers, IsWhyNot, HasWhy, Commands};
-ghost use Rattle.node_history.specs.Failures.{Counts};
+ghost use Rattle.cells.specs.Calls.{Replays, Delivers, IsWhyNot, HasWhy, Commands};
+ghost use Rattle.cells.specs.Failures.{Counts};
 
+use cells::{CallerAnswer, Node};
 use fc_base::Fault;
 use hub::Hub;
 use messages::Node as NodeName;
-use node_history::{CallerAnswer, Node};
 
 /// Has a node take the frame at this position of the hub.
 ///

@@ -12,22 +12,31 @@
 //!     deliver(&mut hub, &mut server, position)?;
 //! }
 //! let told = server.apply(&mut seats[0], ServerTask::Issue(job))?;
+//!
+//! let ends = run_fleet(rt, alloc, 2, 4, writing, reading, &mut trigger, &OpenGate)?;
 //! ```
 //!
-//! `run_worker`, `run_post` and `check_jobs` are the work of a thread each, `run_fleet` is all of it, and
-//! `assemble` makes one list of events of what threads have left.
+//! `run_worker`, `run_post` and `check_jobs` are the work of a thread each. `run_fleet` is all of it, over
+//! disks in memory, from the text of a run to the reports of its checks; the threads that it has and what
+//! they do are in `fleet_threads`. `assemble` makes one list of events of what threads have left.
 #![tactic(auto)]
 
+mod asked;
 mod calls;
+mod ends;
+mod fleet;
+mod left;
 
 pub use assembly::{AssembleFault, Assembled, Place, assemble};
 pub use calls::{deliver, pick, post};
-pub use client_cell::{ClientCell, ClientCommand, ClientRequest, ClientTask};
-pub use fleet::{CheckEnd, FleetFault, FleetLeft, Trigger, run_and_leave, run_fleet, run_post};
-pub use hub::{Hub, Line};
-pub use node_history::{
-    Answer, CallerAnswer, Came, FrameBytes, History, Lent, Logged, Node, Said, Turn,
+pub use cells::{
+    Answer, CallerAnswer, Came, ClientCell, ClientCommand, ClientRequest, ClientTask, FrameBytes,
+    History, Lent, Logged, Node, Report, Said, Seat, ServerCell, ServerTask, Turn,
 };
+pub use ends::CheckEnd;
+pub use fleet::{run_and_leave, run_fleet};
+pub use fleet_threads::{FleetFault, Trigger, run_post};
+pub use hub::{Hub, Line};
+pub use left::FleetLeft;
 pub use parallel_checks::{CheckTask, check_jobs};
-pub use server_cell::{Report, Seat, ServerCell, Task as ServerTask};
 pub use workers::{Gate, OpenGate, TURNS, run_worker};

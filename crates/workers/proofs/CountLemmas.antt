@@ -2,12 +2,12 @@
 use Rattle.std.proofs.Common.{◌≡◌, refl, ◌∙◌, ap, arith, ℕ, ◌+◌, Bool, true, false, Result, Ok, Err}
 use Rattle.fc_base.specs.declared.fault.Fault.{Fault}
 use Rattle.fc_base.specs.declared.fault.Fault.TheVariants.{NoMemory, WrongSeat}
-use Rattle.node_history.specs.declared.answer.Said.{Said}
-use Rattle.node_history.specs.declared.answer.CallerAnswer.{CallerAnswer}
-use Rattle.server_cell.specs.Seated.{Seated}
-use Rattle.server_cell.specs.declared.task.Task.{Task}
-use Rattle.server_cell.specs.Cells.{ServerLog}
-use Rattle.server_cell.specs.Calls.{is_right, lacks_memory, told_by, Enters, AppliesBy, Applies}
+use Rattle.cells.specs.declared.answer.Said.{Said}
+use Rattle.cells.specs.declared.answer.CallerAnswer.{CallerAnswer}
+use Rattle.cells.specs.Seated.{Seated}
+use Rattle.cells.specs.declared.server_cell.task.ServerTask.{ServerTask}
+use Rattle.cells.specs.ServerCells.{ServerLog}
+use Rattle.cells.specs.ServerCalls.{is_right, lacks_memory, told_by, Enters, AppliesBy, Applies}
 use Rattle.workers.specs.Counts.{FailsAt, EntersOne}
 
 -- ---- one call
@@ -22,7 +22,7 @@ added (Ok said) before now had h = h
 added (Err fault) before now had h = one_more fault before now had h
 
 -- A call of the server enters one event, but for some faults.
-pub one : (old : ServerLog) (seat : Seated) (task : Task) (new : ServerLog) (after : Seated) (result : Result CallerAnswer Fault)
+pub one : (old : ServerLog) (seat : Seated) (task : ServerTask) (new : ServerLog) (after : Seated) (result : Result CallerAnswer Fault)
     → Applies old seat task new after result → EntersOne seat.applied after.applied result
 one old seat task new after result h = by_seat (is_right old seat) h
   where

@@ -2,13 +2,13 @@
 use Rattle.std.proofs.Common.{◌≡◌, refl, sym, ◌∙◌, ap, arith, ◌+◌, Bool, true, false, Some, Result, Ok, Err}
 use Rattle.fc_base.specs.declared.fault.Fault.{Fault}
 use Rattle.fc_base.specs.declared.fault.Fault.TheVariants.{NoMemory, WrongSeat, OldBoot}
-use Rattle.node_history.specs.declared.answer.Answer.{Answer}
-use Rattle.node_history.specs.declared.answer.Said.{Said}
-use Rattle.node_history.specs.declared.answer.CallerAnswer.{CallerAnswer}
-use Rattle.server_cell.specs.Seated.{Seated}
-use Rattle.server_cell.specs.declared.task.Task.{Task}
-use Rattle.server_cell.specs.Cells.{ServerLog}
-use Rattle.server_cell.specs.Calls.{is_right, lacks_memory, told_by, Enters, AppliesBy, Applies}
+use Rattle.cells.specs.declared.answer.Answer.{Answer}
+use Rattle.cells.specs.declared.answer.Said.{Said}
+use Rattle.cells.specs.declared.answer.CallerAnswer.{CallerAnswer}
+use Rattle.cells.specs.Seated.{Seated}
+use Rattle.cells.specs.declared.server_cell.task.ServerTask.{ServerTask}
+use Rattle.cells.specs.ServerCells.{ServerLog}
+use Rattle.cells.specs.ServerCalls.{is_right, lacks_memory, told_by, Enters, AppliesBy, Applies}
 use Rattle.workers.specs.Seats.{IsSeatOf, HasFailed, says_final, is_off, is_own, ends_with}
 use Rattle.workers.specs.declared.server.Asked.{Asked}
 use Rattle.workers.specs.declared.server.Asked.TheVariants as asks
@@ -55,7 +55,7 @@ left_as_it_was : (seat after : Seated) (result : Result CallerAnswer Fault) (fau
 left_as_it_was seat after result fault told on h = rw (ap ends_by told ∙ on) (unmoved seat after h)
 
 -- A call leaves the same seat, which has worked where the answer ends a worker.
-pub applied : (old : ServerLog) (seat : Seated) (task : Task) (new : ServerLog) (after : Seated) (result : Result CallerAnswer Fault)
+pub applied : (old : ServerLog) (seat : Seated) (task : ServerTask) (new : ServerLog) (after : Seated) (result : Result CallerAnswer Fault)
     → Applies old seat task new after result → WorkedIf (ends_by result) seat after
 applied old seat task new after result h = by_seat (is_right old seat) h
   where
@@ -90,7 +90,7 @@ taken_by seat after answer sure h = record {
 }
 
 -- A call by which an end was taken.
-pub taken : (old : ServerLog) (seat : Seated) (task : Task) (new : ServerLog) (after : Seated) (result : Result CallerAnswer Fault)
+pub taken : (old : ServerLog) (seat : Seated) (task : ServerTask) (new : ServerLog) (after : Seated) (result : Result CallerAnswer Fault)
     → Applies old seat task new after result → takes_by result ≡ true → IsTaken seat after
 taken old seat task new after result h sure = by_seat (is_right old seat) h
   where
@@ -133,7 +133,7 @@ of_itself seat after fault own h = record {
 }
 
 -- A call that is answered by a fault.
-pub failed : (old : ServerLog) (seat : Seated) (task : Task) (new : ServerLog) (after : Seated) (fault : Fault)
+pub failed : (old : ServerLog) (seat : Seated) (task : ServerTask) (new : ServerLog) (after : Seated) (fault : Fault)
     → Applies old seat task new after (Err fault) → HasFailed seat after fault
 failed old seat task new after fault h = by_seat (is_right old seat) h
   where

@@ -2,7 +2,7 @@
 use Rattle.std.specs.Prelude.{◌≡◌, ◌≤◌, ◌+◌, ℕ, Bool, true, false, Result, Ok, Err}
 use Rattle.fc_base.specs.declared.fault.Fault.{Fault}
 use Rattle.fc_base.specs.declared.fault.Fault.TheVariants.{NoMemory, WrongSeat}
-use Rattle.node_history.specs.declared.answer.CallerAnswer.{CallerAnswer}
+use Rattle.cells.specs.declared.answer.CallerAnswer.{CallerAnswer}
 use Rattle.workers.specs.declared.server.Asked.{Asked}
 use Rattle.workers.specs.declared.server.Asked.TheVariants as asks
 

@@ -4,10 +4,10 @@ use Rattle.fc_base.specs.declared.fault.Fault.{Fault}
 use Rattle.fc_base.specs.declared.fault.Fault.TheVariants.{NoMemory, WrongSeat, TurnsSpent, NodeOff}
 use Rattle.engine.specs.declared.issue.Issue.{Issue}
 use Rattle.engine.specs.declared.issue.Issue.TheVariants.{Finished, Stopped}
-use Rattle.node_history.specs.declared.answer.Answer.{Answer}
-use Rattle.node_history.specs.declared.answer.Answer.TheVariants.{Issued}
-use Rattle.node_history.specs.declared.answer.Said.{Said}
-use Rattle.server_cell.specs.Seated.{Seated}
+use Rattle.cells.specs.declared.answer.Answer.{Answer}
+use Rattle.cells.specs.declared.answer.Answer.TheVariants.{Issued}
+use Rattle.cells.specs.declared.answer.Said.{Said}
+use Rattle.cells.specs.Seated.{Seated}
 
 -- It is the same seat, which may have applied more.
 pub record IsSeatOf (seat back : Seated) : Type 0 where

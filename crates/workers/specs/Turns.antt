@@ -6,13 +6,13 @@ use Rattle.fc_base.specs.declared.fault.Fault.TheVariants.{OldBoot}
 use Rattle.fc_base.specs.declared.record.JobParts.{JobParts}
 use Rattle.job_file.specs.declared.job.Job.{Job}
 use Rattle.engine.specs.declared.issue.Issue.TheVariants.{Write}
-use Rattle.node_history.specs.declared.answer.Answer.{Answer}
-use Rattle.node_history.specs.declared.answer.Answer.TheVariants.{Issued}
-use Rattle.node_history.specs.declared.answer.Said.{Said}
+use Rattle.cells.specs.declared.answer.Answer.{Answer}
+use Rattle.cells.specs.declared.answer.Answer.TheVariants.{Issued}
+use Rattle.cells.specs.declared.answer.Said.{Said}
 use Rattle.server_core.specs.Answers.{run_job, shown_entries}
 use Rattle.server_core.specs.Hearing.{FrameEntry, packets_heard}
-use Rattle.server_cell.specs.Cells.{ServerLog, IsReplay}
-use Rattle.server_cell.specs.Seated.{Seated}
+use Rattle.cells.specs.ServerCells.{ServerLog, IsReplay}
+use Rattle.cells.specs.Seated.{Seated}
 use Rattle.workers.specs.declared.server.Asked.{Asked}
 use Rattle.workers.specs.declared.server.Asked.TheVariants as asks
 use Rattle.workers.specs.declared.turn.TurnEnd.{TurnEnd}

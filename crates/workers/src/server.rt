@@ -2,9 +2,9 @@
 
 ghost use Rattle.std.specs.Prelude.{◌≡◌, ◌≤◌, ◌<◌, ◌+◌, nat_lt, true, length, Result, Ok, Err, IfOk, OnErr, IfSome};
 ghost use Rattle.fc_base.specs.declared.fault.Fault.{Fault};
-ghost use Rattle.node_history.specs.declared.answer.CallerAnswer.{CallerAnswer};
-ghost use Rattle.server_cell.specs.declared.task.Task.TheVariants.{Issue as IssueTask, WriteDone};
-ghost use Rattle.server_cell.specs.Calls.{Applies};
+ghost use Rattle.cells.specs.declared.answer.CallerAnswer.{CallerAnswer};
+ghost use Rattle.cells.specs.declared.server_cell.task.ServerTask.TheVariants.{Issue as IssueTask, WriteDone};
+ghost use Rattle.cells.specs.ServerCalls.{Applies};
 ghost use Rattle.workers.specs.Counts.{AsksOne, AsksEach, TellsOne, TellsEach, TellsAndAsks};
 ghost use Rattle.workers.specs.Seats.{says_final};
 ghost use Rattle.workers.specs.declared.server.TheConstants.{HAND as MOST};
@@ -13,11 +13,10 @@ ghost use Rattle.workers.specs.Turns.{is_last_asked, is_on, IsIssued, HasAsked, 
 use crate::ended::Ended;
 use crate::gate::TURNS;
 use crate::lock::lock;
+use cells::{Answer, CallerAnswer, Seat, ServerCell, ServerTask};
 use disk_model::Notes;
 use engine::{Issue, Ticket};
 use fc_base::{Fault, JobNo, JobRecord};
-use node_history::{Answer, CallerAnswer};
-use server_cell::{Seat, ServerCell, Task};
 use std::sync::{Mutex, Wait};
 use std::thread;
 
@@ -179,7 +178,7 @@ fn issue<N: Notes + Drop>(server: &mut ServerCell<N>, seat: &mut Seat, job: JobN
     ensures one { AsksOne seat.old.applied seat.new.applied result }
     ensures settings { HasSettings server.new job result }
 {
-    match server.apply(seat, Task::Issue(job)) {
+    match server.apply(seat, ServerTask::Issue(job)) {
         Ok(told) => said(told, server, job),
         Err(Fault::NodeOff) => Asked::Off,
         Err(fault) => Asked::Refused(fault),
@@ -247,7 +246,7 @@ fn end_write<N: Notes + Drop>(
     ensures seat { HasTold seat.old seat.new result }
     ensures one { TellsOne seat.old.applied seat.new.applied result }
 {
-    match server.apply(seat, Task::WriteDone(*ended.ticket(), ended.end())) {
+    match server.apply(seat, ServerTask::WriteDone(*ended.ticket(), ended.end())) {
         Ok(_) | Err(Fault::OldBoot) => Ok(true),
         Err(Fault::NodeOff) => Ok(false),
         Err(fault) => Err(fault),

@@ -7,9 +7,9 @@ use crate::desk::Desk;
 use crate::ended::Ended;
 use crate::gate::{Gate, TURNS};
 use crate::server::{Asked, tell, tell_and_ask};
+use cells::{Seat, ServerCell};
 use disk_model::{Disk, Notes};
 use fc_base::{Fault, JobNo};
-use server_cell::{Seat, ServerCell};
 use std::sync::{Mutex, Wait};
 use std::thread;
 

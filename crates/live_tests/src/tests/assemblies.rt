@@ -1,8 +1,8 @@
 //! What no clause shows: that nodes which ran are assembled where memory is there, in the order that can be
 //! counted by hand; and which node is told of, and which place, where they don't agree.
 
-mod cells;
 mod play;
+mod players;
 mod plays;
 mod stage;
 mod unlike;

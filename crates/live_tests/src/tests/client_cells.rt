@@ -1,11 +1,12 @@
 //! What no clause shows: that each call answers where memory is there, and what it refuses.
 
-use client_cell::{ClientCell, ClientCommand, ClientRequest, ClientTask};
 use disk_model::{FaultNotes, MemNotes};
 use fc_base::{Fault, RunNo};
-use hub::Hub;
 use messages::{Act, Text};
-use node_history::{Answer, CallerAnswer, Came, History, Logged, Node};
+use node_threads::{
+    Answer, CallerAnswer, Came, ClientCell, ClientCommand, ClientRequest, ClientTask, History, Hub,
+    Logged, Node,
+};
 use std::alloc::{AllocGlobal, Global};
 use std::test::Fail;
 

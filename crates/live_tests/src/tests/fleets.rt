@@ -8,8 +8,8 @@ mod story;
 mod texts;
 
 use fc_base::Fault;
-use fleet::{FleetFault, FleetLeft, OpenGate, run_and_leave};
 use gates::{Always, Write};
+use node_threads::{FleetFault, FleetLeft, OpenGate, run_and_leave};
 use replay::sends_the_same;
 use std::alloc::Global;
 use std::sync::Wait;

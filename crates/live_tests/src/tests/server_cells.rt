@@ -3,14 +3,13 @@
 use disk_model::{FaultNotes, MemNotes, Notes};
 use engine::Issue;
 use fc_base::{Fault, JobNo, ServerNo};
-use node_history::{Answer, CallerAnswer, History, Logged};
-use server_cell::{Seat, ServerCell, Task};
+use node_threads::{Answer, CallerAnswer, History, Logged, Seat, ServerCell, ServerTask};
 use std::alloc::Global;
 
 /// The number of a seat, what is asked from it, and its answer, or the number of its fault.
-type Row = (usize, Task, Result<Answer, u8>);
+type Row = (usize, ServerTask, Result<Answer, u8>);
 
-const ISSUE: Task = Task::Issue(JobNo(0));
+const ISSUE: ServerTask = ServerTask::Issue(JobNo(0));
 
 const STOPPED: Result<Answer, u8> = Ok(Answer::Issued(Issue::Stopped));
 
@@ -19,22 +18,22 @@ const PLAIN: Result<Answer, u8> = Ok(Answer::Plain);
 /// A server without a run, by two seats: on, off, and on again.
 const POWER: [Row; 8] = [
     (0, ISSUE, STOPPED),
-    (0, Task::Restart, Err(82)),
-    (1, Task::Cut, PLAIN),
+    (0, ServerTask::Restart, Err(82)),
+    (1, ServerTask::Cut, PLAIN),
     (0, ISSUE, Err(81)),
-    (1, Task::Cut, Err(81)),
-    (1, Task::Restart, PLAIN),
+    (1, ServerTask::Cut, Err(81)),
+    (1, ServerTask::Restart, PLAIN),
     (0, ISSUE, STOPPED),
-    (1, Task::Restart, Err(82)),
+    (1, ServerTask::Restart, Err(82)),
 ];
 
 /// Its second save, that of a restart, fails: it stays off until it is restarted again.
 const LOST: [Row; 6] = [
-    (0, Task::Cut, PLAIN),
-    (1, Task::Restart, Err(53)),
+    (0, ServerTask::Cut, PLAIN),
+    (1, ServerTask::Restart, Err(53)),
     (1, ISSUE, Err(81)),
-    (0, Task::Restart, PLAIN),
-    (0, Task::Restart, Err(82)),
+    (0, ServerTask::Restart, PLAIN),
+    (0, ServerTask::Restart, Err(82)),
     (1, ISSUE, STOPPED),
 ];
 

@@ -1,8 +1,11 @@
 //! What comes to the client of a world that runs.
 
-ghost use Rattle.std.specs.Prelude.{List};
+ghost use Rattle.std.specs.Prelude.{◌≡◌, true, List};
+ghost use Rattle.disk_model.specs.MemNotes.{note_of};
+ghost use Rattle.client_core.specs.FrameEnds.{StandsFor};
 ghost use Rattle.client_core.specs.History.{Opening};
-ghost use Rattle.client_core.specs.Hearing.{FrameEntry};
+ghost use Rattle.client_core.specs.Hearing.{FrameEntry, is_up};
+ghost use Rattle.node_power.specs.declared.power.Power.TheVariants.{On};
 ghost use Rattle.net_world.specs.Asks.{input_of};
 ghost use Rattle.net_world.specs.ClientNodes.{Stands, Asks};
 
@@ -10,31 +13,36 @@ use super::ClientNode;
 use crate::ask::Ask;
 use crate::asked::Asked;
 use crate::told::WorldAnswer;
+use client_core::Client;
+use disk_model::MemNotes;
 use fc_base::Fault;
 
-impl ClientNode {
-    /// It is asked this, or a frame comes to it. `NodeOff`: it doesn't run. Any other fault is the client's
-    /// own.
-    pub(crate) fn ask(&mut self, ask: Ask<'_>) -> Result<Asked, Fault>
-        ensures { (o : Opening) (past : List FrameEntry) → Stands o past self.old →
-            Asks o past (input_of ask.entry) self.new result }
-    {
-        let ClientNode::On(client) = self else {
-            return Err(Fault::NodeOff);
-        };
-        match ask {
-            Ask::Begin(text) => {
-                let (run, frames) = client.begin(text)?;
-                Ok(Asked::of(WorldAnswer::Run(run), frames))
-            }
-            Ask::Verify(run, text) => {
-                let (attempt, frames) = client.verify(run, text)?;
-                Ok(Asked::of(WorldAnswer::Attempt(attempt), frames))
-            }
-            Ask::Trigger(run, act) => Ok(Asked::of(WorldAnswer::Plain, client.trigger(run, act)?)),
-            Ask::Stop(run) => Ok(Asked::of(WorldAnswer::Plain, client.stop(run)?)),
-            Ask::Tick => Ok(Asked::of(WorldAnswer::Plain, client.tick()?)),
-            Ask::Deliver(frame) => Ok(Asked::of(WorldAnswer::Plain, client.deliver(frame)?)),
+/// It is asked this, or a frame comes to it. `NodeOff`: it doesn't run. Any other fault is the client's own.
+pub(crate) fn ask(node: &mut ClientNode, ask: Ask<'_>) -> Result<Asked, Fault>
+    ensures { (o : Opening) (past : List FrameEntry) → Stands o past node.old →
+        Asks o past (input_of ask.entry) node.new result }
+{
+    ask_client(node.on()?, ask)
+}
+
+/// A client that runs is asked this.
+fn ask_client(client: &mut Client<MemNotes>, ask: Ask<'_>) -> Result<Asked, Fault>
+    ensures { (o : Opening) (past : List FrameEntry) → is_up o past ≡ true →
+        StandsFor note_of client.old o past →
+        Asks o past (input_of ask.entry) (On client.new) result }
+{
+    match ask {
+        Ask::Begin(text) => {
+            let (run, frames) = client.begin(text)?;
+            Ok(Asked::of(WorldAnswer::Run(run), frames))
         }
+        Ask::Verify(run, text) => {
+            let (attempt, frames) = client.verify(run, text)?;
+            Ok(Asked::of(WorldAnswer::Attempt(attempt), frames))
+        }
+        Ask::Trigger(run, act) => Ok(Asked::of(WorldAnswer::Plain, client.trigger(run, act)?)),
+        Ask::Stop(run) => Ok(Asked::of(WorldAnswer::Plain, client.stop(run)?)),
+        Ask::Tick => Ok(Asked::of(WorldAnswer::Plain, client.tick()?)),
+        Ask::Deliver(frame) => Ok(Asked::of(WorldAnswer::Plain, client.deliver(frame)?)),
     }
 }

@@ -11,6 +11,7 @@ ghost use Rattle.net_world.specs.Stands.{StandsFor};
 use super::World;
 use crate::ask::Ask;
 use crate::asked::Asked;
+use crate::client_node;
 use crate::told::Told;
 use fc_base::Fault;
 use messages::Act;
@@ -24,7 +25,7 @@ impl World {
         let Ok(first) = self.sent.settle() else {
             return Err(Fault::NoMemory);
         };
-        let asked = self.client.ask(ask)?;
+        let asked = client_node::ask(&mut self.client, ask)?;
         Ok(self.send(first, asked))
     }
 

@@ -14,6 +14,7 @@ ghost use Rattle.net_world.specs.Stands.{StandsFor};
 
 use super::World;
 use crate::told::Told;
+use crate::{client_node, mirror_node, server_node};
 use fc_base::{Fault, Generation, JobNo, MAX_GENERATION, MAX_JOBS, Seq, ServerNo};
 
 impl World {
@@ -23,7 +24,7 @@ impl World {
             result ≡ unless_on w (trace w past) OfClient }
         ensures sort { IfSome result (λ fault. sort_of fault ≡ Refusal) }
     {
-        if self.client.on() {
+        if client_node::runs(&self.client) {
             None
         } else {
             Some(Fault::NodeOff)
@@ -39,7 +40,7 @@ impl World {
         if !self.has_server(server) {
             return Some(Fault::NoServer);
         }
-        if self.servers[server.0 as usize].on() {
+        if server_node::runs(&self.servers[server.0 as usize]) {
             None
         } else {
             Some(Fault::NodeOff)
@@ -55,7 +56,7 @@ impl World {
         let Some(node) = &self.mirror.node else {
             return Some(Fault::NoMirror);
         };
-        if node.on() {
+        if mirror_node::runs(node) {
             None
         } else {
             Some(Fault::NodeOff)
@@ -71,7 +72,11 @@ impl World {
         let Some(node) = &self.mirror.node else {
             return Some(Fault::NoMirror);
         };
-        if node.on() { Some(Fault::NodeOn) } else { None }
+        if mirror_node::runs(node) {
+            Some(Fault::NodeOn)
+        } else {
+            None
+        }
     }
 
     /// There has to be a mirror, and the client to be off.
@@ -83,7 +88,7 @@ impl World {
         if self.mirror.node.is_none() {
             return Some(Fault::NoMirror);
         }
-        if self.client.on() {
+        if client_node::runs(&self.client) {
             Some(Fault::NodeOn)
         } else {
             None

@@ -10,6 +10,7 @@ ghost use Rattle.net_world.specs.Frames.{to_of, frames_sent};
 ghost use Rattle.net_world.specs.Stands.{StandsFor};
 
 use super::World;
+use crate::client_node;
 use crate::told::Told;
 use fc_base::{Fault, RunNo};
 use messages::Frame;
@@ -23,7 +24,7 @@ impl World {
         let Ok(first) = self.sent.settle() else {
             return Err(Fault::NoMemory);
         };
-        self.client.cut_in_begin(self.alloc, landed, text)?;
+        client_node::cut_in_begin(&mut self.client, self.alloc, landed, text)?;
         Ok(Told::plain(first))
     }
 
@@ -40,7 +41,7 @@ impl World {
         let Ok(first) = self.sent.settle() else {
             return Err(Fault::NoMemory);
         };
-        self.client.cut_in_verify(self.alloc, landed, run, text)?;
+        client_node::cut_in_verify(&mut self.client, self.alloc, landed, run, text)?;
         Ok(Told::plain(first))
     }
 
@@ -57,7 +58,7 @@ impl World {
         let Ok(first) = self.sent.settle() else {
             return Err(Fault::NoMemory);
         };
-        self.client.cut_in_delivery(self.alloc, landed, frame)?;
+        client_node::cut_in_delivery(&mut self.client, self.alloc, landed, frame)?;
         Ok(Told::plain(first))
     }
 }

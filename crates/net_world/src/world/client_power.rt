@@ -9,6 +9,7 @@ ghost use Rattle.net_world.specs.Happenings.{Cut, Restart};
 ghost use Rattle.net_world.specs.Stands.{StandsFor};
 
 use super::World;
+use crate::client_node;
 use crate::told::Told;
 use fc_base::Fault;
 
@@ -18,13 +19,13 @@ impl World {
         ensures { (w : Setup) (past : List Change) → StandsFor w past self.old →
             Ends w past (Cut OfClient) self.new result }
     {
-        if !self.client.on() {
+        if !client_node::runs(&self.client) {
             return Err(Fault::NodeOff);
         }
         let Ok(first) = self.sent.settle() else {
             return Err(Fault::NoMemory);
         };
-        self.client.cut(self.alloc);
+        client_node::cut(&mut self.client, self.alloc);
         Ok(Told::plain(first))
     }
 
@@ -38,7 +39,7 @@ impl World {
             return Err(Fault::NoMemory);
         };
         let mirror = self.mirror.node.is_some();
-        self.client.restart(self.alloc, servers, mirror)?;
+        client_node::restart(&mut self.client, self.alloc, servers, mirror)?;
         Ok(Told::plain(first))
     }
 }

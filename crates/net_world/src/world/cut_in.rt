@@ -16,6 +16,7 @@ use super::bar::no_save;
 use super::deliver::to_of;
 use crate::event::PlainEvent;
 use crate::told::Told;
+use crate::{client_node, server_node};
 use fc_base::{Fault, ServerNo};
 use messages::{Frame, Node};
 
@@ -98,7 +99,7 @@ impl World {
         ensures { (landed : Bool) (w : Setup) (past : List Change) → StandsFor w past self.now →
             Ends w past (CutIn landed (Restart OfClient)) self.now result }
     {
-        if self.client.on() {
+        if client_node::runs(&self.client) {
             Err(Fault::NodeOn)
         } else {
             Err(Fault::NoSave)
@@ -123,7 +124,7 @@ impl World {
         let Ok(first) = self.sent.settle() else {
             return Err(Fault::NoMemory);
         };
-        self.servers[server.0 as usize].cut_in_delivery(self.alloc, landed, frame)?;
+        server_node::cut_in_delivery(&mut self.servers[server.0 as usize], landed, frame)?;
         Ok(Told::plain(first))
     }
 
@@ -138,7 +139,8 @@ impl World {
         let Ok(first) = self.sent.settle() else {
             return Err(Fault::NoMemory);
         };
-        self.servers[server.0 as usize].cut_in_restart(self.alloc, landed, server)?;
+        let node = &mut self.servers[server.0 as usize];
+        server_node::cut_in_restart(node, self.alloc, landed, server)?;
         Ok(Told::plain(first))
     }
 }

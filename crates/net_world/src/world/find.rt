@@ -10,6 +10,7 @@ ghost use Rattle.net_world.specs.Stands.{StandsFor};
 
 use super::World;
 use crate::ready::Ready;
+use crate::server_node;
 use disk_model::MemNotes;
 use engine::Ticket;
 use fc_base::{Fault, JobNo, JobRecord, Key, Seq, ServerNo};
@@ -32,9 +33,7 @@ impl World {
         if !self.has_server(server) {
             return Err(Fault::NoServer);
         }
-        self.servers[server.0 as usize]
-            .server()
-            .ok_or(Fault::NodeOff)
+        server_node::server(&self.servers[server.0 as usize]).ok_or(Fault::NodeOff)
     }
 
     /// The ticket of a write that is open, and what its job does.

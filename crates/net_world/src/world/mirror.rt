@@ -11,6 +11,7 @@ ghost use Rattle.net_world.specs.Stands.{StandsFor};
 
 use super::World;
 use crate::asked::Asked;
+use crate::mirror_node;
 use crate::told::{Told, WorldAnswer};
 use fc_base::Fault;
 use messages::Frame;
@@ -30,7 +31,7 @@ impl World {
         let Some(node) = &mut self.mirror.node else {
             return Err(Fault::NoMirror);
         };
-        let frames = node.deliver(frame)?;
+        let frames = mirror_node::deliver(node, frame)?;
         let answer = WorldAnswer::Plain;
         Ok(self.send(first, Asked { answer, frames }))
     }
@@ -43,13 +44,13 @@ impl World {
         let Some(node) = &mut self.mirror.node else {
             return Err(Fault::NoMirror);
         };
-        if !node.on() {
+        if !mirror_node::runs(node) {
             return Err(Fault::NodeOff);
         }
         let Ok(first) = self.sent.settle() else {
             return Err(Fault::NoMemory);
         };
-        node.cut(self.alloc);
+        mirror_node::cut(node);
         Ok(Told::plain(first))
     }
 
@@ -64,7 +65,7 @@ impl World {
         let Some(node) = &mut self.mirror.node else {
             return Err(Fault::NoMirror);
         };
-        node.restart(self.alloc)?;
+        mirror_node::restart(node, self.alloc)?;
         Ok(Told::plain(first))
     }
 
@@ -85,7 +86,7 @@ impl World {
         let Some(node) = &mut self.mirror.node else {
             return Err(Fault::NoMirror);
         };
-        node.cut_in_delivery(self.alloc, landed, frame)?;
+        mirror_node::cut_in_delivery(node, landed, frame)?;
         Ok(Told::plain(first))
     }
 }

@@ -11,8 +11,9 @@ ghost use Rattle.net_world.specs.Frames.{client_entries};
 
 use crate::client_node::ClientNode;
 use crate::config::Config;
-use crate::mirror_node::{MirrorNode, Mirrored};
+use crate::mirror_node::Mirrored;
 use crate::server_node::ServerNode;
+use crate::{client_node, mirror_node, server_node};
 use disk_model::MemDisk;
 use fc_base::ServerNo;
 use std::alloc::{AllocError, Global};
@@ -27,7 +28,7 @@ pub(super) fn open_mirror(alloc: Global, config: Config) -> Result<Mirrored, All
             greatest: 0,
         });
     }
-    let node = MirrorNode::open(alloc)?;
+    let node = mirror_node::open(alloc)?;
     Ok(Mirrored {
         node: Some(node),
         greatest: 1,
@@ -42,9 +43,9 @@ pub(super) fn open_client(alloc: Global, config: Config) -> Result<ClientNode, A
         (λ c. Stands (client_opening (setup_of config)) (client_entries (setup_of config) []) c) }
 {
     if config.mirror {
-        return ClientNode::open_renewed(alloc, config.servers);
+        return client_node::open_renewed(alloc, config.servers);
     }
-    match ClientNode::open(alloc, config.servers) {
+    match client_node::open(alloc, config.servers) {
         Ok(client) => Ok(client),
         Err(_) => Err(AllocError),
     }
@@ -57,7 +58,7 @@ pub(super) fn open_servers(alloc: Global, servers: u32) -> Result<Vec<ServerNode
 {
     let mut nodes = Vec::with_capacity(alloc, servers as usize)?;
     for me in 0..servers {
-        let node = ServerNode::open(alloc, ServerNo(me))?;
+        let node = server_node::open(alloc, ServerNo(me))?;
         let Ok(()) = nodes.push(node) else {
             return Err(AllocError);
         };

@@ -9,6 +9,7 @@ ghost use Rattle.net_world.specs.Happenings.{Cut, Restart};
 ghost use Rattle.net_world.specs.Stands.{StandsFor};
 
 use super::World;
+use crate::server_node;
 use crate::told::Told;
 use fc_base::{Fault, ServerNo};
 use messages::Node;
@@ -46,13 +47,13 @@ impl World {
         if !self.has_server(server) {
             return Err(Fault::NoServer);
         }
-        if !self.servers[server.0 as usize].on() {
+        if !server_node::runs(&self.servers[server.0 as usize]) {
             return Err(Fault::NodeOff);
         }
         let Ok(first) = self.sent.settle() else {
             return Err(Fault::NoMemory);
         };
-        self.servers[server.0 as usize].cut(self.alloc);
+        server_node::cut(&mut self.servers[server.0 as usize]);
         Ok(Told::plain(first))
     }
 
@@ -67,7 +68,7 @@ impl World {
         let Ok(first) = self.sent.settle() else {
             return Err(Fault::NoMemory);
         };
-        self.servers[server.0 as usize].restart(self.alloc, server)?;
+        server_node::restart(&mut self.servers[server.0 as usize], self.alloc, server)?;
         Ok(Told::plain(first))
     }
 }

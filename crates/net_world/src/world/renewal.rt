@@ -8,6 +8,7 @@ ghost use Rattle.net_world.specs.Happenings.{LoseNote, Renew, CutIn};
 ghost use Rattle.net_world.specs.Stands.{StandsFor};
 
 use super::World;
+use crate::client_node;
 use crate::told::Told;
 use fc_base::{Fault, Generation};
 
@@ -24,7 +25,7 @@ impl World {
         let Ok(first) = self.sent.settle() else {
             return Err(Fault::NoMemory);
         };
-        self.client.lose(self.alloc)?;
+        client_node::lose(&mut self.client, self.alloc)?;
         Ok(Told::plain(first))
     }
 
@@ -42,7 +43,7 @@ impl World {
         let Ok(first) = self.sent.settle() else {
             return Err(Fault::NoMemory);
         };
-        self.client.renew(self.alloc, servers, generation)?;
+        client_node::renew(&mut self.client, self.alloc, servers, generation)?;
         self.mirror.greatest = generation.0;
         Ok(Told::plain(first))
     }
@@ -63,8 +64,7 @@ impl World {
         let Ok(first) = self.sent.settle() else {
             return Err(Fault::NoMemory);
         };
-        self.client
-            .cut_in_renewal(self.alloc, servers, landed, generation)?;
+        client_node::cut_in_renewal(&mut self.client, self.alloc, servers, landed, generation)?;
         self.mirror.greatest = generation.0;
         Ok(Told::plain(first))
     }

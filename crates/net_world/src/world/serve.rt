@@ -8,6 +8,7 @@ ghost use Rattle.net_world.specs.Serving.{ServerEnds};
 
 use super::World;
 use crate::served::Served;
+use crate::server_node;
 use fc_base::{Fault, ServerNo};
 use server_core::{Input, Outs};
 
@@ -27,7 +28,7 @@ impl World {
         let Ok(first) = self.sent.settle() else {
             return Err(Fault::NoMemory);
         };
-        let outs = match self.servers[server.0 as usize].step(input) {
+        let outs = match server_node::step(&mut self.servers[server.0 as usize], input) {
             Ok(outs) => outs,
             Err(fault) => return Err(fault),
         };

@@ -2,9 +2,9 @@ use Rattle.std.proofs.Common.{◌∙◌, refl, sym, ap, subst, inl, List, length
 use Rattle.std.specs.Prelude.{reverse}
 use Rattle.std.proofs.lemmas.List.{reverse-reverse}
 use Rattle.std.proofs.lemmas.Result.{err_from_is_err_and}
-use Rattle.node_traces.specs.declared.place.Place.{Place}
-use Rattle.node_traces.specs.Orders.{merged_order}
-use Rattle.node_traces.specs.Names.{IsOrder}
+use Rattle.assembly.specs.declared.place.Place.{Place}
+use Rattle.assembly.specs.Orders.{merged_order}
+use Rattle.assembly.specs.Names.{IsOrder}
 use Rattle.assembly.specs.Ran.{ran_of, history_of}
 use Rattle.assembly.proofs.WhyLemmas.{differs_why}
 use Rattle.assembly.proofs.list.assemble.Goals as goal

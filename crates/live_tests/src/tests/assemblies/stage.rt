@@ -1,15 +1,14 @@
 //! A client and two servers, with the hub between them, as one thread uses them.
 
-use super::cells::{Cells, Clients, TWINS, two_clients};
 use super::play::{Handed, Play, Step};
-use assembly::{AssembleFault, Assembled, assemble};
-use client_cell::{ClientCommand, ClientRequest, ClientTask};
+use super::players::{Cells, Clients, TWINS, two_clients};
 use engine::Ticket;
 use fc_base::{Fault, JobNo, Key, MAX_TEXT, RunNo, Seq, ServerNo};
-use hub::Hub;
 use messages::{Frames, Node as Name, Text};
-use node_history::{CallerAnswer, Node};
-use server_cell::Task as ServerTask;
+use node_threads::{
+    AssembleFault, Assembled, CallerAnswer, ClientCommand, ClientRequest, ClientTask, Hub, Node,
+    ServerTask, assemble,
+};
 use server_core::WriteEnd;
 use std::alloc::Global;
 use std::slice;

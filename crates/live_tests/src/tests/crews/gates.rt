@@ -3,12 +3,10 @@
 use super::site::Server;
 use engine::Ticket;
 use fc_base::Seq;
-use node_history::{Came, History, Logged};
-use server_cell::{Seat, Task};
+use node_threads::{Came, Gate, History, Logged, OpenGate, Seat, ServerTask};
 use server_core::WriteEnd;
 use std::sync::Mutex;
 use std::sync::atomic::{AtomicBool, Ordering};
-use workers::{Gate, OpenGate};
 
 /// Which writes a gate lets through.
 #[derive(Clone, Copy, PartialEq, Eq)]
@@ -108,7 +106,7 @@ impl Gate for Watching<'_> {
 
 fn tell_from(server: &mut Server, seat: &mut Option<Seat>, ticket: &Ticket) {
     if let Some(seat) = seat {
-        let _ = server.apply(seat, Task::WriteDone(*ticket, WriteEnd::Done));
+        let _ = server.apply(seat, ServerTask::WriteDone(*ticket, WriteEnd::Done));
     }
 }
 

@@ -4,11 +4,9 @@ use super::site::Server;
 use disk_model::Disk;
 use engine::Issue;
 use fc_base::Fault;
-use node_history::Answer;
-use server_cell::Seat;
+use node_threads::{Answer, Gate, Seat, run_worker};
 use std::alloc::Global;
 use std::sync::{Mutex, Wait};
-use workers::{Gate, run_worker};
 
 /// How a worker ends.
 #[derive(Clone, Copy, PartialEq, Eq)]

@@ -5,14 +5,13 @@ ghost use Rattle.std.specs.Prelude.{◌<◌};
 use super::gates::{Holding, Lets, Watching};
 use super::hands::{Ended, Hand};
 use super::step::{Taken, taken_of};
-use assembly::assemble;
-use client_cell::{ClientCell, ClientCommand, ClientRequest};
 use disk_model::{FaultDisk, MemDisk, MemNotes};
 use fc_base::{Fault, JobNo, MAX_TEXT, RunNo, ServerNo};
-use hub::Hub;
 use messages::{Act, Text};
-use node_history::{CallerAnswer, Came, History, Logged, Node};
-use server_cell::{Seat, ServerCell, Task};
+use node_threads::{
+    CallerAnswer, Came, ClientCell, ClientCommand, ClientRequest, History, Hub, Logged, Node, Seat,
+    ServerCell, ServerTask, assemble,
+};
 use server_core::WriteEnd;
 use std::alloc::Global;
 use std::sync::{Mutex, Wait};
@@ -115,7 +114,7 @@ impl Site {
     /// The server loses its power.
     pub fn cut<R: Wait>(&mut self, rt: &R) -> Result<CallerAnswer, Fault> {
         match self.seats.first_mut() {
-            Some(seat) => self.cell.lock(rt).apply(seat, Task::Cut),
+            Some(seat) => self.cell.lock(rt).apply(seat, ServerTask::Cut),
             None => Err(Fault::WrongSeat),
         }
     }

@@ -4,7 +4,7 @@ use super::hands::Ended;
 use super::site::{Server, Site};
 use disk_model::FaultDisk;
 use fc_base::{Fault, JobNo, Key, RunNo, ServerNo};
-use node_history::CallerAnswer;
+use node_threads::CallerAnswer;
 use recheck::check_disk;
 use std::alloc::Global;
 use std::sync::Wait;

@@ -4,7 +4,7 @@ use super::gates::Always;
 use super::story::READING;
 use engine::Ticket;
 use fc_base::Fault;
-use fleet::{FleetFault, Gate, run_fleet};
+use node_threads::{FleetFault, Gate, run_fleet};
 use std::alloc::Global;
 use std::sync::Wait;
 use std::sync::atomic::{AtomicBool, AtomicU64, Ordering};

@@ -1,7 +1,7 @@
 //! Gates and triggers of fleets.
 
 use engine::Ticket;
-use fleet::{Gate, Trigger};
+use node_threads::{Gate, Trigger};
 use std::sync::atomic::{AtomicBool, Ordering};
 
 /// A write: its server and its number.

@@ -3,7 +3,7 @@
 use super::gates::Always;
 use engine::Ticket;
 use fc_base::ReportEnd;
-use fleet::{CheckEnd, FleetFault, Gate, OpenGate, Trigger, run_fleet};
+use node_threads::{CheckEnd, FleetFault, Gate, OpenGate, Trigger, run_fleet};
 use std::alloc::Global;
 use std::sync::Wait;
 use std::sync::atomic::{AtomicBool, Ordering};

@@ -1,11 +1,9 @@
 //! The events of a fleet that has ended, which happen once more in a world, one after the other.
 
 use fc_base::{Fault, ServerNo};
-use fleet::{FleetLeft, Place};
-use hub::Hub;
 use messages::{Node, Text};
 use net_world::{Config, PlainEvent, World, WorldEvent};
-use node_history::{Came, Lent};
+use node_threads::{Came, FleetLeft, Hub, Lent, Place};
 use server_core::WriteEnd;
 use std::alloc::Global;
 

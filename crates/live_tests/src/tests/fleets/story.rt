@@ -2,7 +2,7 @@
 
 use super::gates::{Always, Behind, Write};
 use fc_base::{CheckReport, Fault, ReportEnd};
-use fleet::{CheckEnd, FleetFault, run_fleet};
+use node_threads::{CheckEnd, FleetFault, run_fleet};
 use std::alloc::Global;
 use std::sync::Wait;
 use std::thread::Threads;

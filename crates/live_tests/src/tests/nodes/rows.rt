@@ -3,7 +3,6 @@
 use engine::{Issue, Ticket};
 use fc_base::{Attempt, JobNo, Key, RunNo, Seq, ServerNo};
 use messages::Act;
-use node_threads::Answer;
 
 /// What is asked of the client, of the server at the hub, or from one of its seats.
 #[derive(Clone, Copy)]
@@ -25,6 +24,7 @@ pub enum Step {
 }
 
 use Step::*;
+use node_threads::Answer;
 
 /// The answer, the act, the number of the first frame sent and how many; or the number of the fault.
 pub type Said = Result<(Answer, Act, u64, u64), u8>;

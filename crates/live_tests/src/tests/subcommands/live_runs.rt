@@ -3,8 +3,8 @@
 use super::text_of_length;
 use commands::FleetSize;
 use fake_io::{Page, Source, failing, page_with, source_of};
-use fleet::Trigger;
 use live::{FileTrigger, MAX_INPUT, run_live};
+use node_threads::Trigger;
 use std::alloc::{AllocError, Global};
 use std::sync::Wait;
 use std::test::Fail;

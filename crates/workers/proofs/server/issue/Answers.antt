@@ -1,5 +1,5 @@
 use Rattle.std.proofs.Common.{sym, ◌∙◌, ap}
-use Rattle.server_cell.specs.declared.task.Task.TheVariants.{Issue}
+use Rattle.cells.specs.declared.server_cell.task.ServerTask.TheVariants.{Issue}
 use Rattle.workers.proofs.SeatLemmas.{said_so, applied, ends_by}
 use Rattle.workers.proofs.server.issue.Goals as goal
 

@@ -1,5 +1,5 @@
 use Rattle.std.proofs.Common.{◌≡◌, ◌≤◌, List, reverse}
-use Rattle.node_history.specs.declared.logged.Logged.{Logged}
+use Rattle.cells.specs.declared.logged.Logged.{Logged}
 use Rattle.assembly.specs.Order.{next_of, IsPassed}
 use Rattle.assembly.proofs.order.Order.pass.Given as goal
 

@@ -1,7 +1,7 @@
 use Rattle.std.proofs.Common.{◌≡◌, ◌∙◌, ◌+◌, List, refl, sym, ap, subst, arith, length, ℕ, Some}
 use Rattle.std.proofs.lemmas.Option.{slice_get_within}
-use Rattle.node_history.specs.Histories.{lent_entry}
-use Rattle.node_traces.specs.Marks.{mark_of_line}
+use Rattle.cells.specs.Histories.{lent_entry}
+use Rattle.assembly.specs.Marks.{mark_of_line}
 use Rattle.assembly.specs.Order.{next_of, with_next, IsPassed}
 use Rattle.assembly.proofs.PassLemmas.{gone_by, untold_before, no_event, other_event, told_so, read_there, long_as}
 use Rattle.assembly.proofs.order.Order.tell.Goals as goal

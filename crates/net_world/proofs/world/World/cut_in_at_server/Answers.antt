@@ -33,7 +33,7 @@ returns c w past number stands is goes =
     let at = node_at c.args.self.now.servers.items s c.server.inside.0 c.index_mut.result.now c.server.view_is l c.index_mut.ensures.value in
     let h = c.in_ok-cut_in_delivery.ensures (opening_of s) (entries past s) (stands.servers_are s c.index_mut.result.now at) in
     plain_ends w past s (CutIn c.args.landed (Deliver number))
-    (hearing.Met (inputs.Deliver c.args.frame) (lost_by c.args.landed)) c.cut_in_delivery.new.self c.in-Ok.first c.plain.result c.args.self.now _ stands
+    (hearing.Met (inputs.Deliver c.args.frame) (lost_by c.args.landed)) c.cut_in_delivery.new.node c.in-Ok.first c.plain.result c.args.self.now _ stands
     (record {
       there = l;
       place = c.server.inside.0;
@@ -56,7 +56,7 @@ returns-in_err-cut_in_delivery c w past number stands is goes =
     let at = node_at c.args.self.now.servers.items s c.server.inside.0 c.index_mut.result.now c.server.view_is l c.index_mut.ensures.value in
     let p = err_from_is_err_and c.from_residual.result c.from_residual.ensures.1 in
     rw (p.1, p.2)
-    (frame_cut_ends w past number c.args.landed c.args.frame s c.cut_in_delivery.new.self c.in_err-cut_in_delivery.field-0.0 c.args.self.now _ stands
+    (frame_cut_ends w past number c.args.landed c.args.frame s c.cut_in_delivery.new.node c.in_err-cut_in_delivery.field-0.0 c.args.self.now _ stands
     (record {
       there = l;
       place = c.server.inside.0;

@@ -28,10 +28,10 @@ returns c w past stands =
     let s = c.args.server in
     let l = ltb-true s (length c.args.self.now.servers.items) (sym c.has_server.ensures ∙ c.if-not-has_server.false) in
     let below : s < w.servers = omega (arith, stands.number, l) in
-    let at = node_at c.args.self.now.servers.items s c.server.inside.0 c.index_mut.result.now c.server.view_is l c.index_mut.ensures.value in
-    let h = c.in_ok-cut_in_restart.ensures (opening_of s) (entries past s) refl (stands.servers_are s c.index_mut.result.now at) in
+    let at = node_at c.args.self.now.servers.items s c.server.inside.0 c.index_mut-node.result.now c.server.view_is l c.index_mut-node.ensures.value in
+    let h = c.in_ok-cut_in_restart.ensures (opening_of s) (entries past s) refl (stands.servers_are s c.index_mut-node.result.now at) in
     plain_ends w past s (CutIn c.args.landed (Restart (nodes.Server s)))
-    (hearing.Restart (lost_by c.args.landed)) c.cut_in_restart.new.self c.in-Ok.first c.plain.result c.args.self.now _ stands
+    (hearing.Restart (lost_by c.args.landed)) c.cut_in_restart.new.node c.in-Ok.first c.plain.result c.args.self.now _ stands
     (record {
       there = l;
       place = c.server.inside.0;
@@ -51,10 +51,10 @@ pub returns-in_err-cut_in_restart : goal.returns-in_err-cut_in_restart
 returns-in_err-cut_in_restart c w past stands =
     let s = c.args.server in
     let l = ltb-true s (length c.args.self.now.servers.items) (sym c.has_server.ensures ∙ c.if-not-has_server.false) in
-    let at = node_at c.args.self.now.servers.items s c.server.inside.0 c.index_mut.result.now c.server.view_is l c.index_mut.ensures.value in
+    let at = node_at c.args.self.now.servers.items s c.server.inside.0 c.index_mut-node.result.now c.server.view_is l c.index_mut-node.ensures.value in
     let p = err_from_is_err_and c.from_residual.result c.from_residual.ensures.1 in
     rw (p.1, p.2)
-    (restart_cut_ends w past s c.args.landed c.cut_in_restart.new.self c.in_err-cut_in_restart.field-0.0 c.args.self.now _ stands
+    (restart_cut_ends w past s c.args.landed c.cut_in_restart.new.node c.in_err-cut_in_restart.field-0.0 c.args.self.now _ stands
     (record {
       there = l;
       place = c.server.inside.0;
@@ -66,4 +66,4 @@ returns-in_err-cut_in_restart c w past stands =
       mirror_is = refl;
     })
     (omega (arith, stands.number, l))
-    (c.in_err-cut_in_restart.ensures (opening_of s) (entries past s) refl (stands.servers_are s c.index_mut.result.now at)))
+    (c.in_err-cut_in_restart.ensures (opening_of s) (entries past s) refl (stands.servers_are s c.index_mut-node.result.now at)))

@@ -10,11 +10,11 @@ use Rattle.net_world.proofs.EndsLemmas.{stops, refuses}
 use Rattle.net_world.proofs.MirrorEndsLemmas.{there, is_had, is_there, is_off, mirror_kept, plain_ends, cut_plain}
 use Rattle.net_world.proofs.world.World.cut_mirror.Goals as goal
 
-pub returns-then-not-on : goal.returns-then-not-on
-returns-then-not-on c w past stands =
+pub returns-then-not-runs : goal.returns-then-not-runs
+returns-then-not-runs c w past stands =
     let has = there w past c.args.self.now.mirror.node _ c.in-Some.is stands.mirror_is in
     refuses w past (Cut Mirror) _ _ refl (stops w past (Cut Mirror) _
-    (is_off w past has.0 (sym (c.on.ensures mirror_opening (of_mirror (steps past)) has.1) ∙ c.if-not-on.true)))
+    (is_off w past has.0 (sym (c.runs.ensures mirror_opening (of_mirror (steps past)) has.1) ∙ c.if-not-runs.true)))
     (mirror_kept w past _ c.args.self.now _ stands
     (record {
       has = is_had _ c.args.self.now c.in-Some.is;
@@ -29,7 +29,7 @@ returns-then-not-on c w past stands =
 pub returns : goal.returns
 returns c w past stands =
     let has = there w past c.args.self.now.mirror.node _ c.in-Some.is stands.mirror_is in
-    plain_ends w past (Cut Mirror) mirror.Cut c.cut.new.self c.in-Ok.first c.plain.result c.args.self.now _ stands
+    plain_ends w past (Cut Mirror) mirror.Cut c.cut.new.node c.in-Ok.first c.plain.result c.args.self.now _ stands
     (record {
       has = is_had _ c.args.self.now c.in-Some.is;
       node_is = refl;
@@ -40,6 +40,6 @@ returns c w past stands =
       files_are = refl;
     })
     (c.cut.ensures mirror_opening (of_mirror (steps past)) has.1)
-    (cut_plain w past (is_there w past has.0 (sym (c.on.ensures mirror_opening (of_mirror (steps past)) has.1) ∙ c.if-not-on.false)))
+    (cut_plain w past (is_there w past has.0 (sym (c.runs.ensures mirror_opening (of_mirror (steps past)) has.1) ∙ c.if-not-runs.false)))
     (c.in-Ok.ensures.first ∙ ap (λ (fs : List (List ℕ)). length fs) c.settle.ensures.same)
     c.plain.ensures

@@ -17,14 +17,14 @@ returns-then-not-has_server c w past stands =
     let e = Cut (nodes.Server c.args.server) in
     refuses w past e _ c.args.self.now refl (stops w past e _ (none_there w past c.args.server (omega (arith, stands.number, l)))) stands
 
-pub returns-then-not-on : goal.returns-then-not-on
-returns-then-not-on c w past stands =
+pub returns-then-not-runs : goal.returns-then-not-runs
+returns-then-not-runs c w past stands =
     let s = c.args.server in
     let l = ltb-true s (length c.args.self.now.servers.items) (sym c.has_server.ensures ∙ c.if-not-has_server.false) in
     let at = node_at c.args.self.now.servers.items s c.server.inside.0 c.index.result.now c.server.view_is l c.index.ensures in
-    let up = c.on.ensures (opening_of s) (entries past s) (stands.servers_are s c.index.result.now at) in
+    let up = c.runs.ensures (opening_of s) (entries past s) (stands.servers_are s c.index.result.now at) in
     let e = Cut (nodes.Server s) in
-    refuses w past e _ c.args.self.now refl (stops w past e _ (is_off w past s (omega (arith, stands.number, l)) (sym up ∙ c.if-not-on.true))) stands
+    refuses w past e _ c.args.self.now refl (stops w past e _ (is_off w past s (omega (arith, stands.number, l)) (sym up ∙ c.if-not-runs.true))) stands
 
 pub returns-in_default : goal.returns-in_default
 returns-in_default c w past stands = (refl, settled w past c.args.self.now _ stands c.settle.ensures.same refl refl refl refl)
@@ -34,9 +34,9 @@ returns c w past stands =
     let s = c.args.server in
     let l = ltb-true s (length c.args.self.now.servers.items) (sym c.has_server.ensures ∙ c.if-not-has_server.false) in
     let at = node_at c.args.self.now.servers.items s c.server.inside.0 c.index.result.now c.server.view_is l c.index.ensures in
-    let up = c.on.ensures (opening_of s) (entries past s) (stands.servers_are s c.index.result.now at) in
+    let up = c.runs.ensures (opening_of s) (entries past s) (stands.servers_are s c.index.result.now at) in
     let again = node_at c.args.self.now.servers.items s c.server.inside.0 c.index_mut.result.now c.server.view_is l c.index_mut.ensures.value in
-    plain_ends w past s (Cut (nodes.Server s)) hearing.Cut c.cut.new.self c.in-Ok.first c.plain.result c.args.self.now _ stands
+    plain_ends w past s (Cut (nodes.Server s)) hearing.Cut c.cut.new.node c.in-Ok.first c.plain.result c.args.self.now _ stands
     (record {
       there = l;
       place = c.server.inside.0;
@@ -48,6 +48,6 @@ returns c w past stands =
       mirror_is = refl;
     })
     (c.cut.ensures (opening_of s) (entries past s) (stands.servers_are s c.index_mut.result.now again))
-    (cut_plain w past s (is_there w past s (omega (arith, stands.number, l)) (sym up ∙ c.if-not-on.false)))
+    (cut_plain w past s (is_there w past s (omega (arith, stands.number, l)) (sym up ∙ c.if-not-runs.false)))
     (c.in-Ok.ensures.first ∙ ap (λ (fs : List (List ℕ)). length fs) c.settle.ensures.same)
     c.plain.ensures

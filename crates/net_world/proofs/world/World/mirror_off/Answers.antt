@@ -5,12 +5,12 @@ use Rattle.net_world.specs.Changes.{steps}
 use Rattle.net_world.proofs.MirrorEndsLemmas.{there, is_there, is_off}
 use Rattle.net_world.proofs.world.World.mirror_off.Goals as goal
 
-pub returns-then-on-clause-why : goal.returns-then-on-clause-why
-returns-then-on-clause-why c w past stands =
+pub returns-then-runs-clause-why : goal.returns-then-runs-clause-why
+returns-then-runs-clause-why c w past stands =
     let has = there w past c.args.self.now.mirror.node _ c.in-Some.is stands.mirror_is in
-    sym (is_there w past has.0 (sym (c.on.ensures mirror_opening (of_mirror (steps past)) has.1) ∙ c.if-on.true))
+    sym (is_there w past has.0 (sym (c.runs.ensures mirror_opening (of_mirror (steps past)) has.1) ∙ c.if-runs.true))
 
-pub returns-else-on-clause-why : goal.returns-else-on-clause-why
-returns-else-on-clause-why c w past stands =
+pub returns-else-runs-clause-why : goal.returns-else-runs-clause-why
+returns-else-runs-clause-why c w past stands =
     let has = there w past c.args.self.now.mirror.node _ c.in-Some.is stands.mirror_is in
-    sym (is_off w past has.0 (sym (c.on.ensures mirror_opening (of_mirror (steps past)) has.1) ∙ c.if-on.false))
+    sym (is_off w past has.0 (sym (c.runs.ensures mirror_opening (of_mirror (steps past)) has.1) ∙ c.if-runs.false))

@@ -5,12 +5,12 @@ use Rattle.net_world.specs.Changes.{steps}
 use Rattle.net_world.proofs.MirrorEndsLemmas.{there, runs_on, may_restart}
 use Rattle.net_world.proofs.world.World.mirror_on.Goals as goal
 
-pub returns-then-on-clause-why : goal.returns-then-on-clause-why
-returns-then-on-clause-why c w past stands =
+pub returns-then-runs-clause-why : goal.returns-then-runs-clause-why
+returns-then-runs-clause-why c w past stands =
     let has = there w past c.args.self.now.mirror.node _ c.in-Some.is stands.mirror_is in
-    sym (runs_on w past has.0 (sym (c.on.ensures mirror_opening (of_mirror (steps past)) has.1) ∙ c.if-on.true))
+    sym (runs_on w past has.0 (sym (c.runs.ensures mirror_opening (of_mirror (steps past)) has.1) ∙ c.if-runs.true))
 
-pub returns-else-on-clause-why : goal.returns-else-on-clause-why
-returns-else-on-clause-why c w past stands =
+pub returns-else-runs-clause-why : goal.returns-else-runs-clause-why
+returns-else-runs-clause-why c w past stands =
     let has = there w past c.args.self.now.mirror.node _ c.in-Some.is stands.mirror_is in
-    sym (may_restart w past has.0 (sym (c.on.ensures mirror_opening (of_mirror (steps past)) has.1) ∙ c.if-on.false))
+    sym (may_restart w past has.0 (sym (c.runs.ensures mirror_opening (of_mirror (steps past)) has.1) ∙ c.if-runs.false))

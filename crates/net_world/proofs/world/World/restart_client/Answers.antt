@@ -17,7 +17,7 @@ returns-in_default c w past stands = (refl, settled w past c.args.self.now _ sta
 
 pub returns : goal.returns
 returns c w past stands =
-    let h = subst (λ mirror. Restarts (client_opening w) (entries w past) mirror c.restart.new.self (Ok tt))
+    let h = subst (λ mirror. Restarts (client_opening w) (entries w past) mirror c.restart.new.node (Ok tt))
     (c.is_some-mirror.ensures ∙ mirror_word w past c.args.self.now.mirror.node stands.mirror_is)
     (c.in_ok-restart.ensures (client_opening w) (entries w past) (sym (c.count-servers.ensures.value ∙ stands.number)) stands.client_is) in
     plain_ends w past (Restart Client) (hearing.Restart w.mirror) c.in-Ok.first c.plain.result c.args.self.now _ stands
@@ -34,6 +34,6 @@ returns-in_err-restart c w past stands =
     rw (p.1, p.2)
     (restart_ends w past c.in_err-restart.field-0.0 c.args.self.now _ stands
     (record { sent_is = c.settle.ensures.same ∙ sym (append-nil (sent_in c.args.self.now.sent)); servers_are = refl; files_are = refl; mirror_is = refl })
-    (subst (λ mirror. Restarts (client_opening w) (entries w past) mirror c.restart.new.self (Err c.in_err-restart.field-0.0))
+    (subst (λ mirror. Restarts (client_opening w) (entries w past) mirror c.restart.new.node (Err c.in_err-restart.field-0.0))
     (c.is_some-mirror.ensures ∙ mirror_word w past c.args.self.now.mirror.node stands.mirror_is)
     (c.in_err-restart.ensures (client_opening w) (entries w past) (sym (c.count-servers.ensures.value ∙ stands.number)) stands.client_is)))

@@ -14,7 +14,7 @@ pub returns : goal.returns
 returns c w past stands =
     let has = there w past c.args.self.now.mirror.node _ c.in-Some.is stands.mirror_is in
     let h = c.in_ok-restart.ensures mirror_opening (of_mirror (steps past)) has.1 in
-    plain_ends w past (Restart Mirror) mirror.Restart c.restart.new.self c.in-Ok.first c.plain.result c.args.self.now _ stands
+    plain_ends w past (Restart Mirror) mirror.Restart c.restart.new.node c.in-Ok.first c.plain.result c.args.self.now _ stands
     (record {
       has = is_had _ c.args.self.now c.in-Some.is;
       node_is = refl;
@@ -33,7 +33,7 @@ pub returns-in_err-restart : goal.returns-in_err-restart
 returns-in_err-restart c w past stands =
     let p = err_from_is_err_and c.from_residual.result c.from_residual.ensures.1 in
     rw (p.1, p.2)
-    (restart_ends w past c.restart.new.self c.in_err-restart.field-0.0 c.args.self.now _ stands
+    (restart_ends w past c.restart.new.node c.in_err-restart.field-0.0 c.args.self.now _ stands
     (record {
       has = is_had _ c.args.self.now c.in-Some.is;
       node_is = refl;

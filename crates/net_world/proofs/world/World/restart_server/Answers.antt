@@ -29,7 +29,7 @@ returns c w past stands =
     let below : s < w.servers = omega (arith, stands.number, l) in
     let at = node_at c.args.self.now.servers.items s c.server.inside.0 c.index_mut.result.now c.server.view_is l c.index_mut.ensures.value in
     let h = c.in_ok-restart.ensures (opening_of s) (entries past s) refl (stands.servers_are s c.index_mut.result.now at) in
-    plain_ends w past s (Restart (nodes.Server s)) (hearing.Restart Saved) c.restart.new.self c.in-Ok.first c.plain.result c.args.self.now _ stands
+    plain_ends w past s (Restart (nodes.Server s)) (hearing.Restart Saved) c.restart.new.node c.in-Ok.first c.plain.result c.args.self.now _ stands
     (record {
       there = l;
       place = c.server.inside.0;
@@ -52,7 +52,7 @@ returns-in_err-restart c w past stands =
     let at = node_at c.args.self.now.servers.items s c.server.inside.0 c.index_mut.result.now c.server.view_is l c.index_mut.ensures.value in
     let p = err_from_is_err_and c.from_residual.result c.from_residual.ensures.1 in
     rw (p.1, p.2)
-    (restart_ends w past s c.restart.new.self c.in_err-restart.field-0.0 c.args.self.now _ stands
+    (restart_ends w past s c.restart.new.node c.in_err-restart.field-0.0 c.args.self.now _ stands
     (record {
       there = l;
       place = c.server.inside.0;

@@ -18,7 +18,7 @@ returns-in-Err c w past stands =
     serve_fails w past c.args.server c.args.input c.in-Err.fault c.args.self.now _ stands
     (record {
       was = c.index_mut.result.now;
-      node = c.step.new.self;
+      node = c.step.new.node;
       was_is = node_at c.args.self.now.servers.items c.args.server c.server.inside.0 c.index_mut.result.now c.server.view_is l c.index_mut.ensures.value;
       stepped = λ o es h. c.in-Err.ensures o es h;
       moved = record {
@@ -40,7 +40,7 @@ returns c w past stands =
     serve_ends w past c.args.server c.args.input outs _ c.args.self.now _ stands
     (record {
       was = c.index_mut.result.now;
-      node = c.step.new.self;
+      node = c.step.new.node;
       was_is = node_at c.args.self.now.servers.items c.args.server c.server.inside.0 c.index_mut.result.now c.server.view_is l c.index_mut.ensures.value;
       stepped = λ o es h. c.in-Ok-step.ensures o es h;
       moved = record {

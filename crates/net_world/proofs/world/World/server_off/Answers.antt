@@ -10,18 +10,18 @@ returns-then-not-has_server-clause-why c w past stands =
     let l = ltb-false c.args.server (length c.args.self.now.servers.items) (sym c.has_server.ensures ∙ c.if-not-has_server.true) in
     sym (none_there w past c.args.server (omega (arith, stands.number, l)))
 
-pub returns-then-on-clause-why : goal.returns-then-on-clause-why
-returns-then-on-clause-why c w past stands =
+pub returns-then-runs-clause-why : goal.returns-then-runs-clause-why
+returns-then-runs-clause-why c w past stands =
     let s = c.args.server in
     let l = ltb-true s (length c.args.self.now.servers.items) (sym c.has_server.ensures ∙ c.if-not-has_server.false) in
     let at = node_at c.args.self.now.servers.items s c.server.inside.0 c.index.result.now c.server.view_is l c.index.ensures in
     sym (is_there w past s (omega (arith, stands.number, l))
-    (sym (c.on.ensures (opening_of s) (entries past s) (stands.servers_are s c.index.result.now at)) ∙ c.if-on.true))
+    (sym (c.runs.ensures (opening_of s) (entries past s) (stands.servers_are s c.index.result.now at)) ∙ c.if-runs.true))
 
-pub returns-else-on-clause-why : goal.returns-else-on-clause-why
-returns-else-on-clause-why c w past stands =
+pub returns-else-runs-clause-why : goal.returns-else-runs-clause-why
+returns-else-runs-clause-why c w past stands =
     let s = c.args.server in
     let l = ltb-true s (length c.args.self.now.servers.items) (sym c.has_server.ensures ∙ c.if-not-has_server.false) in
     let at = node_at c.args.self.now.servers.items s c.server.inside.0 c.index.result.now c.server.view_is l c.index.ensures in
     sym (is_off w past s (omega (arith, stands.number, l))
-    (sym (c.on.ensures (opening_of s) (entries past s) (stands.servers_are s c.index.result.now at)) ∙ c.if-on.false))
+    (sym (c.runs.ensures (opening_of s) (entries past s) (stands.servers_are s c.index.result.now at)) ∙ c.if-runs.false))

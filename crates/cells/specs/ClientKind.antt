@@ -1,0 +1,36 @@
+-- What kind of node the client under its lock is.
+use Rattle.std.specs.Prelude.{refl, ℕ, List}
+use Rattle.disk_model.specs.Notes.{Note}
+use Rattle.client_core.specs.declared.input.Input.{Input}
+use Rattle.client_core.specs.declared.client.Client.{Client}
+use Rattle.client_core.specs.Bounds.{AreShort}
+use Rattle.client_core.specs.History.{Opening}
+use Rattle.client_core.specs.Ranges.{OpensInRange, CameInRange}
+use Rattle.client_core.specs.Saves.{Addition}
+use Rattle.client_core.specs.Hearing.{FrameEntry, packets_heard}
+use Rattle.client_core.specs.FrameEnds.{most_packets}
+use Rattle.node_power.specs.ClientKind as nodes
+use Rattle.cells.specs.Powers.{Kind, IsCut}
+use Rattle.cells.specs.ClientRules.{core}
+
+-- The kind of a client that was opened so.
+abbrev pub client_kind : {T : Type 0} → (T → Note) → Opening →
+    Kind (Client T) T Input FrameEntry Addition (List (List ℕ))
+client_kind note o = record {
+  node = nodes.client_kind note o;
+  core = core o;
+  InRange = λ past. CameInRange (packets_heard o past);
+  SendsFew = λ past e sent.
+      OpensInRange o → CameInRange (packets_heard o past) → AreShort (most_packets o past e) sent;
+}
+
+-- A cut of a client is one as of any node.
+pub client_is_cut : {T : Type 0} (note : T → Note) (o : Opening) (past : List FrameEntry) →
+    IsCut (client_kind note o) past
+client_is_cut note o past = record {
+  same_up = refl;
+  sends_none = refl;
+  off = refl;
+  ranges = λ h. h;
+  says = λ notes h. h;
+}

@@ -1,0 +1,65 @@
+-- The rules of the client under its lock.
+use Rattle.std.specs.Prelude.{◌+◌, false, List, Option, Some, None}
+use Rattle.std.specs.Option.{option_map}
+use Rattle.disk_model.specs.declared.left.Left.TheVariants.{NoSave}
+use Rattle.messages.specs.declared.frame.Frame.{Frame}
+use Rattle.messages.specs.declared.refusal.Act.TheVariants as acts
+use Rattle.messages.specs.FrameBytes.{frame_at}
+use Rattle.client_core.specs.declared.input.Input.{Input}
+use Rattle.client_core.specs.declared.input.Input.TheVariants as inputs
+use Rattle.client_core.specs.History.{Opening}
+use Rattle.client_core.specs.Words.{words_noted}
+use Rattle.client_core.specs.Hearing.{FrameEntry, Met, Cut, Restart, packets_heard, is_up}
+use Rattle.client_core.specs.FrameAnswers as answers
+use Rattle.cells.specs.declared.came.Came.{Came}
+use Rattle.cells.specs.declared.came.Came.TheVariants as came
+use Rattle.cells.specs.declared.answer.Answer.{Answer}
+use Rattle.cells.specs.declared.answer.Answer.TheVariants.{Plain, Run, Attempt}
+use Rattle.cells.specs.CoreRules.{CoreRules, rules_of}
+use Rattle.cells.specs.Rules.{Ask, Meets, Cuts, Restarts, Nothing, Rules}
+
+-- The frame that the bytes say is delivered.
+abbrev pub ask_of_frame : Option Frame → Ask Input
+ask_of_frame None = Nothing
+ask_of_frame (Some f) = Meets (inputs.Deliver f)
+
+-- What is asked of the client.
+abbrev pub ask_of : Came → Ask Input
+ask_of (came.Frame bytes) = ask_of_frame (frame_at bytes)
+ask_of (came.Begin text) = Meets (inputs.Begin text)
+ask_of (came.Trigger run act) = Meets (inputs.Trigger run act)
+ask_of (came.Stop run) = Meets (inputs.Stop run)
+ask_of (came.Verify run text) = Meets (inputs.Verify run text)
+ask_of came.Tick = Meets inputs.Tick
+ask_of came.Cut = Cuts
+ask_of came.Restart = Restarts
+ask_of _ = Nothing
+
+-- A begin is answered by its run, a verify by its attempt.
+abbrev pub answer_to : Opening → List FrameEntry → Input → Answer
+answer_to o past (inputs.Begin text) = Run ((words_noted o (packets_heard o past)).runs + 1)
+answer_to o past (inputs.Verify run text) =
+    Attempt ((words_noted o (packets_heard o past)).attempts + 1)
+answer_to o past _ = Plain
+
+-- What is known of the core of a client, which asks nothing of its caller. A restart is one without
+-- a mirror, and saves nothing; a renewal and the loss of a note are never added.
+abbrev pub core : Opening → CoreRules Input FrameEntry
+core o = record {
+  asked = ask_of;
+  is_up = is_up o;
+  refusal = answers.refusal o;
+  spent = λ past. None;
+  said = λ past e. record { answer = answer_to o past e; act = acts.None };
+  answered = answers.answered_entry o;
+  dropped = λ e. Met e NoSave;
+  unsaved = λ past e left. option_map (λ addition. Met e left) (answers.due o past e);
+  cut = Cut;
+  started = Restart false;
+  unstarted = λ left. None;
+  frames = answers.frames o;
+}
+
+-- The rules of a client that opens by a restart without a mirror.
+abbrev pub rules : Opening → Rules Input FrameEntry
+rules o = rules_of (core o)

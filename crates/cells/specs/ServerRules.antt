@@ -1,0 +1,69 @@
+-- The rules of a server under its lock.
+use Rattle.std.specs.Prelude.{Bool, true, false, if◌then◌else◌, Option, Some, None}
+use Rattle.std.specs.Option.{option_map}
+use Rattle.fc_base.specs.declared.fault.Fault.TheVariants.{NumbersSpent}
+use Rattle.fc_base.specs.Report.{is_report}
+use Rattle.engine.specs.declared.issue.Issue.{Issue}
+use Rattle.disk_model.specs.declared.left.Left.TheVariants.{NoSave, Saved}
+use Rattle.messages.specs.declared.frame.Frame.{Frame}
+use Rattle.messages.specs.FrameBytes.{frame_at}
+use Rattle.server_core.specs.declared.input.Input.{Input}
+use Rattle.server_core.specs.declared.input.Input.TheVariants as inputs
+use Rattle.server_core.specs.History.{Opening}
+use Rattle.server_core.specs.Words.{has_boot}
+use Rattle.server_core.specs.Hearing.{FrameEntry, Met, Cut, Restart, packets_heard, is_up}
+use Rattle.server_core.specs.FrameAnswers as answers
+use Rattle.cells.specs.declared.came.Came.{Came}
+use Rattle.cells.specs.declared.came.Came.TheVariants as came
+use Rattle.cells.specs.declared.answer.Answer.{Answer}
+use Rattle.cells.specs.declared.answer.Answer.TheVariants.{Plain, Issued}
+use Rattle.cells.specs.CoreRules.{CoreRules, rules_of}
+use Rattle.cells.specs.Rules.{Ask, Meets, Cuts, Restarts, Nothing, Rules}
+
+-- The frame that the bytes say is delivered.
+abbrev pub ask_of_frame : Option Frame → Ask Input
+ask_of_frame None = Nothing
+ask_of_frame (Some f) = Meets (inputs.Deliver f)
+
+-- The report of a check comes, as all that are handed in are within their ranges.
+abbrev pub ask_of_report : Bool → Input → Ask Input
+ask_of_report true e = Meets e
+ask_of_report false e = Nothing
+
+-- What is asked of a server.
+abbrev pub ask_of : Came → Ask Input
+ask_of (came.Frame bytes) = ask_of_frame (frame_at bytes)
+ask_of (came.Issue j) = Meets (inputs.Issue j)
+ask_of (came.WriteDone ticket end) = Meets (inputs.WriteDone ticket end)
+ask_of (came.CheckDone now attempt job report) =
+    ask_of_report (is_report report.value) (inputs.CheckDone now attempt job report.value)
+ask_of came.Cut = Cuts
+ask_of came.Restart = Restarts
+ask_of _ = Nothing
+
+-- What is answered of writes, if anything is.
+abbrev pub answer_of : Option Issue → Answer
+answer_of None = Plain
+answer_of (Some issue) = Issued issue
+
+-- What is known of the core of a server.
+abbrev pub core : Opening → CoreRules Input FrameEntry
+core o = record {
+  asked = ask_of;
+  is_up = is_up o;
+  refusal = answers.refusal o;
+  spent = λ past. if has_boot o (packets_heard o past) then None else Some NumbersSpent;
+  said = λ past e.
+      record { answer = answer_of (answers.issue o past e); act = answers.act o past e };
+  answered = answers.answered_entry o;
+  dropped = λ e. Met e NoSave;
+  unsaved = λ past e left. option_map (λ began. Met e left) (answers.due o past e);
+  cut = Cut;
+  started = Restart Saved;
+  unstarted = λ left. Some (Restart left);
+  frames = answers.frames o;
+}
+
+-- The rules of a server that opens by a restart.
+abbrev pub rules : Opening → Rules Input FrameEntry
+rules o = rules_of (core o)

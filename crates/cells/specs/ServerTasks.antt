@@ -1,0 +1,20 @@
+-- What a seat asks of a server, as what comes to it.
+use Rattle.std.specs.Prelude.{Bool, true, false}
+use Rattle.cells.specs.declared.came.Came.{Came}
+use Rattle.cells.specs.declared.came.Came.TheVariants as came
+use Rattle.cells.specs.declared.server_cell.task.ServerTask.{ServerTask}
+use Rattle.cells.specs.declared.server_cell.task.ServerTask.TheVariants.{Issue, WriteDone, Cut, Restart}
+
+-- What comes to the server.
+abbrev pub came_by : ServerTask → Came
+came_by (Issue j) = came.Issue j
+came_by (WriteDone ticket end) = came.WriteDone ticket end
+came_by Cut = came.Cut
+came_by Restart = came.Restart
+
+-- It loads the note.
+abbrev pub loads_note : ServerTask → Bool
+loads_note (Issue j) = false
+loads_note (WriteDone ticket end) = false
+loads_note Cut = false
+loads_note Restart = true

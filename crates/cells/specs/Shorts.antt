@@ -1,0 +1,60 @@
+-- What the short entries of workers' turns stand for.
+use Rattle.std.specs.Prelude.{[], Some, Result, Ok}
+use Rattle.fc_base.specs.declared.fault.Fault.{Fault}
+use Rattle.engine.specs.declared.issue.Issue.TheVariants as issues
+use Rattle.engine.specs.declared.issue.Ticket.{Ticket}
+use Rattle.server_core.specs.declared.event.WriteEnd.TheVariants as ends
+use Rattle.messages.specs.declared.refusal.Act.TheVariants as acts
+use Rattle.cells.specs.declared.answer.Answer.{Answer}
+use Rattle.cells.specs.declared.answer.Answer.TheVariants.{Plain, Issued}
+use Rattle.cells.specs.declared.answer.Said.{Said}
+use Rattle.cells.specs.declared.came.Came.{Came}
+use Rattle.cells.specs.declared.came.Came.TheVariants as came
+use Rattle.cells.specs.declared.logged.Logged.{Logged}
+use Rattle.cells.specs.declared.logged.Turn.{Turn}
+use Rattle.cells.specs.declared.short.Deed.{Deed}
+use Rattle.cells.specs.declared.short.Deed.TheVariants as deeds
+use Rattle.cells.specs.declared.short.Short.{Short}
+
+-- The entry of a seat's turn that sent nothing.
+abbrev pub turn_entry : Turn → Came → Result Said Fault → Logged
+turn_entry by came answer = record { by = Some by; came = came; answer = answer; sent = [] }
+
+-- It was answered so, without an act.
+abbrev pub reply_of : Answer → Result Said Fault
+reply_of answer = Ok (record { answer = answer; act = acts.None })
+
+-- Whose turn it was.
+abbrev pub turn_of : Short → Turn
+turn_of s = record { seat = s.seat; number = s.number }
+
+-- The write, where one is told of; else it names the job alone.
+abbrev pub ticket_of : Short → Ticket
+ticket_of s = record {
+  boot = s.boot;
+  key = record { run = s.run; server = s.server; job = s.job };
+  seq = s.seq;
+  block = s.block;
+}
+
+-- What came to the server.
+abbrev pub came_by : Deed → Ticket → Came
+came_by deeds.Done ticket = came.WriteDone ticket ends.Done
+came_by deeds.Failed ticket = came.WriteDone ticket ends.Failed
+came_by _ ticket = came.Issue ticket.key.job
+
+-- What was answered.
+abbrev pub answer_by : Deed → Ticket → Answer
+answer_by deeds.Write ticket = Issued (issues.Write ticket)
+answer_by deeds.Full ticket = Issued issues.Full
+answer_by deeds.Held ticket = Issued issues.Held
+answer_by deeds.Overlap ticket = Issued issues.Overlap
+answer_by deeds.Finished ticket = Issued issues.Finished
+answer_by deeds.Stopped ticket = Issued issues.Stopped
+answer_by deeds.Done ticket = Plain
+answer_by deeds.Failed ticket = Plain
+
+-- The entry that a short one stands for.
+abbrev pub entry_of : Short → Logged
+entry_of s = turn_entry (turn_of s) (came_by s.deed (ticket_of s))
+    (reply_of (answer_by s.deed (ticket_of s)))

@@ -1,0 +1,35 @@
+//! What the client is asked by its caller.
+
+ghost use Rattle.std.specs.Prelude.{◌≡◌};
+ghost use Rattle.cells.specs.ClientTasks.{came_of};
+
+use crate::came::Came;
+use fc_base::RunNo;
+use messages::{Act, Text};
+
+/// What the client is asked by its caller, and asks of its servers.
+#[derive(Drop)]
+pub enum ClientRequest {
+    /// Begin a run with this job file.
+    Begin(Text),
+    /// Trigger the verify states of a run, and then this act.
+    Trigger(RunNo, Act),
+    /// Issue no more writes in a run.
+    Stop(RunNo),
+    /// Check the files of a run by this job file.
+    Verify(RunNo, Text),
+}
+
+impl ClientRequest {
+    /// What comes to the client.
+    pub(crate) fn into_came(self) -> Came
+        ensures { result ≡ came_of self }
+    {
+        match self {
+            ClientRequest::Begin(text) => Came::Begin(text),
+            ClientRequest::Trigger(run, act) => Came::Trigger(run, act),
+            ClientRequest::Stop(run) => Came::Stop(run),
+            ClientRequest::Verify(run, text) => Came::Verify(run, text),
+        }
+    }
+}

@@ -1,0 +1,101 @@
+//! What a server takes that has power, or none.
+
+ghost use Rattle.std.specs.Prelude.{◌≡◌, ◌<◌, false, List};
+ghost use Rattle.server_core.specs.declared.input.Input.TheVariants as inputs;
+ghost use Rattle.server_core.specs.Handles.{outs_of_issue, outs_of_end};
+ghost use Rattle.server_core.specs.Hearing.{FrameEntry};
+ghost use Rattle.server_core.specs.History.{Opening};
+ghost use Rattle.cells.specs.Failures.{Counts};
+ghost use Rattle.cells.specs.Moves.{StepEnds, TaskEnds};
+ghost use Rattle.cells.specs.ServerRules.{ask_of};
+ghost use Rattle.cells.specs.ServerStands.{failures_of, reply_and_frames, ways, Stands};
+ghost use Rattle.cells.specs.ServerTasks.{came_by, loads_note};
+
+use super::task::ServerTask;
+use crate::answer::{Answer, Said};
+use disk_model::Notes;
+use engine::{Issue, Ticket};
+use fc_base::{Fault, JobNo, MAX_SERVERS, ServerNo};
+use messages::Act;
+use node_power::Power;
+use server_core::{Input, Outs, Server, WriteEnd, one_note};
+use std::alloc::Global;
+
+/// Takes what comes. `NodeOff`: it isn't on, and nothing changes. Any other fault is the server's.
+pub(crate) fn step<N: Notes + Drop>(
+    power: &mut Power<Server<N>, N>,
+    input: Input,
+) -> Result<Outs, Fault>
+    ensures ends { (o : Opening) (past : List FrameEntry) → Stands N.note o past power.old →
+        StepEnds (ways N.note o) past input power.new (reply_and_frames result) }
+    ensures count { (o : Opening) (past : List FrameEntry) → Stands N.note o past power.old →
+        Counts false (failures_of N.note power.old) (failures_of N.note power.new)
+        (reply_and_frames result) }
+{
+    power.on()?.step(input)
+}
+
+/// Asks for the next write of a job, as `step` does.
+#[inline(always)]
+fn issue<N: Notes + Drop>(power: &mut Power<Server<N>, N>, job: JobNo) -> Result<Issue, Fault>
+    ensures ends { (o : Opening) (past : List FrameEntry) → Stands N.note o past power.old →
+        StepEnds (ways N.note o) past (inputs.Issue job) power.new
+        (reply_and_frames (outs_of_issue result)) }
+    ensures count { (o : Opening) (past : List FrameEntry) → Stands N.note o past power.old →
+        Counts false (failures_of N.note power.old) (failures_of N.note power.new)
+        (reply_and_frames (outs_of_issue result)) }
+{
+    power.on()?.issue(job)
+}
+
+/// Tells how a write has ended, as `step` does.
+#[inline(always)]
+fn end_write<N: Notes + Drop>(
+    power: &mut Power<Server<N>, N>,
+    ticket: Ticket,
+    end: WriteEnd,
+) -> Result<(), Fault>
+    ensures ends { (o : Opening) (past : List FrameEntry) → Stands N.note o past power.old →
+        StepEnds (ways N.note o) past (inputs.WriteDone ticket end) power.new
+        (reply_and_frames (outs_of_end result)) }
+    ensures count { (o : Opening) (past : List FrameEntry) → Stands N.note o past power.old →
+        Counts false (failures_of N.note power.old) (failures_of N.note power.new)
+        (reply_and_frames (outs_of_end result)) }
+{
+    power.on()?.end_write(ticket, end)
+}
+
+/// Does what is asked from a seat, which sends nothing.
+#[inline(always)]
+pub(crate) fn perform<N: Notes + Drop>(
+    power: &mut Power<Server<N>, N>,
+    alloc: Global,
+    me: ServerNo,
+    task: &ServerTask,
+) -> Result<Said, Fault>
+    requires { me < MAX_SERVERS }
+    ensures ends { (o : Opening) (past : List FrameEntry) → o.me ≡ me →
+        Stands N.note o past power.old →
+        TaskEnds (ways N.note o) past (ask_of (came_by task.now)) power.new result }
+    ensures count { (o : Opening) (past : List FrameEntry) → o.me ≡ me →
+        Stands N.note o past power.old →
+        Counts (loads_note task.now) (failures_of N.note power.old)
+        (failures_of N.note power.new) result }
+{
+    match task {
+        ServerTask::Issue(job) => {
+            let answer = Answer::Issued(issue(power, *job)?);
+            let act = Act::None;
+            Ok(Said { answer, act })
+        }
+        ServerTask::WriteDone(ticket, end) => {
+            end_write(power, *ticket, *end)?;
+            Ok(Said::plain())
+        }
+        ServerTask::Cut => Said::of_power(power.cut()),
+        ServerTask::Restart => {
+            one_note();
+            Said::of_power(power.restart(alloc, me))
+        }
+    }
+}

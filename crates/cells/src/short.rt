@@ -1,0 +1,178 @@
+//! What a worker asks its server, or tells it, and is answered, in few bytes.
+
+ghost use Rattle.std.specs.Prelude.{◌≡◌, IfSome};
+ghost use Rattle.cells.specs.declared.answer.Answer.TheVariants.{Plain, Issued};
+ghost use Rattle.cells.specs.declared.came.Came.TheVariants as came;
+ghost use Rattle.cells.specs.Shorts.{entry_of, turn_entry, reply_of, turn_of, ticket_of, came_by, answer_by};
+
+use crate::answer::{Answer, Said};
+use crate::came::Came;
+use crate::logged::{Logged, Turn};
+use engine::{Issue, Ticket};
+use fc_base::{JobNo, Key, RunNo, Seq, ServerNo};
+use messages::{Act, Frames};
+use server_core::WriteEnd;
+use std::alloc::Global;
+
+/// What a worker asked or told, and was answered.
+#[derive(Clone, Copy, PartialEq, Eq)]
+pub(crate) enum Deed {
+    /// It asked for a write, and one was issued.
+    Write,
+    /// It asked for a write, and none was issued: the same as of [`Issue`].
+    Full,
+    Held,
+    Overlap,
+    Finished,
+    Stopped,
+    /// It told that a write is done.
+    Done,
+    /// It told that a write has failed.
+    Failed,
+}
+
+/// An entry of a worker's turn, whose numbers are small. Where no write is told of, all of them but the
+/// job's are 0.
+#[derive(Clone, Copy, PartialEq, Eq)]
+pub(crate) struct Short {
+    deed: Deed,
+    seat: u8,
+    server: u8,
+    job: u8,
+    number: u32,
+    boot: u32,
+    run: u32,
+    seq: u32,
+    block: u32,
+}
+
+impl Short {
+    /// The entry of a request for a write of a job; `None` where a number of it is too large.
+    #[inline(always)]
+    pub(crate) fn of_issue(by: Turn, job: JobNo, issue: Issue) -> Option<Short>
+        ensures { IfSome result
+            (λ short. entry_of short ≡ turn_entry by (came.Issue job) (reply_of (Issued issue))) }
+    {
+        match issue {
+            Issue::Write(ticket) => {
+                if ticket.key.job == job {
+                    Short::new(Deed::Write, by, &ticket)
+                } else {
+                    None
+                }
+            }
+            Issue::Full => Short::new(Deed::Full, by, &no_write(job)),
+            Issue::Held => Short::new(Deed::Held, by, &no_write(job)),
+            Issue::Overlap => Short::new(Deed::Overlap, by, &no_write(job)),
+            Issue::Finished => Short::new(Deed::Finished, by, &no_write(job)),
+            Issue::Stopped => Short::new(Deed::Stopped, by, &no_write(job)),
+        }
+    }
+
+    /// The entry of the end of a write; `None` where a number of it is too large.
+    #[inline(always)]
+    pub(crate) fn of_end(by: Turn, ticket: &Ticket, end: WriteEnd) -> Option<Short>
+        ensures { IfSome result
+            (λ short. entry_of short
+            ≡ turn_entry by (came.WriteDone ticket.now end) (reply_of Plain)) }
+    {
+        match end {
+            WriteEnd::Done => Short::new(Deed::Done, by, ticket),
+            WriteEnd::Failed => Short::new(Deed::Failed, by, ticket),
+        }
+    }
+
+    /// These, where they fit.
+    #[inline(always)]
+    fn new(deed: Deed, by: Turn, ticket: &Ticket) -> Option<Short>
+        ensures deed { IfSome result (λ short. short.deed ≡ deed) }
+        ensures turn { IfSome result (λ short. turn_of short ≡ by) }
+        ensures ticket { IfSome result (λ short. ticket_of short ≡ ticket.now) }
+    {
+        let Key { run, server, job } = ticket.key;
+        Some(Short {
+            deed,
+            seat: u8::try_from(by.seat).ok()?,
+            server: u8::try_from(server.0).ok()?,
+            job: u8::try_from(job.0).ok()?,
+            number: u32::try_from(by.number).ok()?,
+            boot: u32::try_from(ticket.boot).ok()?,
+            run: u32::try_from(run.0).ok()?,
+            seq: u32::try_from(ticket.seq.0).ok()?,
+            block: ticket.block,
+        })
+    }
+
+    /// The entry.
+    pub(crate) fn logged(&self, alloc: Global) -> Logged
+        ensures { result ≡ entry_of self.now }
+    {
+        Logged {
+            by: Some(Turn {
+                seat: u32::from(self.seat),
+                number: u64::from(self.number),
+            }),
+            came: self.came(),
+            answer: Ok(Said {
+                answer: self.answer(),
+                act: Act::None,
+            }),
+            sent: Frames::new(alloc),
+        }
+    }
+
+    fn came(&self) -> Came
+        ensures { result ≡ came_by self.now.deed (ticket_of self.now) }
+    {
+        match self.deed {
+            Deed::Done => Came::WriteDone(self.ticket(), WriteEnd::Done),
+            Deed::Failed => Came::WriteDone(self.ticket(), WriteEnd::Failed),
+            _ => Came::Issue(JobNo(u32::from(self.job))),
+        }
+    }
+
+    fn answer(&self) -> Answer
+        ensures { result ≡ answer_by self.now.deed (ticket_of self.now) }
+    {
+        match self.deed {
+            Deed::Write => Answer::Issued(Issue::Write(self.ticket())),
+            Deed::Full => Answer::Issued(Issue::Full),
+            Deed::Held => Answer::Issued(Issue::Held),
+            Deed::Overlap => Answer::Issued(Issue::Overlap),
+            Deed::Finished => Answer::Issued(Issue::Finished),
+            Deed::Stopped => Answer::Issued(Issue::Stopped),
+            Deed::Done | Deed::Failed => Answer::Plain,
+        }
+    }
+
+    fn ticket(&self) -> Ticket
+        ensures { result ≡ ticket_of self.now }
+    {
+        Ticket {
+            boot: u64::from(self.boot),
+            key: Key {
+                run: RunNo(u64::from(self.run)),
+                server: ServerNo(u32::from(self.server)),
+                job: JobNo(u32::from(self.job)),
+            },
+            seq: Seq(u64::from(self.seq)),
+            block: self.block,
+        }
+    }
+}
+
+/// What names a job where there is no write.
+fn no_write(job: JobNo) -> Ticket
+    ensures { result.key.job ≡ job }
+{
+    Ticket {
+        boot: 0,
+        key: Key {
+            run: RunNo(0),
+            server: ServerNo(0),
+            job,
+        },
+        seq: Seq(0),
+        block: 0,
+    }
+}

@@ -1,3 +1,0 @@
-mod CellLemmas
-mod HearLemmas
-mod PowerLemmas

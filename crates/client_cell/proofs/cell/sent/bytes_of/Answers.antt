@@ -1,6 +1,0 @@
-use Rattle.client_cell.proofs.HearLemmas.{one_more}
-use Rattle.client_cell.proofs.cell.sent.bytes_of.Goals as goal
-
-pub loop-i-preserved : goal.loop-i-preserved
-loop-i-preserved c = one_more c.args.frames.now c.loop-i.i c.in_ok-frame.frame.now c.loop-i.bytes c.in_ok-bytes.bytes c.in_ok-frame.ensures c.loop-i.invariant
-    c.in_ok-bytes.ensures.1

@@ -1,6 +1,0 @@
-use Rattle.std.proofs.Common.{◌≡◌, take}
-use Rattle.fleet.specs.Asked.{asked_of_client, errand}
-use Rattle.fleet.proofs.asked.is_errand.Given as goal
-
-abbrev pub invariant-loop-at : goal.invariant-loop-at
-invariant-loop-at l = asked_of_client (take l.at l.history.items) ≡ take l.done (errand l.run l.write l.read)

@@ -1,0 +1,6 @@
+use Rattle.net_world.proofs.MirrorNodeLemmas.{weak, cut_stands}
+use Rattle.net_world.proofs.mirror_node.cut.Goals as goal
+
+pub returns : goal.returns
+returns c o past s =
+    cut_stands o past c.args.node.now c.cut-was_on.new.self c.cut-was_on.result s (c.cut-was_on.ensures o past (weak o past c.args.node.now s))

@@ -1,8 +1,0 @@
-pub mod CallLemmas
-pub mod ClientStarts
-pub mod HistoryLemmas
-pub mod HubLemmas
-pub mod MoveLemmas
-pub mod PowerLemmas
-pub mod ServerStarts
-pub mod StepLemmas

@@ -1,0 +1,22 @@
+-- What kind of node the client is.
+use Rattle.std.specs.Prelude.{ℕ, List}
+use Rattle.disk_model.specs.Notes.{Note}
+use Rattle.client_core.specs.declared.client.Client.{Client}
+use Rattle.client_core.specs.declared.input.Input.{Input}
+use Rattle.client_core.specs.History.{Opening}
+use Rattle.client_core.specs.Note.{Says}
+use Rattle.client_core.specs.Words.{words_noted}
+use Rattle.client_core.specs.Saves.{Addition}
+use Rattle.client_core.specs.Hearing.{FrameEntry, packets_heard, is_up}
+use Rattle.client_core.specs.FrameEnds.{steps}
+use Rattle.node_power.specs.Kinds.{Kind}
+
+-- The kind of a client that was opened so.
+abbrev pub client_kind : {T : Type 0} → (T → Note) → Opening →
+    Kind (Client T) T Input FrameEntry Addition (List (List ℕ))
+client_kind note o = record {
+  core = steps note o;
+  note = note;
+  is_up = is_up o;
+  Says = λ past notes. Says (note notes).bytes (words_noted o (packets_heard o past));
+}

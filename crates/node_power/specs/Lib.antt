@@ -1,0 +1,4 @@
+pub mod ClientKind
+pub mod Kinds
+pub mod MirrorKind
+pub mod ServerKind

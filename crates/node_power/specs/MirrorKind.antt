@@ -1,0 +1,22 @@
+-- What kind of node a mirror is.
+use Rattle.std.specs.Prelude.{ℕ, List}
+use Rattle.disk_model.specs.Notes.{Note}
+use Rattle.messages.specs.declared.frame.Frame.{Frame}
+use Rattle.mirror_core.specs.declared.mirror.Mirror.{Mirror}
+use Rattle.mirror_core.specs.declared.noted.Noted.{Noted}
+use Rattle.mirror_core.specs.History.{Entry}
+use Rattle.mirror_core.specs.Note.{Says}
+use Rattle.mirror_core.specs.Saves.{Addition}
+use Rattle.mirror_core.specs.Words.{is_on, words_noted}
+use Rattle.mirror_core.specs.Ends.{steps}
+use Rattle.node_power.specs.Kinds.{Kind}
+
+-- The kind of a mirror whose note said this.
+abbrev pub mirror_kind : {T : Type 0} → (T → Note) → Noted →
+    Kind (Mirror T) T Frame Entry Addition (List (List ℕ))
+mirror_kind note o = record {
+  core = steps note o;
+  note = note;
+  is_up = is_on;
+  Says = λ past notes. Says (note notes).bytes (words_noted o past);
+}

@@ -1,0 +1,21 @@
+-- What kind of node a server is.
+use Rattle.disk_model.specs.Notes.{Note}
+use Rattle.server_core.specs.declared.input.Input.{Input}
+use Rattle.server_core.specs.declared.outs.Outs.{Outs}
+use Rattle.server_core.specs.declared.server.Server.{Server}
+use Rattle.server_core.specs.History.{Opening}
+use Rattle.server_core.specs.Note.{Says}
+use Rattle.server_core.specs.Words.{Staged, words_noted}
+use Rattle.server_core.specs.Hearing.{FrameEntry, packets_heard, is_up}
+use Rattle.server_core.specs.FrameEnds.{steps}
+use Rattle.node_power.specs.Kinds.{Kind}
+
+-- The kind of a server that was opened so.
+abbrev pub server_kind : {T : Type 0} → (T → Note) → Opening →
+    Kind (Server T) T Input FrameEntry Staged Outs
+server_kind note o = record {
+  core = steps note o;
+  note = note;
+  is_up = is_up o;
+  Says = λ past notes. Says (note notes).bytes (words_noted o (packets_heard o past));
+}

@@ -1,5 +1,0 @@
-use Rattle.node_traces.proofs.TraceLemmas.{agreeing_nodes_are_a_trace as agree}
-use Rattle.node_traces.proofs.law.agreeing_nodes_are_a_trace.Goals as goal
-
-pub returns : goal.returns
-returns c = agree c.merges_name_a_trace.ensures c.merged_orders_are_merges.ensures

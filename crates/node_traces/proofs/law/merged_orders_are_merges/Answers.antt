@@ -1,5 +1,0 @@
-use Rattle.node_traces.proofs.MergedLemmas.{merged_orders_are_merges as merges}
-use Rattle.node_traces.proofs.law.merged_orders_are_merges.Goals as goal
-
-pub returns : goal.returns
-returns c = merges

@@ -1,6 +1,0 @@
-use Rattle.std.proofs.Common.{◌≡◌}
-use Rattle.server_cell.specs.Seated.{new_seats}
-use Rattle.server_cell.proofs.seats.new_seats.Given as goal
-
-abbrev pub invariant-loop-number : goal.invariant-loop-number
-invariant-loop-number l = l.seats.items ≡ new_seats l.me l.number

@@ -1,9 +1,0 @@
--- What a report asks of a server.
-use Rattle.server_core.specs.declared.input.Input.{Input}
-use Rattle.server_core.specs.declared.input.Input.TheVariants.{CheckDone}
-use Rattle.node_history.specs.Rules.{Ask, Meets}
-use Rattle.server_cell.specs.declared.report.Report.{Report}
-
--- A report has the server take the end of a check.
-abbrev pub asks_of : Report → Ask Input
-asks_of r = Meets (CheckDone r.boot r.attempt r.job r.report)

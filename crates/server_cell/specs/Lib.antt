@@ -1,6 +1,0 @@
-pub mod Asks
-pub mod Calls
-pub mod Cells
-pub mod Seated
-pub mod Stands
-pub mod Tasks
