@@ -34,7 +34,8 @@ class Fleet:
         except OSError as error:
             raise Refused(f"{words[0]}: {error.strerror}") from None
         self.links, self.servers, self.mirror = [], [], None
-        threading.Thread(target=self.run, daemon=True).start()
+        self.listener = threading.Thread(target=self.run, daemon=True)
+        self.listener.start()
         fault = self.ask(NOTE, opening)
         if fault:
             raise Refused(f"{note}: the node refuses it, {fault}")
@@ -195,10 +196,13 @@ class Fleet:
         return self.reports
 
     def close(self):
+        """Ends this life. What the node had said by then is carried out before its note is given up:
+        a save that is still under way would undo those of the next life."""
         for it in [*self.links, *([self.mirror] if self.mirror else [])]:
             it.close()
         self.process.kill()
         self.process.wait()
+        self.listener.join()
         self.kept.close()
 
 

@@ -1,11 +1,12 @@
 """Fleets with a mirror: the client's note is lost, the mirror is killed, its link is bad, or another
-takes its place."""
+takes its place; and what a client that begins anew finds."""
 import os
 import random
 import re
 import shlex
 import shutil
 import subprocess
+import sys
 import time
 
 from serving import FLEET, TOP, Servers, fleet, job_file, reports
@@ -120,3 +121,25 @@ def taken_places():
         shutil.copy("place.kept", "torn.kept")
         write("torn.kept", read("torn.kept")[:-1])
         tell_has(f"a mirror on {what}", fleet("mirror", "--note", note)[2], why)
+
+
+LIVES = """import sys, time
+from fleet import Fleet
+for life in range(2):
+    client = Fleet("lives.note", [])
+    time.sleep(0.2)
+    client.close()
+    with open("lives.note", "rb") as it:
+        kept = it.read()
+    time.sleep(0.5)
+    with open("lives.note", "rb") as it:
+        print(kept == it.read())
+"""
+
+
+def ended_lives():
+    """A client whose node is busy saving ends its life: behind that nothing is saved any more, so that
+    the next life finds all that was."""
+    ways = {**os.environ, "NODE": f"{TOP}/harness/testing/saving_node.py", "PYTHONPATH": f"{TOP}/harness/client", "PYTHONDONTWRITEBYTECODE": "1"}
+    ran = subprocess.run([sys.executable, "-c", LIVES], env=ways, capture_output=True, text=True, timeout=100)
+    tell("no life saves behind its end", (ran.returncode, ran.stdout, ran.stderr), (0, "True\nTrue\n", ""))
