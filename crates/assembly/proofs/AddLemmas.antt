@@ -11,7 +11,7 @@ use Rattle.fc_base.specs.declared.fault.FaultSort.TheVariants as sorts
 use Rattle.fc_base.specs.Fault.{sort_of}
 use Rattle.disk_model.specs.Left.{is_lost}
 use Rattle.messages.specs.FrameBytes.{frame_spelling}
-use Rattle.cells.specs.declared.answer.Said.{Said}
+use Rattle.cells.specs.declared.answer.Reply.{Reply}
 use Rattle.cells.specs.AtHub.{is_drop, is_left_out, is_save}
 use Rattle.cells.specs.Replay.{Ends, Passes, Stops}
 use Rattle.cells.specs.Rules.{Ask, Meets, Cuts, Restarts, Nothing}
@@ -120,7 +120,7 @@ drops k past Nothing fault sent after d p = absurd (no_power None false fault d 
 
 -- What isn't left out adds an entry.
 pub adds : {E X : Type 0} {c : CoreRules E X} {IsAsked : Ask E → X → Type 0} → Known c IsAsked → (past : List X) (ask : Ask E)
-    (answer : Result Said Fault) (sent : List (List ℕ)) (after : List X)
+    (answer : Result Reply Fault) (sent : List (List ℕ)) (after : List X)
     → is_left_out answer ≡ false → Ends (rules_of c) past ask answer sent after → Adds c IsAsked past ask sent after
 adds k past ask (Ok said) sent after h ends =
     record { entry = ends.entry; after_is = ends.after_is; sent_are = ends.sent_are; is_asked = accepted k past ask ends.entry ends.free ends.entry_is }
@@ -147,6 +147,6 @@ passed_none c past Restarts fault h = refl
 passed_none c past Nothing fault h = refl
 
 -- What is left out changes nothing.
-pub stays : {E X : Type 0} (c : CoreRules E X) (past : List X) (ask : Ask E) (answer : Result Said Fault) (sent : List (List ℕ)) (after : List X)
+pub stays : {E X : Type 0} (c : CoreRules E X) (past : List X) (ask : Ask E) (answer : Result Reply Fault) (sent : List (List ℕ)) (after : List X)
     → is_left_out answer ≡ true → Ends (rules_of c) past ask answer sent after → after ≡ past
 stays c past ask answer sent after h ends = left_out_stays (rules_of c) (passed_none c) past ask answer sent after h ends

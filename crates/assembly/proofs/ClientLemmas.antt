@@ -37,8 +37,8 @@ use Rattle.client_core.specs.Words as words
 use Rattle.client_core.specs.Words.{is_on, words_noted}
 use Rattle.client_core.specs.Hearing.{FrameEntry, Met, Cut, Restart, Renew, Lose, coming_of, heard_at, packets_heard, rules as hearing, arrival}
 use Rattle.client_core.specs.FrameAnswers as answers
-use Rattle.cells.specs.declared.came.Came.{Came}
-use Rattle.cells.specs.declared.came.Came.TheVariants as came
+use Rattle.cells.specs.declared.input.NodeInput.{NodeInput}
+use Rattle.cells.specs.declared.input.NodeInput.TheVariants as came
 use Rattle.cells.specs.Rules.{Ask, Meets, Cuts, Restarts, Nothing}
 use Rattle.cells.specs.CoreRules.{left_by}
 use Rattle.cells.specs.ClientRules.{ask_of, ask_of_frame, core}
@@ -189,7 +189,7 @@ unfolding IsOf
 asked_frame frames None h = tt
 asked_frame frames (Some f) h = h f refl
 
-asked_of : (frames : List Frame) (c : Came) → CameOf frames (frame_of c) → IsOf frames (ask_of c)
+asked_of : (frames : List Frame) (c : NodeInput) → CameOf frames (frame_of c) → IsOf frames (ask_of c)
 unfolding IsOf
 asked_of frames (came.Frame bytes) h = asked_frame frames (frame_at bytes) h
 asked_of frames (came.Issue j) h = tt
@@ -217,7 +217,7 @@ happens frames ask (Renew g left) h k = absurd k
 happens frames ask Lose h k = absurd k
 
 -- It may happen behind these frames.
-pub client_happens : (frames : List Frame) (c : Came) (e : FrameEntry) → CameOf frames (frame_of c) → IsAsked (ask_of c) e
+pub client_happens : (frames : List Frame) (c : NodeInput) (e : FrameEntry) → CameOf frames (frame_of c) → IsAsked (ask_of c) e
     → MayHappen frames (OfClient (coming_of e))
 client_happens frames c e h k = happens frames (ask_of c) e (asked_of frames c h) k
 
@@ -235,6 +235,6 @@ allowed n t ask (Renew g left) k = absurd k
 allowed n t ask Lose k = absurd k
 
 -- It is one without a mirror.
-pub client_allowed : (n : ℕ) (t : List FrameStep) (c : Came) (e : FrameEntry) → IsAsked (ask_of c) e
+pub client_allowed : (n : ℕ) (t : List FrameStep) (c : NodeInput) (e : FrameEntry) → IsAsked (ask_of c) e
     → is_allowed (without_mirror n) t (OfClient (coming_of e)) ≡ true
 client_allowed n t c e k = allowed n t (ask_of c) e k

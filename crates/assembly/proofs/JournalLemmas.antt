@@ -9,7 +9,7 @@ use Rattle.hub.specs.declared.line.Line.{Line}
 use Rattle.hub.specs.Network.{Network}
 use Rattle.hub.specs.Waiting.{is_same_node}
 use Rattle.hub.specs.Journal.{count_sent}
-use Rattle.cells.specs.declared.logged.Logged.{Logged}
+use Rattle.cells.specs.declared.entry.HistoryEntry.{HistoryEntry}
 use Rattle.assembly.specs.Marks.{Mark, mark_of_line, marks_in, marks_of}
 use Rattle.assembly.specs.Orders.{places_between, next_place, up_to_last}
 use Rattle.assembly.specs.Rising.{HistoriesRise, marks_before}
@@ -120,7 +120,7 @@ followed_more r net older l before old new few sent followed told =
       marked = λ node. marked_by node (is_same_node l.node node) refl;
     }
   where
-    ran : Node → List Logged
+    ran : Node → List HistoryEntry
     ran = history_of r
 
     from_is : next_of old.next l.node ≡ next_place l.node older
@@ -165,11 +165,11 @@ followed_line r net i l before old new few is followed sent told =
     )
 
 -- The place from which its node is to be followed is there.
-pub next_within : (r : Ran) (net : Network) (journal : List Line) (old : Followed) (node : Node) (list : List Logged) → IsFollowed r net journal old
+pub next_within : (r : Ran) (net : Network) (journal : List Line) (old : Followed) (node : Node) (list : List HistoryEntry) → IsFollowed r net journal old
     → list ≡ reverse (history_of r node)
     → next_of old.next node ≤ length list
 next_within r net journal old node list followed e =
-    omega (arith, followed.next node, followed.within node, ap (λ (ls : List Logged). length ls) e, length-reverse (history_of r node))
+    omega (arith, followed.next node, followed.within node, ap (λ (ls : List HistoryEntry). length ls) e, length-reverse (history_of r node))
 
 -- An entry that isn't told differs from the history of its node.
 pub differs_there : (r : Ran) (net : Network) (lines : List Line) (i : ℕ) (l : Line) (before : ℕ) (old : Followed) (fault : AssembleFault)

@@ -6,7 +6,7 @@ use Rattle.messages.specs.declared.node.Node.{Node}
 use Rattle.messages.specs.declared.node.Node.TheVariants.{Server, Client, Mirror}
 use Rattle.hub.specs.declared.line.Line.{Line}
 use Rattle.hub.specs.Waiting.{is_same_node}
-use Rattle.cells.specs.declared.logged.Logged.{Logged}
+use Rattle.cells.specs.declared.entry.HistoryEntry.{HistoryEntry}
 use Rattle.assembly.specs.declared.place.Place.{Place}
 use Rattle.hub.specs.Journal.{count_sent}
 use Rattle.assembly.specs.Marks.{Mark, mark_of_line, marks_in, marks_of}
@@ -20,13 +20,13 @@ use Rattle.assembly.proofs.NodeLemmas.{IsBelow, with_history}
 -- ---- the histories
 
 -- A node with an event is one of those that ran.
-none_stands : (h : List Logged) (at : ℕ) (rest : List ℕ) → h ≡ [] → standing_places h ≡ at ∷ rest → ⊥
+none_stands : (h : List HistoryEntry) (at : ℕ) (rest : List ℕ) → h ≡ [] → standing_places h ≡ at ∷ rest → ⊥
 none_stands h at rest e is = never (sym (ap standing_places e) ∙ is)
   where
     never : [] ≡ at ∷ rest → ⊥
     never h = cc
 
-pub node_below : (n : ℕ) (ran : Node → List Logged) (node : Node) (at : ℕ) (rest : List ℕ) → EndAt n ran → standing_places (ran node) ≡ at ∷ rest
+pub node_below : (n : ℕ) (ran : Node → List HistoryEntry) (node : Node) (at : ℕ) (rest : List ℕ) → EndAt n ran → standing_places (ran node) ≡ at ∷ rest
     → IsBelow n node
 node_below n ran Client at rest ends is = tt
 node_below n ran Mirror at rest ends is = none_stands (ran Mirror) at rest ends.mirror is
@@ -41,7 +41,7 @@ few_below n (Server s) l h = omega (arith, l, h)
 few_below n Client l h = tt
 few_below n Mirror l h = h
 
-pub ends_with : (n : ℕ) (node : Node) (h : List Logged) (ran : Node → List Logged) → IsBelow n node → EndAt n ran → EndAt n (with_history node h ran)
+pub ends_with : (n : ℕ) (node : Node) (h : List HistoryEntry) (ran : Node → List HistoryEntry) → IsBelow n node → EndAt n ran → EndAt n (with_history node h ran)
 ends_with n Client h ran b ends = record { servers = ends.servers; mirror = ends.mirror }
 ends_with n Mirror h ran b ends = absurd b
 ends_with n (Server r) h ran b ends = record {
@@ -53,7 +53,7 @@ ends_with n (Server r) h ran b ends = record {
     differ a b h = grind (arith, nat_tests, h)
 
 -- So the order without that event has the places of what is left.
-pub places_left : (p : Place) (order : List Place) (ran : Node → List Logged) (older : List Logged)
+pub places_left : (p : Place) (order : List Place) (ran : Node → List HistoryEntry) (older : List HistoryEntry)
     → ((node : Node) → places_of node (p ∷ order) ≡ standing_places (ran node)) → standing_places older ≡ places_of p.node order → (node : Node)
     → places_of node order ≡ standing_places (with_history p.node older ran node)
 places_left p order ran older places rest node = by_test (is_same_node p.node node) refl
@@ -110,13 +110,13 @@ has_in (p ∷ order) node at h = by_test (λ k. has_in order node at k) (is_same
     by_test later false e (inr k) = subst (λ (xs : List ℕ). IsIn xs at) (sym (other_places p.node node (p.at ∷ []) order e)) (later k)
 
 -- A mark of what is left isn't at the newest event's place.
-pub older_place : (older : List Logged) (at : ℕ) (mark : Mark) (marks : List Mark) → length older ≡ at → marks_of older ≡ mark ∷ marks → mark.at ≡ at → ⊥
+pub older_place : (older : List HistoryEntry) (at : ℕ) (mark : Mark) (marks : List Mark) → length older ≡ at → marks_of older ≡ mark ∷ marks → mark.at ≡ at → ⊥
 older_place older at mark marks len is e =
     let falls = subst (λ (ms : List Mark). Falls (length older) (marked_at ms)) is (marks_fall older) in
     omega (arith, falls.0, len, e)
 
 -- A place that isn't left isn't that of a mark.
-pub place_left : (older : List Logged) (order : List Place) (node : Node) (at : ℕ) → length older ≡ at → standing_places older ≡ places_of node order
+pub place_left : (older : List HistoryEntry) (order : List Place) (node : Node) (at : ℕ) → length older ≡ at → standing_places older ≡ places_of node order
     → HasPlace order node at → ⊥
 place_left older order node at len rest h =
     let less = in_falls (length older) at (standing_places older) (standing_falls older)
@@ -125,10 +125,10 @@ place_left older order node at len rest h =
 
 -- ---- the marks of what is left
 
-pub own_marks : (p : Place) (older : List Logged) (ran : Node → List Logged) (node : Node) → is_same_node p.node node ≡ true
+pub own_marks : (p : Place) (older : List HistoryEntry) (ran : Node → List HistoryEntry) (node : Node) → is_same_node p.node node ≡ true
     → marks_of (with_history p.node older ran node) ≡ marks_of older
 own_marks p older ran node e = ap (λ (b : Bool). marks_of (if b then older else ran node)) e
 
-pub other_marks : (p : Place) (older : List Logged) (ran : Node → List Logged) (node : Node) → is_same_node p.node node ≡ false
+pub other_marks : (p : Place) (older : List HistoryEntry) (ran : Node → List HistoryEntry) (node : Node) → is_same_node p.node node ≡ false
     → marks_of (with_history p.node older ran node) ≡ marks_of (ran node)
 other_marks p older ran node e = ap (λ (b : Bool). marks_of (if b then older else ran node)) e

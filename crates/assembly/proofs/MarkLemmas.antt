@@ -5,7 +5,7 @@ use Rattle.std.specs.Prelude.{reverse, if◌then◌else◌, slice_get}
 use Rattle.std.specs.Option.{ForSome}
 use Rattle.std.proofs.lemmas.List.{append_assoc, length-append, length-reverse}
 use Rattle.std.proofs.lemmas.Option.{slice_get_cases}
-use Rattle.cells.specs.declared.logged.Logged.{Logged}
+use Rattle.cells.specs.declared.entry.HistoryEntry.{HistoryEntry}
 use Rattle.cells.specs.AtHub.{is_left_out}
 use Rattle.assembly.specs.Marks.{Mark, frame_of, mark_of, marks_if, marks_of}
 use Rattle.assembly.specs.Rising.{MarksRise, marks_before}
@@ -27,7 +27,7 @@ none_or_one at None (f ∷ fs) = inr refl
 none_or_one at (Some bytes) sent = inr refl
 
 -- An event has its whole mark, or none.
-abbrev pub OneMark : ℕ → Logged → Type 0
+abbrev pub OneMark : ℕ → HistoryEntry → Type 0
 OneMark at l = (mark_of at l ≡ []) ⊎ (mark_of at l ≡ whole_mark at l ∷ [])
 
 one_if : (at : ℕ) (taken : Option (List ℕ)) (sent : List (List ℕ))
@@ -39,26 +39,26 @@ one_if at taken sent = by_mark (none_or_one at taken sent)
     by_mark (inl none) = inl none.no_mark
     by_mark (inr one) = inr one
 
-one_by : (at : ℕ) (l : Logged) (b : Bool) →
+one_by : (at : ℕ) (l : HistoryEntry) (b : Bool) →
     ((if b then [] else marks_if at (frame_of l.came) l.sent) ≡ []) ⊎ ((if b then [] else marks_if at (frame_of l.came) l.sent) ≡ whole_mark at l ∷ [])
 one_by at l true = inl refl
 one_by at l false = one_if at (frame_of l.came) l.sent
 
-pub one_mark : (at : ℕ) (l : Logged) → OneMark at l
+pub one_mark : (at : ℕ) (l : HistoryEntry) → OneMark at l
 one_mark at l = one_by at l (is_left_out l.answer)
 
-stands_by : (at : ℕ) (l : Logged) (b : Bool) → (if b then [] else marks_if at (frame_of l.came) l.sent) ≡ whole_mark at l ∷ [] → b ≡ false
+stands_by : (at : ℕ) (l : HistoryEntry) (b : Bool) → (if b then [] else marks_if at (frame_of l.came) l.sent) ≡ whole_mark at l ∷ [] → b ≡ false
 stands_by at l true e = cc
 stands_by at l false e = refl
 
 -- What is marked stands in its list.
-pub stands : (at : ℕ) (l : Logged) → mark_of at l ≡ whole_mark at l ∷ [] → is_left_out l.answer ≡ false
+pub stands : (at : ℕ) (l : HistoryEntry) → mark_of at l ≡ whole_mark at l ∷ [] → is_left_out l.answer ≡ false
 stands at l e = stands_by at l (is_left_out l.answer) e
 
 -- ---- how the marks go on
 
 -- The marks go on from those before a place with one that isn't below it, or there are no more.
-pub record Further (h : List Logged) (from : ℕ) : Type 0 where
+pub record Further (h : List HistoryEntry) (from : ℕ) : Type 0 where
   event : Option Mark
   goes_on : GoesOn (marks_before from h) (marks_of h) event
   low : ForSome event (λ m. from ≤ m.at)
@@ -69,15 +69,15 @@ rest_of older marks None e = ([], e)
 rest_of older marks (Some m) e = (e.0 ++ m ∷ [], e.1 ∙ sym (append_assoc e.0 (m ∷ []) older))
 
 -- The event at a place of a history.
-pub at_place : (h : List Logged) (at : ℕ) → at < length h → (l : Logged) × (slice_get (reverse h) at ≡ Some l)
+pub at_place : (h : List HistoryEntry) (at : ℕ) → at < length h → (l : HistoryEntry) × (slice_get (reverse h) at ≡ Some l)
 at_place h at low = by (slice_get_cases (reverse h) at).1
   where
-    by : ((l : Logged) × (at < length (reverse h)) × (slice_get (reverse h) at ≡ Some l) × (get_or (reverse h) at l ≡ l))
-        ⊎ ((length (reverse h) ≤ at) × (slice_get (reverse h) at ≡ None)) → (l : Logged) × (slice_get (reverse h) at ≡ Some l)
+    by : ((l : HistoryEntry) × (at < length (reverse h)) × (slice_get (reverse h) at ≡ Some l) × (get_or (reverse h) at l ≡ l))
+        ⊎ ((length (reverse h) ≤ at) × (slice_get (reverse h) at ≡ None)) → (l : HistoryEntry) × (slice_get (reverse h) at ≡ Some l)
     by (inl p) = (p.0, p.2)
     by (inr p) = absurd (omega (arith, p.0, length-reverse h, low))
 
-one_further : (h : List Logged) (rise : MarksRise h) (from : ℕ) (l : Logged) → slice_get (reverse h) from ≡ Some l → Further h (from + 1) → OneMark from l
+one_further : (h : List HistoryEntry) (rise : MarksRise h) (from : ℕ) (l : HistoryEntry) → slice_get (reverse h) from ≡ Some l → Further h (from + 1) → OneMark from l
     → Further h from
 one_further h rise from l is f (inl none) =
     let same : marks_before (from + 1) h ≡ marks_before from h = rise.more from l is ∙ ap (λ (ms : List Mark). ms ++ marks_before from h) none in
@@ -96,7 +96,7 @@ one_further h rise from l is f (inr one) =
       low = λ m e. let same : whole_mark from l ≡ m = cc in omega (arith, ap (λ (k : Mark). k.at) same);
     }
 
-further_by : (h : List Logged) → MarksRise h → (k from : ℕ) → from + k ≡ length h → Further h from
+further_by : (h : List HistoryEntry) → MarksRise h → (k from : ℕ) → from + k ≡ length h → Further h from
 further_by h rise zero from e =
     let end : from ≡ length h = omega (arith, e) in
     record {
@@ -108,13 +108,13 @@ further_by h rise (suc k) from e =
     let event = at_place h from (omega (arith, e)) in
     one_further h rise from event.0 event.1 (further_by h rise k (from + 1) (omega (arith, e))) (one_mark from event.0)
 
-pub further : (h : List Logged) → MarksRise h → (from : ℕ) → from ≤ length h → Further h from
+pub further : (h : List HistoryEntry) → MarksRise h → (from : ℕ) → from ≤ length h → Further h from
 further h rise from low = further_by h rise (length h - from) from (omega (arith, low))
 
 -- ---- a mark that comes next
 
 -- The event at a place is marked, and none before it from another place on: its mark comes next.
-pub comes_next : (h : List Logged) → MarksRise h → (from at : ℕ) (l : Logged) → at < length h → slice_get (reverse h) at ≡ Some l
+pub comes_next : (h : List HistoryEntry) → MarksRise h → (from at : ℕ) (l : HistoryEntry) → at < length h → slice_get (reverse h) at ≡ Some l
     → marks_before at h ≡ marks_before from h
     → mark_of at l ≡ whole_mark at l ∷ [] → GoesOn (marks_before from h) (marks_of h) (Some (whole_mark at l))
 comes_next h rise from at l low is same one =
@@ -131,7 +131,7 @@ first_is None entry at e low = sym e
 first_is (Some m) entry at e low = omega (arith, e, low m refl)
 
 -- The marks go on with one at or behind an entry's place, that isn't the entry's.
-pub other_than : (h : List Logged) (from at : ℕ) (entry : Mark) (event : Option Mark) → GoesOn (marks_before from h) (marks_of h) event → entry.at ≡ at
+pub other_than : (h : List HistoryEntry) (from at : ℕ) (entry : Mark) (event : Option Mark) → GoesOn (marks_before from h) (marks_of h) event → entry.at ≡ at
     → ForSome event (λ m. at ≤ m.at) → event ≢ Some entry → IsOther h from entry at
 other_than h from at entry event goes_on e low differ = record { event = event; goes_on = goes_on; differ = differ; at_is = first_is event entry at e low }
 
@@ -139,7 +139,7 @@ behind : (event : Option Mark) (entry : Mark) (at : ℕ) → entry.at ≡ at →
 behind event entry at e low same = omega (arith, e, low entry same)
 
 -- They go on behind the entry's place.
-pub other_behind : (h : List Logged) → MarksRise h → (from at to : ℕ) (entry : Mark) → to ≤ length h → marks_before to h ≡ marks_before from h → entry.at ≡ at
+pub other_behind : (h : List HistoryEntry) → MarksRise h → (from at to : ℕ) (entry : Mark) → to ≤ length h → marks_before to h ≡ marks_before from h → entry.at ≡ at
     → at + 1 ≤ to → IsOther h from entry at
 other_behind h rise from at to entry within same e low =
     let f = further h rise to within in
@@ -148,13 +148,13 @@ other_behind h rise from at to entry within same e low =
     (behind f.event entry at e (λ m is. omega (arith, low, f.low m is)))
 
 -- They don't go on.
-pub other_than_none : (h : List Logged) → MarksRise h → (from at : ℕ) (entry : Mark) → marks_before (length h) h ≡ marks_before from h → entry.at ≡ at
+pub other_than_none : (h : List HistoryEntry) → MarksRise h → (from at : ℕ) (entry : Mark) → marks_before (length h) h ≡ marks_before from h → entry.at ≡ at
     → IsOther h from entry at
 other_than_none h rise from at entry same e =
     other_than h from at entry None (sym rise.all ∙ same) e (λ m is. absurd (cc)) (λ is. cc)
 
 -- They go on before the entry's place.
-pub other_before : (h : List Logged) (from to at : ℕ) (entry : Mark) → IsMarkedAt h from to at → to ≤ entry.at → IsOther h from entry at
+pub other_before : (h : List HistoryEntry) (from to at : ℕ) (entry : Mark) → IsMarkedAt h from to at → to ≤ entry.at → IsOther h from entry at
 other_before h from to at entry marked low = record {
   event = Some marked.mark;
   goes_on = marked.goes_on;

@@ -10,7 +10,7 @@ use Rattle.messages.specs.declared.node.Node.TheVariants.{Server, Client, Mirror
 use Rattle.hub.specs.declared.line.Line.{Line}
 use Rattle.hub.specs.Network.{Network}
 use Rattle.hub.specs.Waiting.{is_same_node}
-use Rattle.cells.specs.declared.logged.Logged.{Logged}
+use Rattle.cells.specs.declared.entry.HistoryEntry.{HistoryEntry}
 use Rattle.cells.specs.AtHub.{is_left_out}
 use Rattle.assembly.specs.declared.place.Place.{Place}
 use Rattle.assembly.specs.Marks.{Mark, mark_of_line, marks_in, marks_if, marks_of, frame_of}
@@ -26,7 +26,7 @@ use Rattle.assembly.proofs.PlaceLemmas.{other_places, noted_at, next_le, AreNote
 abbrev pub marked_at : List Mark → List ℕ
 marked_at marks = map (λ mark. mark.at) marks
 
-pub marks_fall : (h : List Logged) → Falls (length h) (marked_at (marks_of h))
+pub marks_fall : (h : List HistoryEntry) → Falls (length h) (marked_at (marks_of h))
 marks_fall [] = tt
 marks_fall (l ∷ ls) = by_test (marks_fall ls) (is_left_out l.answer)
   where
@@ -44,7 +44,7 @@ marks_fall (l ∷ ls) = by_test (marks_fall ls) (is_left_out l.answer)
     by_test later true = wider later
     by_test later false = by_mark later (marks_if (length ls) (frame_of l.came) l.sent) (none_or_one (length ls) (frame_of l.came) l.sent)
 
-pub marks_stand : (h : List Logged) → IsWithin (marked_at (marks_of h)) (standing_places h)
+pub marks_stand : (h : List HistoryEntry) → IsWithin (marked_at (marks_of h)) (standing_places h)
 marks_stand [] = refl
 marks_stand (l ∷ ls) = by_test (marks_stand ls) (is_left_out l.answer)
   where
@@ -73,13 +73,13 @@ marked_noted frames node (l ∷ older) = by_test (marked_noted frames node older
     by_test later true = ap (λ ys. l.at ∷ ys) later
     by_test later false = later
 
-noted_are : (n : ℕ) (net : Network) (ran : Node → List Logged) → Agree n net ran → (node : Node) → marked_at (marks_of (ran node)) ≡ noted_at node net.journal
+noted_are : (n : ℕ) (net : Network) (ran : Node → List HistoryEntry) → Agree n net ran → (node : Node) → marked_at (marks_of (ran node)) ≡ noted_at node net.journal
 noted_are n net ran agree node = ap (λ (ms : List Mark). marked_at ms) (agree.marked node) ∙ marked_noted net.frames node net.journal
 
-noted_fall : (n : ℕ) (net : Network) (ran : Node → List Logged) → Agree n net ran → (node : Node) → Falls (length (ran node)) (noted_at node net.journal)
+noted_fall : (n : ℕ) (net : Network) (ran : Node → List HistoryEntry) → Agree n net ran → (node : Node) → Falls (length (ran node)) (noted_at node net.journal)
 noted_fall n net ran agree node = subst (Falls (length (ran node))) (noted_are n net ran agree node) (marks_fall (ran node))
 
-are_noted : (n : ℕ) (net : Network) (ran : Node → List Logged) → Agree n net ran → AreNoted ran net.journal
+are_noted : (n : ℕ) (net : Network) (ran : Node → List HistoryEntry) → Agree n net ran → AreNoted ran net.journal
 are_noted n net ran agree = record {
   falls = λ node. (length (ran node), noted_fall n net ran agree node);
   within = λ node. subst (λ (xs : List ℕ). IsWithin xs (standing_places (ran node))) (noted_are n net ran agree node) (marks_stand (ran node));
@@ -88,7 +88,7 @@ are_noted n net ran agree = record {
 -- ---- what is left behind the last entry
 
 -- All that is left of a node before what came up to its last entry.
-all_of : (ran : Node → List Logged) (journal : List Line) (node : Node) → Falls (length (ran node)) (noted_at node journal)
+all_of : (ran : Node → List HistoryEntry) (journal : List Line) (node : Node) → Falls (length (ran node)) (noted_at node journal)
     → span (next_place node journal) (length (ran node)) (standing_places (ran node)) ++ below (next_place node journal) (standing_places (ran node))
     ≡ standing_places (ran node)
 all_of ran journal node h =
@@ -97,7 +97,7 @@ all_of ran journal node h =
     ∙ all_below (length (ran node)) (length (ran node)) (standing_places (ran node)) (omega arith) (standing_falls (ran node))
 
 -- What is left of a server from k on isn't among that of those below.
-none_left : (ran : Node → List Logged) (journal : List Line) (s k : ℕ) (order : List Place) → k ≤ s
+none_left : (ran : Node → List HistoryEntry) (journal : List Line) (s k : ℕ) (order : List Place) → k ≤ s
     → places_of (Server s) (left_below ran journal k ++ order) ≡ places_of (Server s) order
 none_left ran journal s zero order h = refl
 none_left ran journal s (suc k) order h =
@@ -108,7 +108,7 @@ none_left ran journal s (suc k) order h =
     ∙ none_left ran journal s k order (omega (arith, h)))
 
 -- That of one below is there once.
-once_left : (ran : Node → List Logged) (journal : List Line) (s k : ℕ) (order : List Place) → s < k →
+once_left : (ran : Node → List HistoryEntry) (journal : List Line) (s k : ℕ) (order : List Place) → s < k →
     places_of (Server s) (left_below ran journal k ++ order)
     ≡ span (next_place (Server s) journal) (length (ran (Server s))) (standing_places (ran (Server s))) ++ places_of (Server s) order
 once_left ran journal s zero order h = absurd (omega (arith, h))
@@ -133,7 +133,7 @@ once_left ran journal s (suc k) order h =
         other_places (Server k) (Server s) (rest k) (left_below ran journal k ++ order) e ∙ later less
 
 -- What is left of servers is of no other node.
-others_left : (ran : Node → List Logged) (journal : List Line) (node : Node) → ((s : ℕ) → is_same_node (Server s) node ≡ false) → (k : ℕ) (order : List Place)
+others_left : (ran : Node → List HistoryEntry) (journal : List Line) (node : Node) → ((s : ℕ) → is_same_node (Server s) node ≡ false) → (k : ℕ) (order : List Place)
     → places_of node (left_below ran journal k ++ order) ≡ places_of node order
 others_left ran journal node other zero order = refl
 others_left ran journal node other (suc k) order =
@@ -153,7 +153,7 @@ below_or_not (suc r) (suc n) = further (below_or_not r n)
     further (inl h) = inl (omega (arith, h))
     further (inr h) = inr (omega (arith, h))
 
-each_stands : (n : ℕ) (net : Network) (ran : Node → List Logged) → Agree n net ran → (node : Node)
+each_stands : (n : ℕ) (net : Network) (ran : Node → List HistoryEntry) → Agree n net ran → (node : Node)
     → places_of node (merged_order n ran net.journal) ≡ standing_places (ran node)
 each_stands n net ran agree Client =
     let order = up_to_last ran net.journal in
@@ -168,7 +168,7 @@ each_stands n net ran agree Mirror =
     (left_below ran net.journal n ++ order) refl
     ∙ (others_left ran net.journal Mirror (λ s. refl) n order
     ∙ (up_to ran net.journal (are_noted n net ran agree) Mirror
-    ∙ subst (λ (list : List Logged). below (next_place Mirror net.journal) (standing_places list) ≡ standing_places list) (sym agree.ends.mirror) refl))
+    ∙ subst (λ (list : List HistoryEntry). below (next_place Mirror net.journal) (standing_places list) ≡ standing_places list) (sym agree.ends.mirror) refl))
 each_stands n net ran agree (Server s) =
     other_places Client (Server s) (span (next_place Client net.journal) (length (ran Client)) (standing_places (ran Client)))
     (left_below ran net.journal n ++ up_to_last ran net.journal) refl
@@ -184,7 +184,7 @@ each_stands n net ran agree (Server s) =
         ∙ all_of ran net.journal (Server s) (noted_fall n net ran agree (Server s)))
     by_number (inr h) =
         none_left ran net.journal s n (up_to_last ran net.journal) h
-        ∙ (up ∙ subst (λ (list : List Logged). below (next_place (Server s) net.journal) (standing_places list) ≡ standing_places list)
+        ∙ (up ∙ subst (λ (list : List HistoryEntry). below (next_place (Server s) net.journal) (standing_places list) ≡ standing_places list)
         (sym (agree.ends.servers s h)) refl)
 
 pub merged_orders_are_merges : MergedOrdersAreMerges

@@ -11,7 +11,7 @@ use Rattle.messages.specs.declared.node.Node.TheVariants.{Server, Client, Mirror
 use Rattle.messages.specs.Nodes.{node_number, is_node}
 use Rattle.hub.specs.Waiting.{is_same_node}
 use Rattle.hub.proofs.NodeLemmas.{number_below, other_number}
-use Rattle.cells.specs.declared.logged.Logged.{Logged}
+use Rattle.cells.specs.declared.entry.HistoryEntry.{HistoryEntry}
 use Rattle.assembly.specs.Ran.{Ran, history_of}
 use Rattle.assembly.specs.Order.{next_of, with_next}
 
@@ -28,7 +28,7 @@ has_place r (Server s) at few h = by (nat_lt s 8) refl
     by false e =
         let far : length r.servers ≤ s = grind (arith, nat_tests, few, e) in
         let none : history_of r (Server s) ≡ [] = ap (λ o. option_map_or (λ cell. cell.history) o []) (slice_get_past r.servers s far) in
-        absurd (omega (arith, h, ap (λ (xs : List Logged). length xs) none))
+        absurd (omega (arith, h, ap (λ (xs : List HistoryEntry). length xs) none))
 
 -- ---- lists of places by node
 

@@ -21,7 +21,7 @@ use Rattle.client_core.specs.Packets.{packets as client_packets}
 use Rattle.client_core.specs.declared.input.Input.{Input as ClientInput}
 use Rattle.client_core.specs.Hearing.{FrameEntry as ClientEntry, coming_of as client_coming}
 use Rattle.cells.specs.declared.answer.Answer.TheVariants.{Plain}
-use Rattle.cells.specs.declared.logged.Logged.{Logged}
+use Rattle.cells.specs.declared.entry.HistoryEntry.{HistoryEntry}
 use Rattle.cells.specs.AtHub.{is_left_out}
 use Rattle.cells.specs.Replay.{Ends, Makes}
 use Rattle.cells.specs.Rules.{Rules, Nothing}
@@ -144,7 +144,7 @@ pub record Goes (n : ℕ) (node : Node) (frames : List Frame) (past after : List
   pub allowed : (t : List FrameStep) → is_allowed (without_mirror n) t (step_at node (coming_to node entry)) ≡ true
   pub fits : FrameStepFits (step_at node (coming_to node entry))
 
-pub goes : (n : ℕ) (node : Node) (frames : List Frame) (past after : List (EntryOf node)) (l : Logged) → IsBelow 8 node → CameOf frames (frame_of l.came)
+pub goes : (n : ℕ) (node : Node) (frames : List Frame) (past after : List (EntryOf node)) (l : HistoryEntry) → IsBelow 8 node → CameOf frames (frame_of l.came)
     → is_left_out l.answer ≡ false
     → Ends (rules_of n node) past ((rules_of n node).asked l.came) l.answer l.sent after → Goes n node frames past after l.sent
 goes n (Server s) frames past after l few came stands ends =
@@ -174,7 +174,7 @@ nothing : (past : List ⊥) → past ≡ []
 nothing [] = refl
 nothing (e ∷ past) = absurd e
 
-pub stays : (n : ℕ) (node : Node) (past after : List (EntryOf node)) (l : Logged) → is_left_out l.answer ≡ true
+pub stays : (n : ℕ) (node : Node) (past after : List (EntryOf node)) (l : HistoryEntry) → is_left_out l.answer ≡ true
     → Ends (rules_of n node) past ((rules_of n node).asked l.came) l.answer l.sent after → after ≡ past
 stays n (Server s) past after l out ends = node_stays (server_core (opening_of s)) past _ l.answer l.sent after out ends
 stays n Client past after l out ends = node_stays (client_core (client_opening (without_mirror n))) past _ l.answer l.sent after out ends
@@ -182,7 +182,7 @@ stays n Mirror past after l out ends = nothing after ∙ sym (nothing past)
 
 -- ---- one node's history and list in place of another
 
-abbrev pub with_history : Node → List Logged → (Node → List Logged) → Node → List Logged
+abbrev pub with_history : Node → List HistoryEntry → (Node → List HistoryEntry) → Node → List HistoryEntry
 with_history node h ran other = if is_same_node node other then h else ran other
 
 abbrev pub with_list : (node : Node) → List (EntryOf node) → ((other : Node) → List (EntryOf other)) → (other : Node) → List (EntryOf other)
@@ -197,17 +197,17 @@ with_list Mirror list past Client = past Client
 with_list Mirror list past Mirror = list
 
 -- The histories make these lists.
-abbrev pub AreMade : ℕ → (Node → List Logged) → ((node : Node) → List (EntryOf node)) → Type 0
+abbrev pub AreMade : ℕ → (Node → List HistoryEntry) → ((node : Node) → List (EntryOf node)) → Type 0
 AreMade n ran past = (node : Node) → Makes (rules_of n node) (ran node) (past node)
 
-made_at : (s r : ℕ) (b : Bool) (h g : List Logged) (p q : List ServerEntry) → (s == r) ≡ b → Makes (server_rules (opening_of s)) h p
+made_at : (s r : ℕ) (b : Bool) (h g : List HistoryEntry) (p q : List ServerEntry) → (s == r) ≡ b → Makes (server_rules (opening_of s)) h p
     → Makes (server_rules (opening_of r)) g q
     → Makes (server_rules (opening_of r)) (if b then h else g) (if b then p else q)
 made_at s r true h g p q e here there = subst (λ i. Makes (server_rules (opening_of i)) h p) (eqb-true s r e) here
 made_at s r false h g p q e here there = there
 
-pub made_with : (n : ℕ) (node : Node) (h : List Logged) (list : List (EntryOf node)) → Makes (rules_of n node) h list
-    → (ran : Node → List Logged) (past : (other : Node) → List (EntryOf other)) → AreMade n ran past
+pub made_with : (n : ℕ) (node : Node) (h : List HistoryEntry) (list : List (EntryOf node)) → Makes (rules_of n node) h list
+    → (ran : Node → List HistoryEntry) (past : (other : Node) → List (EntryOf other)) → AreMade n ran past
     → AreMade n (with_history node h ran) (with_list node list past)
 made_with n (Server s) h list made ran past all (Server r) = made_at s r (s == r) h (ran (Server r)) list (past (Server r)) refl made (all (Server r))
 made_with n (Server s) h list made ran past all Client = all Client

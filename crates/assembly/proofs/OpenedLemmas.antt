@@ -6,7 +6,7 @@ use Rattle.std.proofs.lemmas.Bool.Decides.{nat_tests}
 use Rattle.std.proofs.lemmas.Option.{slice_get_within, slice_get-get_or, get_or_from_slice_get}
 use Rattle.messages.specs.declared.node.Node.{Node}
 use Rattle.messages.specs.declared.node.Node.TheVariants.{Server, Client, Mirror}
-use Rattle.cells.specs.declared.logged.Logged.{Logged}
+use Rattle.cells.specs.declared.entry.HistoryEntry.{HistoryEntry}
 use Rattle.cells.specs.Seated.{Seated}
 use Rattle.cells.specs.Seats.{times}
 use Rattle.server_core.specs.History.{Opening}
@@ -64,11 +64,11 @@ fits_cell r seat cell is opened = (λ e same. right e, λ h. back (h refl))
     right : is_right cell seat ≡ true → seat.applied ≡ times seat.number (history_of r (Server seat.server))
     right e =
         let same : seat.applied ≡ times seat.number cell.history = grind (arith, nat_tests) in
-        same ∙ ap (λ (h : List Logged). times seat.number h) (sym history_is)
+        same ∙ ap (λ (h : List HistoryEntry). times seat.number h) (sym history_is)
 
     back : seat.applied ≡ times seat.number (history_of r (Server seat.server)) → is_right cell seat ≡ true
     back e =
-        let same : seat.applied ≡ times seat.number cell.history = e ∙ ap (λ (h : List Logged). times seat.number h) history_is in
+        let same : seat.applied ≡ times seat.number cell.history = e ∙ ap (λ (h : List HistoryEntry). times seat.number h) history_is in
         let me : cell.opening.me ≡ seat.server = ap (λ (o : Opening). o.me) opened in
         grind (arith, nat_tests)
 
@@ -82,11 +82,11 @@ fits_none r seat none = (λ e same. right e, λ h. back (h refl))
     right : (seat.applied == 0) ≡ true → seat.applied ≡ times seat.number (history_of r (Server seat.server))
     right e =
         let zero : seat.applied ≡ 0 = grind (arith, nat_tests) in
-        zero ∙ ap (λ (h : List Logged). times seat.number h) (sym history_is)
+        zero ∙ ap (λ (h : List HistoryEntry). times seat.number h) (sym history_is)
 
     back : seat.applied ≡ times seat.number (history_of r (Server seat.server)) → (seat.applied == 0) ≡ true
     back e =
-        let zero : seat.applied ≡ 0 = e ∙ ap (λ (h : List Logged). times seat.number h) history_is in
+        let zero : seat.applied ≡ 0 = e ∙ ap (λ (h : List HistoryEntry). times seat.number h) history_is in
         grind (arith, nat_tests)
 
 -- The first seats fit.

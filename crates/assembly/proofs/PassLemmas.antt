@@ -6,9 +6,9 @@ use Rattle.std.specs.Option.{ForSome}
 use Rattle.std.proofs.lemmas.Bool.Decides.{nat_tests}
 use Rattle.std.proofs.lemmas.List.{append_assoc, append-nil, reverse-append, length-reverse}
 use Rattle.messages.specs.declared.node.Node.{Node}
-use Rattle.cells.specs.declared.came.Came.{Came}
-use Rattle.cells.specs.declared.came.Came.TheVariants as came
-use Rattle.cells.specs.declared.logged.Logged.{Logged}
+use Rattle.cells.specs.declared.input.NodeInput.{NodeInput}
+use Rattle.cells.specs.declared.input.NodeInput.TheVariants as came
+use Rattle.cells.specs.declared.entry.HistoryEntry.{HistoryEntry}
 use Rattle.cells.specs.AtHub.{is_frame, is_left_out, is_quiet}
 use Rattle.assembly.specs.declared.place.Place.{Place}
 use Rattle.assembly.specs.Marks.{Mark, frame_of, mark_of, marks_if}
@@ -40,12 +40,12 @@ more_places node from at false old mid between_them more e m =
     rw m (ap (λ (ps : List Place). ps ++ place_at node at ∷ []) e ∙ behind_all old between_them (place_at node at))
 
 -- What a test says of an event's mark.
-pub marked_so : (l : Logged) (r : Bool) → ((at : ℕ) → mark_of at l ≡ (if r then whole_mark at l ∷ [] else [])) → r ≡ true → (at : ℕ)
+pub marked_so : (l : HistoryEntry) (r : Bool) → ((at : ℕ) → mark_of at l ≡ (if r then whole_mark at l ∷ [] else [])) → r ≡ true → (at : ℕ)
     → mark_of at l ≡ whole_mark at l ∷ []
 marked_so l true h e at = h at
 marked_so l false h e at = absurd (cc)
 
-pub unmarked_so : (l : Logged) (r : Bool) → ((at : ℕ) → mark_of at l ≡ (if r then whole_mark at l ∷ [] else [])) → r ≡ false → (at : ℕ) → mark_of at l ≡ []
+pub unmarked_so : (l : HistoryEntry) (r : Bool) → ((at : ℕ) → mark_of at l ≡ (if r then whole_mark at l ∷ [] else [])) → r ≡ false → (at : ℕ) → mark_of at l ≡ []
 unmarked_so l true h e at = absurd (cc)
 unmarked_so l false h e at = h at
 
@@ -55,7 +55,7 @@ event_added false mid place = refl
 
 -- ---- an event that is quiet: it stands, and neither took nor sent a frame
 
-no_frame : (c : Came) → is_frame c ≡ false → frame_of c ≡ None
+no_frame : (c : NodeInput) → is_frame c ≡ false → frame_of c ≡ None
 no_frame (came.Frame bytes) h = absurd (cc)
 no_frame (came.Issue j) h = refl
 no_frame (came.WriteDone ticket end) h = refl
@@ -82,10 +82,10 @@ unmarked_if at true frame taken sent none h = absurd (cc)
 unmarked_if at false true taken sent none h = absurd (cc)
 unmarked_if at false false taken sent none h = (refl, rw (none refl) (sent_none at sent h))
 
-pub quiet_stands : (at : ℕ) (l : Logged) → is_quiet l ≡ true → (is_left_out l.answer ≡ false) × (mark_of at l ≡ [])
+pub quiet_stands : (at : ℕ) (l : HistoryEntry) → is_quiet l ≡ true → (is_left_out l.answer ≡ false) × (mark_of at l ≡ [])
 quiet_stands at l h = unmarked_if at (is_left_out l.answer) (is_frame l.came) (frame_of l.came) l.sent (no_frame l.came) h
 
-some_frame : (c : Came) → is_frame c ≡ true → frame_of c ≢ None
+some_frame : (c : NodeInput) → is_frame c ≡ true → frame_of c ≢ None
 some_frame (came.Frame bytes) h = λ e. cc
 some_frame (came.Issue j) h = absurd (cc)
 some_frame (came.WriteDone ticket end) h = absurd (cc)
@@ -111,18 +111,18 @@ left_out_if at true frame taken sent some h none = refl
 left_out_if at false frame taken sent some h none = absurd (taken_or_sent at frame taken sent some h none)
 
 -- What isn't quiet, and isn't marked, is left out.
-pub is_out : (at : ℕ) (l : Logged) → is_quiet l ≡ false → mark_of at l ≡ [] → is_left_out l.answer ≡ true
+pub is_out : (at : ℕ) (l : HistoryEntry) → is_quiet l ≡ false → mark_of at l ≡ [] → is_left_out l.answer ≡ true
 is_out at l h none = left_out_if at (is_left_out l.answer) (is_frame l.came) (frame_of l.came) l.sent (some_frame l.came) h none
 
 -- Nothing was passed yet.
-pub passed_none : HistoriesRise → (node : Node) (h : List Logged) (from : ℕ) (old : List Place) → IsPassed node h from from old old
+pub passed_none : HistoriesRise → (node : Node) (h : List HistoryEntry) (from : ℕ) (old : List Place) → IsPassed node h from from old old
 passed_none rise node h from old = record {
   places = sym (ap (λ (ps : List Place). old ++ reverse ps) ((rise node h).0.none from) ∙ append-nil old);
   unmarked = refl;
 }
 
 -- The places up to the event at a place and with it, if it stands.
-pub places_with : HistoriesRise → (node : Node) (h : List Logged) (from at : ℕ) (l : Logged) (old mid : List Place) → from ≤ at
+pub places_with : HistoriesRise → (node : Node) (h : List HistoryEntry) (from at : ℕ) (l : HistoryEntry) (old mid : List Place) → from ≤ at
     → slice_get (reverse h) at ≡ Some l
     → mid ≡ old ++ reverse (places_between node from at h)
     → with_event (is_left_out l.answer) mid (place_at node at) ≡ old ++ reverse (places_between node from (at + 1) h)
@@ -131,14 +131,14 @@ places_with rise node h from at l old mid low is e =
     ((rise node h).0.more from at l low is)
 
 -- The event at a place of the history, as it is read.
-pub read_there : (history h : List Logged) (at : ℕ) (l : Logged) → history ≡ reverse h → slice_get history at ≡ Some l → slice_get (reverse h) at ≡ Some l
-read_there history h at l e is = ap (λ (ls : List Logged). slice_get ls at) (sym e) ∙ is
+pub read_there : (history h : List HistoryEntry) (at : ℕ) (l : HistoryEntry) → history ≡ reverse h → slice_get history at ≡ Some l → slice_get (reverse h) at ≡ Some l
+read_there history h at l e is = ap (λ (ls : List HistoryEntry). slice_get ls at) (sym e) ∙ is
 
-pub long_as : (history h : List Logged) → history ≡ reverse h → length history ≡ length h
-long_as history h e = ap (λ (ls : List Logged). length ls) e ∙ length-reverse h
+pub long_as : (history h : List HistoryEntry) → history ≡ reverse h → length history ≡ length h
+long_as history h e = ap (λ (ls : List HistoryEntry). length ls) e ∙ length-reverse h
 
 -- One event more was passed, which isn't marked.
-pub passed_more : HistoriesRise → (node : Node) (h : List Logged) (from at : ℕ) (l : Logged) (old mid new : List Place) → from ≤ at
+pub passed_more : HistoriesRise → (node : Node) (h : List HistoryEntry) (from at : ℕ) (l : HistoryEntry) (old mid new : List Place) → from ≤ at
     → slice_get (reverse h) at ≡ Some l
     → mark_of at l ≡ [] → IsPassed node h from at old mid → new ≡ (if is_left_out l.answer then mid else mid ++ place_at node at ∷ [])
     → IsPassed node h from (at + 1) old new
@@ -154,18 +154,18 @@ kept_by : (out : Bool) (mid : List Place) (place : Place) → out ≡ true → m
 kept_by out mid place h = rw h refl
 
 -- So was one more that is quiet, which is added.
-pub passed_quiet : HistoriesRise → (node : Node) (history h : List Logged) (from at : ℕ) (quiet : Bool) (old mid new : List Place) → history ≡ reverse h
+pub passed_quiet : HistoriesRise → (node : Node) (history h : List HistoryEntry) (from at : ℕ) (quiet : Bool) (old mid new : List Place) → history ≡ reverse h
     → from ≤ at → at < length h
     → ForSome (slice_get history at) (λ l. quiet ≡ is_quiet l) → quiet ≡ true → IsPassed node h from at old mid → new ≡ mid ++ place_at node at ∷ []
     → IsPassed node h from (at + 1) old new
 passed_quiet rise node history h from at quiet old mid new e low within test is passed added =
     let event = at_place h at within in
     let l = event.0 in
-    let q = quiet_stands at l (sym (test l (ap (λ (ls : List Logged). slice_get ls at) e ∙ event.1)) ∙ is) in
+    let q = quiet_stands at l (sym (test l (ap (λ (ls : List HistoryEntry). slice_get ls at) e ∙ event.1)) ∙ is) in
     passed_more rise node h from at l old mid new low event.1 q.1 passed (added ∙ added_by (is_left_out l.answer) mid (place_at node at) q.0)
 
 -- So was one more that isn't, and isn't marked: it is left out.
-pub passed_by : HistoriesRise → (node : Node) (history h : List Logged) (from at : ℕ) (l : Logged) (quiet : Bool) (old mid : List Place) → history ≡ reverse h
+pub passed_by : HistoriesRise → (node : Node) (history h : List HistoryEntry) (from at : ℕ) (l : HistoryEntry) (quiet : Bool) (old mid : List Place) → history ≡ reverse h
     → from ≤ at → slice_get history at ≡ Some l
     → ForSome (slice_get history at) (λ l. quiet ≡ is_quiet l) → quiet ≡ false → mark_of at l ≡ [] → IsPassed node h from at old mid
     → IsPassed node h from (at + 1) old mid
@@ -174,7 +174,7 @@ passed_by rise node history h from at l quiet old mid e low is test loud none pa
     (kept_by (is_left_out l.answer) mid (place_at node at) (is_out at l (sym (test l is) ∙ loud) none))
 
 -- The next event is marked.
-pub stopped_at : HistoriesRise → (node : Node) (h : List Logged) (from to at : ℕ) (l : Logged) (old mid : List Place) → at < to → at < length h
+pub stopped_at : HistoriesRise → (node : Node) (h : List HistoryEntry) (from to at : ℕ) (l : HistoryEntry) (old mid : List Place) → at < to → at < length h
     → slice_get (reverse h) at ≡ Some l
     → mark_of at l ≡ whole_mark at l ∷ [] → IsPassed node h from at old mid → IsMarkedAt h from to at
 stopped_at rise node h from to at l old mid below low is one passed = record {
@@ -187,13 +187,13 @@ stopped_at rise node h from to at l old mid below low is one passed = record {
 -- ---- up to the event of an entry
 
 -- Why an entry wasn't told, since an event before it is marked.
-pub untold_before : (node : Node) (h : List Logged) (from to : ℕ) (entry : Mark) (fault : AssembleFault) → to ≤ entry.at → IsStopped node h from to fault
+pub untold_before : (node : Node) (h : List HistoryEntry) (from to : ℕ) (entry : Mark) (fault : AssembleFault) → to ≤ entry.at → IsStopped node h from to fault
     → IsUntold node h from entry fault
 untold_before node h from to entry (Unlike n at) low stopped = (stopped.0, other_before h from to at entry stopped.1 low)
 untold_before node h from to entry NoMemory low stopped = tt
 
 -- The entry's event is told.
-pub told_at : HistoriesRise → (node : Node) (h : List Logged) (at : ℕ) (l : Logged) (entry : Mark) (old : Followed) (mid : List Place) (new : Followed)
+pub told_at : HistoriesRise → (node : Node) (h : List HistoryEntry) (at : ℕ) (l : HistoryEntry) (entry : Mark) (old : Followed) (mid : List Place) (new : Followed)
     → at < length h → slice_get (reverse h) at ≡ Some l → next_of old.next node ≤ at → entry.at ≡ at → mark_of at l ≡ whole_mark at l ∷ []
     → whole_mark at l ≡ entry
     → IsPassed node h (next_of old.next node) at old.places mid → new.places ≡ mid ++ place_at node at ∷ [] → new.next ≡ with_next old.next node (at + 1)
@@ -212,7 +212,7 @@ told_at rise node h at l entry old mid new low is from entry_is one same passed 
     }
 
 -- It is marked otherwise.
-other_mark : HistoriesRise → (node : Node) (h : List Logged) (from at : ℕ) (l : Logged) (entry : Mark) (old mid : List Place) → at < length h
+other_mark : HistoriesRise → (node : Node) (h : List HistoryEntry) (from at : ℕ) (l : HistoryEntry) (entry : Mark) (old mid : List Place) → at < length h
     → slice_get (reverse h) at ≡ Some l → entry.at ≡ at
     → mark_of at l ≡ whole_mark at l ∷ [] → whole_mark at l ≢ entry → IsPassed node h from at old mid → IsOther h from entry at
 other_mark rise node h from at l entry old mid low is e one differ passed =
@@ -221,7 +221,7 @@ other_mark rise node h from at l entry old mid low is e one differ passed =
     (λ same. differ (cc))
 
 -- It isn't marked.
-no_mark : HistoriesRise → (node : Node) (h : List Logged) (from at : ℕ) (l : Logged) (entry : Mark) (old mid : List Place) → at < length h
+no_mark : HistoriesRise → (node : Node) (h : List HistoryEntry) (from at : ℕ) (l : HistoryEntry) (entry : Mark) (old mid : List Place) → at < length h
     → slice_get (reverse h) at ≡ Some l → entry.at ≡ at
     → mark_of at l ≡ [] → IsPassed node h from at old mid → IsOther h from entry at
 no_mark rise node h from at l entry old mid low is e none passed =
@@ -229,17 +229,17 @@ no_mark rise node h from at l entry old mid low is e none passed =
     ((rise node h).1.more at l is ∙ (ap (λ (ms : List Mark). ms ++ marks_before at h) none ∙ passed.unmarked)) e (omega arith)
 
 -- There is no such event.
-pub no_event : HistoriesRise → (node : Node) (h : List Logged) (from at : ℕ) (entry : Mark) (old mid : List Place) → entry.at ≡ at
+pub no_event : HistoriesRise → (node : Node) (h : List HistoryEntry) (from at : ℕ) (entry : Mark) (old mid : List Place) → entry.at ≡ at
     → IsPassed node h from (length h) old mid → IsOther h from entry at
 no_event rise node h from at entry old mid e passed = other_than_none h (rise node h).1 from at entry passed.unmarked e
 
 -- The node was followed beyond it.
-pub gone_by : HistoriesRise → (node : Node) (h : List Logged) (from at : ℕ) (entry : Mark) → from ≤ length h → entry.at ≡ at → at < from
+pub gone_by : HistoriesRise → (node : Node) (h : List HistoryEntry) (from at : ℕ) (entry : Mark) → from ≤ length h → entry.at ≡ at → at < from
     → IsOther h from entry at
 gone_by rise node h from at entry within e low = other_behind h (rise node h).1 from at from entry within refl e (omega (arith, low))
 
 -- Its mark isn't that of the entry.
-pub other_event : HistoriesRise → (node : Node) (h : List Logged) (from at : ℕ) (l : Logged) (entry : Mark) (old mid : List Place) → at < length h
+pub other_event : HistoriesRise → (node : Node) (h : List HistoryEntry) (from at : ℕ) (l : HistoryEntry) (entry : Mark) (old mid : List Place) → at < length h
     → slice_get (reverse h) at ≡ Some l → entry.at ≡ at
     → (mark_of at l ≡ entry ∷ [] → ⊥) → IsPassed node h from at old mid → IsOther h from entry at
 other_event rise node h from at l entry old mid low is e differ passed = by (one_mark at l)
@@ -252,7 +252,7 @@ never_one : (marks : List Mark) (entry : Mark) → marks ≡ [] → marks ≡ en
 never_one marks entry none one = cc
 
 -- It is that of the entry.
-pub told_so : HistoriesRise → (node : Node) (h : List Logged) (at : ℕ) (l : Logged) (entry : Mark) (old : Followed) (mid : List Place) (new : Followed)
+pub told_so : HistoriesRise → (node : Node) (h : List HistoryEntry) (at : ℕ) (l : HistoryEntry) (entry : Mark) (old : Followed) (mid : List Place) (new : Followed)
     → at < length h → slice_get (reverse h) at ≡ Some l → next_of old.next node ≤ at → entry.at ≡ at → mark_of at l ≡ entry ∷ []
     → IsPassed node h (next_of old.next node) at old.places mid → new.places ≡ mid ++ place_at node at ∷ [] → new.next ≡ with_next old.next node (at + 1)
     → IsTold node h entry old new

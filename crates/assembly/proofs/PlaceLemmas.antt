@@ -6,7 +6,7 @@ use Rattle.messages.specs.declared.node.Node.{Node}
 use Rattle.hub.specs.declared.line.Line.{Line}
 use Rattle.hub.specs.Waiting.{is_same_node}
 use Rattle.hub.proofs.NodeLemmas.{same_node, is_same_as_itself}
-use Rattle.cells.specs.declared.logged.Logged.{Logged}
+use Rattle.cells.specs.declared.entry.HistoryEntry.{HistoryEntry}
 use Rattle.cells.specs.AtHub.{is_left_out}
 use Rattle.assembly.specs.declared.place.Place.{Place}
 use Rattle.assembly.specs.Orders.{standing_places, places_of, IsWithin, place_of, next_place, places_between, up_to_last}
@@ -134,11 +134,11 @@ next_le node (l ∷ older) top h = by_test (λ k. next_le node older top k) (is_
     by_test later false h = later h
 
 -- What is asked of the journal: of each node its entries fall, and stand in its list.
-pub record AreNoted (ran : Node → List Logged) (journal : List Line) : Type 0 where
+pub record AreNoted (ran : Node → List HistoryEntry) (journal : List Line) : Type 0 where
   pub falls : (node : Node) → (top : ℕ) × Falls top (noted_at node journal)
   pub within : (node : Node) → IsWithin (noted_at node journal) (standing_places (ran node))
 
-older_noted : (ran : Node → List Logged) (l : Line) (older : List Line) → AreNoted ran (l ∷ older) → AreNoted ran older
+older_noted : (ran : Node → List HistoryEntry) (l : Line) (older : List Line) → AreNoted ran (l ∷ older) → AreNoted ran older
 older_noted ran l older h = record {
   falls = λ node. fall node (is_same_node l.node node) (h.falls node);
   within = λ node. stand node (is_same_node l.node node) (h.within node);
@@ -155,11 +155,11 @@ older_noted ran l older h = record {
     stand node false w = w
 
 -- What is known of a journal's last entry.
-record IsLast (ran : Node → List Logged) (l : Line) (older : List Line) : Type 0 where
+record IsLast (ran : Node → List HistoryEntry) (l : Line) (older : List Line) : Type 0 where
   behind : next_place l.node older ≤ l.at
   there : IsIn (standing_places (ran l.node)) l.at
 
-last_noted : (ran : Node → List Logged) (l : Line) (older : List Line) → AreNoted ran (l ∷ older) → IsLast ran l older
+last_noted : (ran : Node → List HistoryEntry) (l : Line) (older : List Line) → AreNoted ran (l ∷ older) → IsLast ran l older
 last_noted ran l older h = record {
   behind = fall (is_same_node l.node l.node) (is_same_as_itself l.node) (h.falls l.node);
   there = stand (is_same_node l.node l.node) (is_same_as_itself l.node) (h.within l.node);
@@ -175,7 +175,7 @@ last_noted ran l older h = record {
     stand false e w = cc
 
 -- The places that stand fall.
-pub standing_falls : (h : List Logged) → Falls (length h) (standing_places h)
+pub standing_falls : (h : List HistoryEntry) → Falls (length h) (standing_places h)
 standing_falls [] = tt
 standing_falls (l ∷ ls) = by_test (standing_falls ls) (is_left_out l.answer)
   where
@@ -185,7 +185,7 @@ standing_falls (l ∷ ls) = by_test (standing_falls ls) (is_left_out l.answer)
 
 -- ---- up to the last entry
 
-pub up_to : (ran : Node → List Logged) (journal : List Line) → AreNoted ran journal → (node : Node)
+pub up_to : (ran : Node → List HistoryEntry) (journal : List Line) → AreNoted ran journal → (node : Node)
     → places_of node (up_to_last ran journal) ≡ below (next_place node journal) (standing_places (ran node))
 up_to ran [] h node = sym (none_below (standing_places (ran node)))
 up_to ran (l ∷ older) h node = by_test (up_to ran older (older_noted ran l older h) node) (is_same_node l.node node) refl
@@ -226,7 +226,7 @@ first_of node from at top (x ∷ xs) lines ws h (inr i) l w =
     let high : nat_lt x (at + 1) ≡ false = le-ltb x (at + 1) (omega (arith, less)) in
     rw (low, high) (first_of node from at x xs lines ws h.1 i l w)
 
-pub in_order : (ran : Node → List Logged) (journal : List Line) → AreNoted ran journal → IsWithin (map place_of journal) (up_to_last ran journal)
+pub in_order : (ran : Node → List HistoryEntry) (journal : List Line) → AreNoted ran journal → IsWithin (map place_of journal) (up_to_last ran journal)
 in_order ran [] h = refl
 in_order ran (l ∷ older) h =
     let last = last_noted ran l older h in

@@ -8,7 +8,7 @@ use Rattle.fc_base.specs.declared.fault.FaultSort.TheVariants as sorts
 use Rattle.fc_base.specs.Fault.{sort_of}
 use Rattle.messages.specs.declared.frame.Frame.{Frame}
 use Rattle.messages.specs.FrameBytes.{frame_at}
-use Rattle.cells.specs.declared.answer.Said.{Said}
+use Rattle.cells.specs.declared.answer.Reply.{Reply}
 use Rattle.cells.specs.AtHub.{is_drop, is_left_out, is_save}
 use Rattle.cells.specs.Replay.{Ends, Stops}
 use Rattle.cells.specs.Rules.{Ask, Rules}
@@ -60,7 +60,7 @@ dropped false h = cc
 -- Where a refusal without a drop leaves a list as it was, what is left out does.
 pub left_out_stays : {E X : Type 0} (rules : Rules E X) →
     ((past : List X) (ask : Ask E) (fault : Fault) → is_drop fault ≡ false → rules.passed past ask fault ≡ past) →
-    (past : List X) (ask : Ask E) (answer : Result Said Fault) (sent : List (List ℕ)) (after : List X) →
+    (past : List X) (ask : Ask E) (answer : Result Reply Fault) (sent : List (List ℕ)) (after : List X) →
     is_left_out answer ≡ true → Ends rules past ask answer sent after → after ≡ past
 left_out_stays rules passed past ask (Ok said) sent after h ends = cc
 left_out_stays rules passed past ask (Err fault) sent after h ends = by_sort (sort_of fault) h ends

@@ -10,7 +10,7 @@ use Rattle.messages.specs.declared.node.Node.{Node}
 use Rattle.messages.specs.declared.node.Node.TheVariants.{Server, Client, Mirror}
 use Rattle.hub.specs.Network.{Network}
 use Rattle.cells.specs.ServerCells.{ServerLog}
-use Rattle.cells.specs.declared.logged.Logged.{Logged}
+use Rattle.cells.specs.declared.entry.HistoryEntry.{HistoryEntry}
 use Rattle.assembly.specs.declared.place.Place.{Place}
 use Rattle.assembly.specs.Marks.{marks_in, marks_of}
 use Rattle.assembly.specs.Orders.{next_place, up_to_last, left_of, left_below, merged_order}
@@ -52,7 +52,7 @@ server_added r net s start old new followed e passed =
 pub no_cell : (r : Ran) (s : ℕ) → length r.servers ≤ s → history_of r (Server s) ≡ []
 no_cell r s far = ap (λ o. option_map_or (λ cell. cell.history) o []) (slice_get_past r.servers s far)
 
-none_of : (h : List Logged) (n : ℕ) → h ≡ [] → marks_of h ≡ marks_before n h
+none_of : (h : List HistoryEntry) (n : ℕ) → h ≡ [] → marks_of h ≡ marks_before n h
 none_of h n e = rw e refl
 
 -- So the journal tells nothing of it.
@@ -78,30 +78,30 @@ differs_behind r net node start to (Unlike n at) followed stopped =
 -- ---- as the loop has it
 
 -- The history of a cell is that of its server.
-pub cell_history : (r : Ran) (s : ℕ) (cell : ServerLog) (list : List Logged) → s < length r.servers → cell ≡ get_or r.servers s cell
+pub cell_history : (r : Ran) (s : ℕ) (cell : ServerLog) (list : List HistoryEntry) → s < length r.servers → cell ≡ get_or r.servers s cell
     → list ≡ reverse cell.history → list ≡ reverse (history_of r (Server s))
 cell_history r s cell list low is e =
     let found = slice_get_read r.servers (length r.servers) s cell refl low is in
     e ∙ sym (ap (λ (o : Option ServerLog). reverse (option_map_or (λ (c : ServerLog). c.history) o [])) found)
 
 -- No node is to be followed from behind its end.
-pub rest_rises : (r : Ran) (net : Network) (node : Node) (start : Followed) (next : List ℕ) (list : List Logged) → IsFollowed r net net.journal start
+pub rest_rises : (r : Ran) (net : Network) (node : Node) (start : Followed) (next : List ℕ) (list : List HistoryEntry) → IsFollowed r net net.journal start
     → next ≡ start.next
     → list ≡ reverse (history_of r node) → next_of next node ≤ length list
 rest_rises r net node start next list followed same e =
     let low : next_of start.next node ≤ length list =
-    omega (arith, followed.next node, followed.within node, ap (λ (ls : List Logged). length ls) e, length-reverse (history_of r node)) in
+    omega (arith, followed.next node, followed.within node, ap (λ (ls : List HistoryEntry). length ls) e, length-reverse (history_of r node)) in
     subst (λ (ns : List ℕ). next_of ns node ≤ length list) (sym same) low
 
 -- The places from which nodes are to be followed are those behind their last entries.
-rest_passed : (r : Ran) (node : Node) (start : Followed) (next : List ℕ) (list : List Logged) (old new : List Place) → next ≡ start.next
+rest_passed : (r : Ran) (node : Node) (start : Followed) (next : List ℕ) (list : List HistoryEntry) (old new : List Place) → next ≡ start.next
     → list ≡ reverse (history_of r node)
     → IsPassed node (history_of r node) (next_of next node) (length list) old new
     → IsPassed node (history_of r node) (next_of start.next node) (length (history_of r node)) old new
 rest_passed r node start next list old new same e passed =
     subst (λ (ns : List ℕ). IsPassed node (history_of r node) (next_of ns node) (length (history_of r node)) old new) same
     (subst (λ (to : ℕ). IsPassed node (history_of r node) (next_of next node) to old new)
-    (ap (λ (ls : List Logged). length ls) e ∙ length-reverse (history_of r node)) passed)
+    (ap (λ (ls : List HistoryEntry). length ls) e ∙ length-reverse (history_of r node)) passed)
 
 -- A mark that is left of a node isn't in the journal.
 pub rest_differs : (r : Ran) (net : Network) (node : Node) (start : Followed) (next : List ℕ) (to : ℕ) (fault : AssembleFault)
@@ -121,7 +121,7 @@ pub added_none : (r : Ran) (net : Network) (start : Followed) → IsFollowed r n
 added_none r net start followed = (λ s low. absurd (omega (arith, low)), followed.places, refl)
 
 -- One server more.
-pub added_more : HistoriesRise → (r : Ran) (net : Network) (start : Followed) (n : ℕ) (now then : Followed) (list : List Logged)
+pub added_more : HistoriesRise → (r : Ran) (net : Network) (start : Followed) (n : ℕ) (now then : Followed) (list : List HistoryEntry)
     → IsFollowed r net net.journal start → AreAdded r net start n now
     → list ≡ reverse (history_of r (Server n)) → IsPassed (Server n) (history_of r (Server n)) (next_of now.next (Server n))
     (length list) now.places then.places → then.next ≡ now.next
@@ -135,7 +135,7 @@ added_more rise r net start n now then list followed added e passed next =
     )
 
 -- Behind the servers the client, and then all nodes are marked.
-all_marked : HistoriesRise → (r : Ran) (net : Network) (start : Followed) (n : ℕ) (now : Followed) (new : List Place) (list : List Logged)
+all_marked : HistoriesRise → (r : Ran) (net : Network) (start : Followed) (n : ℕ) (now : Followed) (new : List Place) (list : List HistoryEntry)
     → IsFollowed r net net.journal start → AreAdded r net start n now
     → length r.servers ≤ n → list ≡ reverse (history_of r Client) → IsPassed Client (history_of r Client) (next_of now.next Client) (length list) now.places new
     → (node : Node) → IsMarked r net node
@@ -148,7 +148,7 @@ all_marked rise r net start n now new list followed added all e passed (Server s
     by true low = added.0 s (grind (arith, nat_tests))
     by false far = none_marked r net (Server s) start followed (no_cell r s (grind (arith, nat_tests)))
 
-pub ok_marked : HistoriesRise → (r : Ran) (net : Network) (start : Followed) (n : ℕ) (now : Followed) (new : List Place) (list : List Logged)
+pub ok_marked : HistoriesRise → (r : Ran) (net : Network) (start : Followed) (n : ℕ) (now : Followed) (new : List Place) (list : List HistoryEntry)
     (result : Result (Unit {0}) AssembleFault) → IsFollowed r net net.journal start
     → AreAdded r net start n now → length r.servers ≤ n → list ≡ reverse (history_of r Client)
     → OnOk result (IsPassed Client (history_of r Client) (next_of now.next Client) (length list) now.places new)
@@ -157,7 +157,7 @@ ok_marked rise r net start n now new list (Ok _) followed added all e passed = a
 ok_marked rise r net start n now new list (Err _) followed added all e passed = tt
 
 -- And all is added, in the order that the journal gives.
-pub ok_merged : (r : Ran) (net : Network) (start : Followed) (n : ℕ) (now : Followed) (new : List Place) (list : List Logged)
+pub ok_merged : (r : Ran) (net : Network) (start : Followed) (n : ℕ) (now : Followed) (new : List Place) (list : List HistoryEntry)
     (result : Result (Unit {0}) AssembleFault) → IsFollowed r net net.journal start
     → AreAdded r net start n now → n ≡ length r.servers → list ≡ reverse (history_of r Client)
     → OnOk result (IsPassed Client (history_of r Client) (next_of now.next Client) (length list) now.places new)

@@ -6,7 +6,7 @@ use Rattle.std.proofs.lemmas.List.Elements.{filter-append}
 use Rattle.std.proofs.lemmas.Bool.Decides.{nat_tests}
 use Rattle.std.proofs.lemmas.Option.{slice_get_within}
 use Rattle.messages.specs.declared.node.Node.{Node}
-use Rattle.cells.specs.declared.logged.Logged.{Logged}
+use Rattle.cells.specs.declared.entry.HistoryEntry.{HistoryEntry}
 use Rattle.cells.specs.AtHub.{is_left_out}
 use Rattle.std.proofs.lemmas.Bool.{le-leb, le-ltb, lt-ltb}
 use Rattle.assembly.specs.declared.place.Place.{Place}
@@ -34,13 +34,13 @@ split (y ∷ ys) (suc at) x h =
     let s = split ys at x h in
     record { front = y ∷ s.front; back = s.back; all = ap (λ zs. y ∷ zs) s.all; at_is = omega (arith, s.at_is) }
 
-record Among (h : List Logged) (at : ℕ) (l : Logged) : Type 0 where
-  newer : List Logged
-  older : List Logged
+record Among (h : List HistoryEntry) (at : ℕ) (l : HistoryEntry) : Type 0 where
+  newer : List HistoryEntry
+  older : List HistoryEntry
   all : h ≡ newer ++ l ∷ older
   at_is : length older ≡ at
 
-among : (h : List Logged) (at : ℕ) (l : Logged) → slice_get (reverse h) at ≡ Some l → Among h at l
+among : (h : List HistoryEntry) (at : ℕ) (l : HistoryEntry) → slice_get (reverse h) at ≡ Some l → Among h at l
 among h at l is =
     let s = split (reverse h) at l is in
     record {
@@ -48,14 +48,14 @@ among h at l is =
       older = reverse s.front;
       all =
           sym (reverse-reverse h)
-          ∙ (ap (λ (xs : List Logged). reverse xs) s.all
+          ∙ (ap (λ (xs : List HistoryEntry). reverse xs) s.all
           ∙ (reverse-append s.front (l ∷ s.back)
-          ∙ (ap (λ (xs : List Logged). xs ++ reverse s.front) (reverse-append (l ∷ []) s.back)
+          ∙ (ap (λ (xs : List HistoryEntry). xs ++ reverse s.front) (reverse-append (l ∷ []) s.back)
           ∙ append_assoc (reverse s.back) (l ∷ []) (reverse s.front))));
       at_is = length-reverse s.front ∙ s.at_is;
     }
 
-longer : (newer older : List Logged) (l : Logged) → length older + 1 ≤ length (newer ++ l ∷ older)
+longer : (newer older : List HistoryEntry) (l : HistoryEntry) → length older + 1 ≤ length (newer ++ l ∷ older)
 longer [] older l = omega arith
 longer (e ∷ es) older l = let h = longer es older l in omega (arith, h)
 
@@ -74,7 +74,7 @@ one_more from at (x ∷ xs) h =
     by_test true e = ap (λ ys. x ∷ ys) e
     by_test false e = e
 
-here : (from : ℕ) (l : Logged) (older : List Logged) → from ≤ length older → (b : Bool) →
+here : (from : ℕ) (l : HistoryEntry) (older : List HistoryEntry) → from ≤ length older → (b : Bool) →
     span from (length older + 1) (if b then standing_places older else length older ∷ standing_places older)
     ≡ (if b then span from (length older) (if b then standing_places older else length older ∷ standing_places older)
     else length older ∷ span from (length older) (if b then standing_places older else length older ∷ standing_places older))
@@ -95,7 +95,7 @@ skipped from at k xs false low far out h =
     let two : nat_lt k at ≡ false = le-ltb k at (omega (arith, far)) in
     rw (there, one, two) h
 
-rises : (from : ℕ) (newer older : List Logged) (l : Logged) → from ≤ length older →
+rises : (from : ℕ) (newer older : List HistoryEntry) (l : HistoryEntry) → from ≤ length older →
     span from (length older + 1) (standing_places (newer ++ l ∷ older))
     ≡ (if is_left_out l.answer then span from (length older) (standing_places (newer ++ l ∷ older))
     else length older ∷ span from (length older) (standing_places (newer ++ l ∷ older)))
@@ -122,7 +122,7 @@ none_between at (x ∷ xs) = by_test (none_between at xs) (nat_lt x at) refl
         le_of : (a b : ℕ) → nat_lt b a ≡ false → nat_le a b ≡ true
         le_of a b h = grind (arith, nat_tests, h)
 
-places_rise : (node : Node) (h : List Logged) → PlacesRise node h
+places_rise : (node : Node) (h : List HistoryEntry) → PlacesRise node h
 places_rise node h = record {
   none = λ at. ap (map {B = Place} (λ k. record { node = node; at = k })) (none_between at (standing_places h));
   more = λ from at l low is. by_among from at l low (among h at l is);
@@ -135,7 +135,7 @@ places_rise node h = record {
     mapped true at xs ys e = ap (map {B = Place} (λ k. record { node = node; at = k })) e
     mapped false at xs ys e = ap (map {B = Place} (λ k. record { node = node; at = k })) e
 
-    by_among : (from at : ℕ) (l : Logged) → from ≤ at → Among h at l
+    by_among : (from at : ℕ) (l : HistoryEntry) → from ≤ at → Among h at l
         → places_between node from (at + 1) h ≡ (if is_left_out l.answer then places_between node from at h
         else record { node = node; at = at } ∷ places_between node from at h)
     by_among from at l low a =
@@ -147,7 +147,7 @@ places_rise node h = record {
 below_marks : ℕ → List Mark → List Mark
 below_marks to marks = filter (λ (mark : Mark). nat_lt mark.at to) marks
 
-mark_below : (at to : ℕ) (l : Logged) (b : Bool) → nat_lt at to ≡ b → below_marks to (mark_of at l) ≡ (if b then mark_of at l else [])
+mark_below : (at to : ℕ) (l : HistoryEntry) (b : Bool) → nat_lt at to ≡ b → below_marks to (mark_of at l) ≡ (if b then mark_of at l else [])
 unfolding below_marks
 mark_below at to l b h = by_test (is_left_out l.answer)
   where
@@ -171,26 +171,26 @@ mark_below at to l b h = by_test (is_left_out l.answer)
     by_test false = by_mark (marks_if at (frame_of l.came) l.sent) (none_or_one at (frame_of l.came) l.sent)
 
 -- Those of the newest event, and of the others.
-below_both : (to : ℕ) (l : Logged) (ls : List Logged) (b : Bool) → nat_lt (length ls) to ≡ b
+below_both : (to : ℕ) (l : HistoryEntry) (ls : List HistoryEntry) (b : Bool) → nat_lt (length ls) to ≡ b
     → below_marks to (marks_of (l ∷ ls)) ≡ (if b then mark_of (length ls) l else []) ++ below_marks to (marks_of ls)
 unfolding below_marks
 below_both to l ls b h =
     filter-append (λ (mark : Mark). nat_lt mark.at to) (mark_of (length ls) l) (marks_of ls)
     ∙ ap (λ ms. ms ++ below_marks to (marks_of ls)) (mark_below (length ls) to l b h)
 
-marks_all : (h : List Logged) (to : ℕ) → length h ≤ to → below_marks to (marks_of h) ≡ marks_of h
+marks_all : (h : List HistoryEntry) (to : ℕ) → length h ≤ to → below_marks to (marks_of h) ≡ marks_of h
 unfolding below_marks
 marks_all [] to h = refl
 marks_all (l ∷ ls) to h =
     below_both to l ls true (lt-ltb (length ls) to (omega (arith, h)))
     ∙ ap (λ ms. mark_of (length ls) l ++ ms) (marks_all ls to (omega (arith, h)))
 
-marks_none : (h : List Logged) → below_marks 0 (marks_of h) ≡ []
+marks_none : (h : List HistoryEntry) → below_marks 0 (marks_of h) ≡ []
 unfolding below_marks
 marks_none [] = refl
 marks_none (l ∷ ls) = below_both 0 l ls false (le-ltb (length ls) 0 (omega arith)) ∙ marks_none ls
 
-marks_more : (newer older : List Logged) (l : Logged) → below_marks (length older + 1) (marks_of (newer ++ l ∷ older))
+marks_more : (newer older : List HistoryEntry) (l : HistoryEntry) → below_marks (length older + 1) (marks_of (newer ++ l ∷ older))
     ≡ mark_of (length older) l ++ below_marks (length older) (marks_of (newer ++ l ∷ older))
 marks_more [] older l =
     let k = length older in
@@ -204,7 +204,7 @@ marks_more (e ∷ es) older l =
     ∙ (marks_more es older l
     ∙ ap (λ ms. mark_of k l ++ ms) (sym (below_both k e (es ++ l ∷ older) false (le-ltb (length (es ++ l ∷ older)) k (omega (arith, far))))))
 
-marks_rise : (h : List Logged) → MarksRise h
+marks_rise : (h : List HistoryEntry) → MarksRise h
 unfolding below_marks
 marks_rise h = record {
   none = marks_none h;
@@ -212,7 +212,7 @@ marks_rise h = record {
   all = marks_all h (length h) (omega arith);
 }
   where
-    by_among : (at : ℕ) (l : Logged) → Among h at l → marks_before (at + 1) h ≡ mark_of at l ++ marks_before at h
+    by_among : (at : ℕ) (l : HistoryEntry) → Among h at l → marks_before (at + 1) h ≡ mark_of at l ++ marks_before at h
     by_among at l a = rw (a.all, ← a.at_is) (marks_more a.newer a.older l)
 
 pub histories_rise : HistoriesRise

@@ -39,8 +39,8 @@ use Rattle.server_core.specs.Replies.{Now, replies}
 use Rattle.server_core.specs.Words.{is_on, has_boot}
 use Rattle.server_core.specs.Hearing.{FrameEntry, Met, Cut, Restart, coming_of, heard_at, packets_heard, rules as hearing, arrival}
 use Rattle.server_core.specs.FrameAnswers as answers
-use Rattle.cells.specs.declared.came.Came.{Came}
-use Rattle.cells.specs.declared.came.Came.TheVariants as came
+use Rattle.cells.specs.declared.input.NodeInput.{NodeInput}
+use Rattle.cells.specs.declared.input.NodeInput.TheVariants as came
 use Rattle.cells.specs.Rules.{Ask, Meets, Cuts, Restarts, Nothing}
 use Rattle.cells.specs.CoreRules.{left_by}
 use Rattle.cells.specs.ServerRules.{ask_of, ask_of_frame, ask_of_report, core}
@@ -176,7 +176,7 @@ unfolding IsOf
 asked_report frames boot a j report true h = h
 asked_report frames boot a j report false h = tt
 
-asked_of : (frames : List Frame) (c : Came) → CameOf frames (frame_of c) → IsOf frames (ask_of c)
+asked_of : (frames : List Frame) (c : NodeInput) → CameOf frames (frame_of c) → IsOf frames (ask_of c)
 unfolding IsOf
 asked_of frames (came.Frame bytes) h = asked_frame frames (frame_at bytes) h
 asked_of frames (came.Issue j) h = tt
@@ -211,10 +211,10 @@ fits frames s ask Cut o l h k = (l, tt)
 fits frames s ask (Restart left) o l h k = (l, tt)
 
 -- It may happen behind these frames, and is within its ranges.
-pub server_happens : (frames : List Frame) (o : Opening) (c : Came) (e : FrameEntry) → CameOf frames (frame_of c) → IsAsked o (ask_of c) e
+pub server_happens : (frames : List Frame) (o : Opening) (c : NodeInput) (e : FrameEntry) → CameOf frames (frame_of c) → IsAsked o (ask_of c) e
     → MayHappen frames (OfServer o.me (coming_of e))
 server_happens frames o c e h k = happens frames o.me (ask_of c) e o refl (asked_of frames c h) k
 
-pub server_fits : (frames : List Frame) (o : Opening) (c : Came) (e : FrameEntry) → o.me < 8 → CameOf frames (frame_of c) → IsAsked o (ask_of c) e
+pub server_fits : (frames : List Frame) (o : Opening) (c : NodeInput) (e : FrameEntry) → o.me < 8 → CameOf frames (frame_of c) → IsAsked o (ask_of c) e
     → FrameStepFits (OfServer o.me (coming_of e))
 server_fits frames o c e l h k = fits frames o.me (ask_of c) e o l (asked_of frames c h) k

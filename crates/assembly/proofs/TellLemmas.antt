@@ -6,7 +6,7 @@ use Rattle.std.proofs.lemmas.List.{map-append}
 use Rattle.messages.specs.declared.node.Node.{Node}
 use Rattle.messages.specs.FrameBytes.{frame_spelling}
 use Rattle.hub.specs.Waiting.{is_same_node}
-use Rattle.cells.specs.declared.logged.Logged.{Logged}
+use Rattle.cells.specs.declared.entry.HistoryEntry.{HistoryEntry}
 use Rattle.cells.specs.AtHub.{is_left_out}
 use Rattle.cells.specs.Replay.{Ends, Makes}
 use Rattle.net_world.specs.Setup.{without_mirror}
@@ -23,9 +23,9 @@ use Rattle.assembly.proofs.NodeLemmas.{other_step, own_list, own_step, rules_of,
 -- ---- a history's newest event that stands
 
 -- It stands at this place, behind events that stand at these.
-pub record Newest (n : ℕ) (node : Node) (h : List Logged) (list : List (EntryOf node)) (at : ℕ) (rest : List ℕ) : Type 0 where
-  pub event : Logged
-  pub older : List Logged
+pub record Newest (n : ℕ) (node : Node) (h : List HistoryEntry) (list : List (EntryOf node)) (at : ℕ) (rest : List ℕ) : Type 0 where
+  pub event : HistoryEntry
+  pub older : List HistoryEntry
   pub stands : is_left_out event.answer ≡ false
   pub at_is : length older ≡ at
   pub rest_is : standing_places older ≡ rest
@@ -35,7 +35,7 @@ pub record Newest (n : ℕ) (node : Node) (h : List Logged) (list : List (EntryO
   pub ends : Ends (rules_of n node) past ((rules_of n node).asked event.came) event.answer event.sent list
 
 -- An event that is left out is as if it hadn't come.
-left_out : (n : ℕ) (node : Node) (l : Logged) (ls : List Logged) (list past : List (EntryOf node)) (at : ℕ) (rest : List ℕ) → is_left_out l.answer ≡ true
+left_out : (n : ℕ) (node : Node) (l : HistoryEntry) (ls : List HistoryEntry) (list past : List (EntryOf node)) (at : ℕ) (rest : List ℕ) → is_left_out l.answer ≡ true
     → list ≡ past → Newest n node ls past at rest → Newest n node (l ∷ ls) list at rest
 left_out n node l ls list past at rest out same newest = record {
   event = newest.event;
@@ -56,7 +56,7 @@ head_is x y xs ys h = cc
 pub tail_is : {X : Type 0} (x y : X) (xs ys : List X) → x ∷ xs ≡ y ∷ ys → xs ≡ ys
 tail_is x y xs ys h = cc
 
-pub newest_of : (n : ℕ) (node : Node) (h : List Logged) (list : List (EntryOf node)) (at : ℕ) (rest : List ℕ) → Makes (rules_of n node) h list
+pub newest_of : (n : ℕ) (node : Node) (h : List HistoryEntry) (list : List (EntryOf node)) (at : ℕ) (rest : List ℕ) → Makes (rules_of n node) h list
     → standing_places h ≡ at ∷ rest → Newest n node h list at rest
 newest_of n node [] list at rest made is = absurd (never is)
   where
@@ -80,7 +80,7 @@ newest_of n node (l ∷ ls) list at rest made is = by_test (λ h. newest_of n no
     }
 
 -- Where none stands, the list is the one with which the node opened.
-pub opened_still : (n : ℕ) (node : Node) (h : List Logged) (list : List (EntryOf node)) → Makes (rules_of n node) h list → standing_places h ≡ []
+pub opened_still : (n : ℕ) (node : Node) (h : List HistoryEntry) (list : List (EntryOf node)) → Makes (rules_of n node) h list → standing_places h ≡ []
     → list ≡ (rules_of n node).opened
 opened_still n node [] list made is = made
 opened_still n node (l ∷ ls) list made is = by_test (λ h. opened_still n node ls made.0 made.1 h) (is_left_out l.answer) refl is

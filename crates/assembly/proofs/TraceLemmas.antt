@@ -7,7 +7,7 @@ use Rattle.messages.specs.declared.node.Node.{Node}
 use Rattle.messages.specs.declared.node.Node.TheVariants.{Server, Client, Mirror}
 use Rattle.hub.specs.declared.line.Line.{Line}
 use Rattle.hub.specs.Waiting.{is_same_node}
-use Rattle.cells.specs.declared.logged.Logged.{Logged}
+use Rattle.cells.specs.declared.entry.HistoryEntry.{HistoryEntry}
 use Rattle.cells.specs.Replay.{Makes}
 use Rattle.net_world.specs.Setup.{without_mirror}
 use Rattle.net_world.specs.Frames.{frames_sent}
@@ -29,13 +29,13 @@ use Rattle.assembly.proofs.LeftLemmas.{few_below, has_within, ends_with, marked_
 use Rattle.assembly.proofs.LeftLemmas.{older_place, other_marks, own_marks, place_left, places_left}
 
 -- Of each node the marks of its history are those of the journal.
-abbrev AreMarked : List (List ℕ) → List Line → (Node → List Logged) → Type 0
+abbrev AreMarked : List (List ℕ) → List Line → (Node → List HistoryEntry) → Type 0
 AreMarked frames journal ran = (node : Node) → marks_of (ran node) ≡ marks_in frames node journal
 
 -- What is told of the order without its newest event.
-abbrev Before : ℕ → List (List ℕ) → Place → List Place → (Node → List Logged) → ((node : Node) → List (EntryOf node)) → Type 0
+abbrev Before : ℕ → List (List ℕ) → Place → List Place → (Node → List HistoryEntry) → ((node : Node) → List (EntryOf node)) → Type 0
 Before n frames p order ran lists =
-    (journal : List Line) (older : List Logged) (past : List (EntryOf p.node)) → AreSentBefore journal → Makes (rules_of n p.node) older past
+    (journal : List Line) (older : List HistoryEntry) (past : List (EntryOf p.node)) → AreSentBefore journal → Makes (rules_of n p.node) older past
     → standing_places older ≡ places_of p.node order
     → AreMarked frames journal (with_history p.node older ran) → IsWithin (map place_of journal) order
     → Told n (take (count_sent journal) frames) (with_list p.node past lists) order
@@ -43,7 +43,7 @@ Before n frames p order ran lists =
 -- ---- an event that has to do with no frames
 
 -- Its place is that of no entry.
-not_first : (frames : List (List ℕ)) (p : Place) (journal : List Line) (rest : List Place) (older : List Logged) → map place_of journal ≡ p ∷ rest
+not_first : (frames : List (List ℕ)) (p : Place) (journal : List Line) (rest : List Place) (older : List HistoryEntry) → map place_of journal ≡ p ∷ rest
     → length older ≡ p.at → marks_of older ≡ marks_in frames p.node journal → ⊥
 not_first frames p [] rest older is len marks = never is
   where
@@ -59,12 +59,12 @@ not_first frames p (l ∷ lines) rest older is len marks =
     firsts : (q : Place) (qs : List Place) → q ∷ qs ≡ p ∷ rest → q ≡ p
     firsts q qs h = cc
 
-later_within : (frames : List (List ℕ)) (p : Place) (order : List Place) (journal : List Line) (older : List Logged) → length older ≡ p.at
+later_within : (frames : List (List ℕ)) (p : Place) (order : List Place) (journal : List Line) (older : List HistoryEntry) → length older ≡ p.at
     → marks_of older ≡ marks_in frames p.node journal → IsWithin (map place_of journal) (p ∷ order) → IsWithin (map place_of journal) order
 later_within frames p order journal older len marks (inl w) = w
 later_within frames p order journal older len marks (inr w) = absurd (not_first frames p journal w.0 older w.1 len marks)
 
-quietly : Laws → (n : ℕ) → n ≤ 8 → (frames : List (List ℕ)) (p : Place) (order : List Place) (journal : List Line) (ran : Node → List Logged)
+quietly : Laws → (n : ℕ) → n ≤ 8 → (frames : List (List ℕ)) (p : Place) (order : List Place) (journal : List Line) (ran : Node → List HistoryEntry)
     (lists : (node : Node) → List (EntryOf node)) →
     IsBelow n p.node → AreSentBefore journal → AreMarked frames journal ran → IsWithin (map place_of journal) (p ∷ order) →
     (top : Newest n p.node (ran p.node) (lists p.node) p.at (places_of p.node order)) →
@@ -91,12 +91,12 @@ quietly laws n few frames p order journal ran lists below sent marked within top
 -- ---- an event that has an entry in the journal
 
 -- What the journal's newest entry tells, where it is of this event.
-record IsNoted (frames : List (List ℕ)) (p : Place) (l : Line) (lines : List Line) (mark : Mark) (older : List Logged) : Type 0 where
+record IsNoted (frames : List (List ℕ)) (p : Place) (l : Line) (lines : List Line) (mark : Mark) (older : List HistoryEntry) : Type 0 where
   same : l.node ≡ p.node
   mark_is : mark ≡ mark_of_line frames (count_sent lines) l
   older_are : marks_of older ≡ marks_in frames p.node lines
 
-noted_first : (frames : List (List ℕ)) (p : Place) (l : Line) (lines : List Line) (mark : Mark) (older : List Logged) → place_of l ≡ p
+noted_first : (frames : List (List ℕ)) (p : Place) (l : Line) (lines : List Line) (mark : Mark) (older : List HistoryEntry) → place_of l ≡ p
     → mark ∷ marks_of older ≡ marks_in frames p.node (l ∷ lines) → IsNoted frames p l lines mark older
 noted_first frames p l lines mark older here marks = record { same = ap (λ (q : Place). q.node) here; mark_is = firsts both; older_are = lasts both }
   where
@@ -112,7 +112,7 @@ noted_first frames p l lines mark older here marks = record { same = ap (λ (q :
     lasts : mark ∷ marks_of older ≡ mark_of_line frames (count_sent lines) l ∷ marks_in frames p.node lines → marks_of older ≡ marks_in frames p.node lines
     lasts h = cc
 
-with_line : Laws → (n : ℕ) → n ≤ 8 → (frames : List (List ℕ)) (p : Place) (order : List Place) (l : Line) (lines : List Line) (ran : Node → List Logged)
+with_line : Laws → (n : ℕ) → n ≤ 8 → (frames : List (List ℕ)) (p : Place) (order : List Place) (l : Line) (lines : List Line) (ran : Node → List HistoryEntry)
     (lists : (node : Node) → List (EntryOf node)) →
     IsBelow n p.node → AreSentBefore (l ∷ lines) → AreMarked frames (l ∷ lines) ran → IsWithin (map place_of lines) order →
     (top : Newest n p.node (ran p.node) (lists p.node) p.at (places_of p.node order)) →
@@ -142,7 +142,7 @@ with_line laws n few frames p order l lines ran lists below sent marked within t
             own_marks p top.older ran node e ∙ subst (λ (m : Node). marks_of top.older ≡ marks_in frames m lines) (same_node p.node node e) noted.older_are
         by_test false e = other_marks p top.older ran node e ∙ (marked node ∙ others node e)
 
-noted : Laws → (n : ℕ) → n ≤ 8 → (frames : List (List ℕ)) (p : Place) (order : List Place) (journal : List Line) (ran : Node → List Logged)
+noted : Laws → (n : ℕ) → n ≤ 8 → (frames : List (List ℕ)) (p : Place) (order : List Place) (journal : List Line) (ran : Node → List HistoryEntry)
     (lists : (node : Node) → List (EntryOf node)) →
     IsBelow n p.node → AreSentBefore journal → AreMarked frames journal ran → IsWithin (map place_of journal) (p ∷ order) →
     (top : Newest n p.node (ran p.node) (lists p.node) p.at (places_of p.node order)) →
@@ -169,7 +169,7 @@ noted laws n few frames p order (l ∷ lines) ran lists below sent marked (inr w
 
 -- ---- each event
 
-event : Laws → (n : ℕ) → n ≤ 8 → (frames : List (List ℕ)) (p : Place) (order : List Place) (journal : List Line) (ran : Node → List Logged)
+event : Laws → (n : ℕ) → n ≤ 8 → (frames : List (List ℕ)) (p : Place) (order : List Place) (journal : List Line) (ran : Node → List HistoryEntry)
     (lists : (node : Node) → List (EntryOf node)) →
     IsBelow n p.node → AreSentBefore journal → AreMarked frames journal ran → IsWithin (map place_of journal) (p ∷ order) →
     (top : Newest n p.node (ran p.node) (lists p.node) p.at (places_of p.node order)) → Before n frames p order ran lists
@@ -192,7 +192,7 @@ event laws n few frames p order journal ran lists below sent marked within top b
         noted laws n few frames p order journal ran lists below sent marked within top
         (sym (marks_are ∙ ap (λ ms. ms ++ marks_of top.older) one) ∙ marked p.node) before
 
-tell : Laws → (n : ℕ) → n ≤ 8 → (frames : List (List ℕ)) (order : List Place) (journal : List Line) (ran : Node → List Logged)
+tell : Laws → (n : ℕ) → n ≤ 8 → (frames : List (List ℕ)) (order : List Place) (journal : List Line) (ran : Node → List HistoryEntry)
     (lists : (node : Node) → List (EntryOf node)) →
     AreMade n ran lists → EndAt n ran → AreSentBefore journal → AreMarked frames journal ran →
     ((node : Node) → places_of node order ≡ standing_places (ran node)) → IsWithin (map place_of journal) order →
@@ -223,16 +223,16 @@ tell laws n few frames (p ∷ order) journal ran lists made ends sent marked pla
 
 -- ---- the laws
 
-list_of : (n : ℕ) (ran : Node → List Logged) → Lists n ran → (node : Node) → List (EntryOf node)
+list_of : (n : ℕ) (ran : Node → List HistoryEntry) → Lists n ran → (node : Node) → List (EntryOf node)
 list_of n ran lists (Server s) = lists.servers s
 list_of n ran lists Client = lists.client
 list_of n ran lists Mirror = []
 
-made_of : (n : ℕ) (ran : Node → List Logged) (lists : Lists n ran) → EndAt n ran → AreMade n ran (list_of n ran lists)
+made_of : (n : ℕ) (ran : Node → List HistoryEntry) (lists : Lists n ran) → EndAt n ran → AreMade n ran (list_of n ran lists)
 unfolding list_of
 made_of n ran lists ends (Server s) = lists.servers_made s
 made_of n ran lists ends Client = lists.client_made
-made_of n ran lists ends Mirror = subst (λ (h : List Logged). Makes (rules_of n Mirror) h []) (sym ends.mirror) refl
+made_of n ran lists ends Mirror = subst (λ (h : List HistoryEntry). Makes (rules_of n Mirror) h []) (sym ends.mirror) refl
 
 pub merges_name_a_trace : Laws → MergesNameATrace
 unfolding list_of

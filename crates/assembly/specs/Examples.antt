@@ -7,10 +7,10 @@ use Rattle.messages.specs.declared.node.Node.TheVariants.{Server, Client, Mirror
 use Rattle.messages.specs.declared.refusal.Act.TheVariants as acts
 use Rattle.hub.specs.Network.{Network}
 use Rattle.cells.specs.declared.answer.Answer.TheVariants.{Plain}
-use Rattle.cells.specs.declared.answer.Said.{Said}
-use Rattle.cells.specs.declared.came.Came.{Came}
-use Rattle.cells.specs.declared.came.Came.TheVariants as came
-use Rattle.cells.specs.declared.logged.Logged.{Logged}
+use Rattle.cells.specs.declared.answer.Reply.{Reply}
+use Rattle.cells.specs.declared.input.NodeInput.{NodeInput}
+use Rattle.cells.specs.declared.input.NodeInput.TheVariants as came
+use Rattle.cells.specs.declared.entry.HistoryEntry.{HistoryEntry}
 use Rattle.assembly.specs.declared.place.Place.{Place}
 use Rattle.assembly.specs.Marks.{marks_in, marks_of}
 use Rattle.assembly.specs.Orders.{merged_order}
@@ -24,17 +24,17 @@ abbrev pub reply_bytes : List ℕ
 reply_bytes = 8 ∷ []
 
 -- An event that was answered, or refused.
-abbrev pub event : Came → Result Said Fault → List (List ℕ) → Logged
+abbrev pub event : NodeInput → Result Reply Fault → List (List ℕ) → HistoryEntry
 event came answer sent = record { by = None; came = came; answer = answer; sent = sent }
 
 -- A plain answer.
-abbrev pub good : Result Said Fault
+abbrev pub good : Result Reply Fault
 good = Ok (record { answer = Plain; act = acts.None })
 
 -- The client ticks, and sends a frame; it ticks and sends none; and a frame comes to it. To the
 -- server comes what asks for a write, and then the client's frame, to which it sends one; what asks
 -- for a write is refused; and it is cut.
-abbrev pub history_of : Node → List Logged
+abbrev pub history_of : Node → List HistoryEntry
 history_of Client =
     event (came.Frame reply_bytes) good [] ∷ event came.Tick good
     [] ∷ event came.Tick good (request_bytes ∷ []) ∷ []

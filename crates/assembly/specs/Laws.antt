@@ -5,7 +5,7 @@ use Rattle.messages.specs.declared.node.Node.{Node}
 use Rattle.hub.specs.Network.{Network}
 use Rattle.server_core.specs.Hearing.{FrameEntry as ServerEntry}
 use Rattle.client_core.specs.Hearing.{FrameEntry as ClientEntry}
-use Rattle.cells.specs.declared.logged.Logged.{Logged}
+use Rattle.cells.specs.declared.entry.HistoryEntry.{HistoryEntry}
 use Rattle.net_world.specs.Frames.{FrameStep}
 use Rattle.assembly.specs.declared.place.Place.{Place}
 use Rattle.hub.specs.Journal.{IsLegal}
@@ -16,7 +16,7 @@ use Rattle.assembly.specs.Names.{IsAssembled, IsOrder}
 use Rattle.assembly.specs.Verdict.{IsHeard, HoldOneState}
 
 -- The histories of n servers and of their client agree with a legal journal.
-pub record Agree (n : ℕ) (net : Network) (ran : Node → List Logged) : Type 0 where
+pub record Agree (n : ℕ) (net : Network) (ran : Node → List HistoryEntry) : Type 0 where
   pub few : n ≤ MAX_SERVERS
   pub legal : IsLegal net
   pub ends : EndAt n ran
@@ -25,19 +25,19 @@ pub record Agree (n : ℕ) (net : Network) (ran : Node → List Logged) : Type 0
 -- Each order that merges the histories of nodes that agree names one trace.
 abbrev pub MergesNameATrace : Type 0
 MergesNameATrace =
-    (n : ℕ) (net : Network) (ran : Node → List Logged) (order : List Place) →
+    (n : ℕ) (net : Network) (ran : Node → List HistoryEntry) (order : List Place) →
     Agree n net ran → IsMerge ran net.journal order → IsOrder n net ran order
 
 -- The order that the journal gives merges them.
 abbrev pub MergedOrdersAreMerges : Type 0
 MergedOrdersAreMerges =
-    (n : ℕ) (net : Network) (ran : Node → List Logged) →
+    (n : ℕ) (net : Network) (ran : Node → List HistoryEntry) →
     Agree n net ran → IsMerge ran net.journal (merged_order n ran net.journal)
 
 -- So it names one trace.
 abbrev pub AgreeingNodesAreATrace : Type 0
 AgreeingNodesAreATrace =
-    (n : ℕ) (net : Network) (ran : Node → List Logged) →
+    (n : ℕ) (net : Network) (ran : Node → List HistoryEntry) →
     Agree n net ran → IsOrder n net ran (merged_order n ran net.journal)
 
 -- What is heard in such a trace is a trace of packets.

@@ -5,7 +5,7 @@ use Rattle.messages.specs.declared.node.Node.{Node}
 use Rattle.messages.specs.declared.node.Node.TheVariants.{Server, Client, Mirror}
 use Rattle.server_core.specs.Hearing.{FrameEntry as ServerEntry}
 use Rattle.client_core.specs.Hearing.{FrameEntry as ClientEntry}
-use Rattle.cells.specs.declared.logged.Logged.{Logged}
+use Rattle.cells.specs.declared.entry.HistoryEntry.{HistoryEntry}
 use Rattle.cells.specs.Replay.{Makes}
 use Rattle.cells.specs.ServerRules.{rules as server_rules}
 use Rattle.cells.specs.ClientRules.{rules as client_rules}
@@ -13,12 +13,12 @@ use Rattle.net_world.specs.Setup.{without_mirror}
 use Rattle.net_world.specs.Trace.{opening_of, client_opening}
 
 -- No server ran from this number on, and no mirror.
-pub record EndAt (n : ℕ) (ran : Node → List Logged) : Type 0 where
+pub record EndAt (n : ℕ) (ran : Node → List HistoryEntry) : Type 0 where
   pub servers : (s : ℕ) → n ≤ s → ran (Server s) ≡ []
   pub mirror : ran Mirror ≡ []
 
 -- Lists that the histories make, of n servers and their client, each opened over a blank note.
-pub record Lists (n : ℕ) (ran : Node → List Logged) : Type 0 where
+pub record Lists (n : ℕ) (ran : Node → List HistoryEntry) : Type 0 where
   pub servers : ℕ → List ServerEntry
   pub client : List ClientEntry
   pub servers_made : (s : ℕ) → Makes (server_rules (opening_of s)) (ran (Server s)) (servers s)

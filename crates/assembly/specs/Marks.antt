@@ -6,9 +6,9 @@ use Rattle.messages.specs.declared.node.Node.{Node}
 use Rattle.hub.specs.declared.line.Line.{Line}
 use Rattle.hub.specs.Network.{Network}
 use Rattle.hub.specs.Waiting.{is_same_node}
-use Rattle.cells.specs.declared.came.Came.{Came}
-use Rattle.cells.specs.declared.came.Came.TheVariants.{Frame}
-use Rattle.cells.specs.declared.logged.Logged.{Logged}
+use Rattle.cells.specs.declared.input.NodeInput.{NodeInput}
+use Rattle.cells.specs.declared.input.NodeInput.TheVariants.{Frame}
+use Rattle.cells.specs.declared.entry.HistoryEntry.{HistoryEntry}
 use Rattle.cells.specs.AtHub.{is_left_out}
 use Rattle.hub.specs.Journal.{count_sent}
 
@@ -35,7 +35,7 @@ marks_in frames node (l ∷ older) =
     ∷ marks_in frames node older else marks_in frames node older
 
 -- The frame that came, if one did.
-abbrev pub frame_of : Came → Option (List ℕ)
+abbrev pub frame_of : NodeInput → Option (List ℕ)
 frame_of (Frame bytes) = Some bytes
 frame_of _ = None
 
@@ -47,15 +47,15 @@ marks_if at (Some bytes) sent = record { at = at; taken = Some bytes; sent = sen
 
 -- So is the event at a place of a history, unless it is left out: a frame that is refused isn't
 -- taken.
-abbrev pub mark_of : ℕ → Logged → List Mark
+abbrev pub mark_of : ℕ → HistoryEntry → List Mark
 mark_of at l = if is_left_out l.answer then [] else marks_if at (frame_of l.came) l.sent
 
 -- The marks of a history.
-abbrev pub marks_of : List Logged → List Mark
+abbrev pub marks_of : List HistoryEntry → List Mark
 marks_of [] = []
 marks_of (l ∷ ls) = mark_of (length ls) l ++ marks_of ls
 
 -- The histories agree with the journal: the marks of each are those that the journal tells of its
 -- node.
-abbrev pub AreMarked : (Node → List Logged) → Network → Type 0
+abbrev pub AreMarked : (Node → List HistoryEntry) → Network → Type 0
 AreMarked ran net = (node : Node) → marks_of (ran node) ≡ marks_in net.frames node net.journal

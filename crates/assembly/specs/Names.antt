@@ -6,7 +6,7 @@ use Rattle.messages.specs.declared.node.Node.TheVariants.{Server, Client, Mirror
 use Rattle.messages.specs.FrameBytes.{frame_spelling}
 use Rattle.server_core.specs.Hearing.{FrameEntry as ServerEntry, coming_of as server_coming}
 use Rattle.client_core.specs.Hearing.{FrameEntry as ClientEntry, coming_of as client_coming}
-use Rattle.cells.specs.declared.logged.Logged.{Logged}
+use Rattle.cells.specs.declared.entry.HistoryEntry.{HistoryEntry}
 use Rattle.hub.specs.Network.{Network}
 use Rattle.net_world.specs.Setup.{without_mirror}
 use Rattle.net_world.specs.Frames.{FrameStep, OfServer, OfClient, OfMirror, of_server, of_client, frames_sent, IsFrameTrace}
@@ -33,14 +33,14 @@ node_of (OfMirror e) = Mirror
 
 -- An order names a trace: it has the nodes of the steps, in their order, and of each node the
 -- places of the events that stand in its list.
-pub record Names (ran : Node → List Logged) (order : List Place)
+pub record Names (ran : Node → List HistoryEntry) (order : List Place)
     (trace : List FrameStep) : Type 0 where
   pub nodes_are : map (λ place. place.node) order ≡ map node_of trace
   pub places_are : (node : Node) → places_of node order ≡ standing_places (ran node)
 
 -- Whatever lists the histories make, the order names one trace of just these, with just the
 -- network's frames.
-abbrev pub IsOrder : ℕ → Network → (Node → List Logged) → List Place → Type 0
+abbrev pub IsOrder : ℕ → Network → (Node → List HistoryEntry) → List Place → Type 0
 IsOrder n net ran order =
     (lists : Lists n ran) →
     (trace : List FrameStep) × IsAssembled n net.frames lists.servers lists.client trace

@@ -7,7 +7,7 @@ use Rattle.messages.specs.declared.limits.TheConstants.{MAX_NODES}
 use Rattle.messages.specs.Nodes.{node_number, is_node}
 use Rattle.hub.specs.declared.line.Line.{Line}
 use Rattle.hub.specs.Network.{Network}
-use Rattle.cells.specs.declared.logged.Logged.{Logged}
+use Rattle.cells.specs.declared.entry.HistoryEntry.{HistoryEntry}
 use Rattle.assembly.specs.declared.place.Place.{Place}
 use Rattle.assembly.specs.Marks.{Mark, frame_of, marks_in, marks_of}
 use Rattle.assembly.specs.Orders.{places_between, next_place, up_to_last}
@@ -32,30 +32,31 @@ abbrev pub with_next : List ℕ → Node → ℕ → List ℕ
 with_next next node at = if is_node node then slice_set next (node_number node) at else next
 
 -- The mark of an event that has one, at this place.
-abbrev pub whole_mark : ℕ → Logged → Mark
+abbrev pub whole_mark : ℕ → HistoryEntry → Mark
 whole_mark at l = record { at = at; taken = frame_of l.came; sent = l.sent }
 
 -- A node was followed from one place up to another: the events that stand there were added, and
 -- none of them is marked.
-pub record IsPassed (node : Node) (h : List Logged) (from to : ℕ)
+pub record IsPassed (node : Node) (h : List HistoryEntry) (from to : ℕ)
     (old new : List Place) : Type 0 where
   pub places : new ≡ old ++ reverse (places_between node from to h)
   pub unmarked : marks_before to h ≡ marks_before from h
 
 -- From a place on, a node's history goes on with a mark at this place, which is below another.
-pub record IsMarkedAt (h : List Logged) (from to at : ℕ) : Type 0 where
+pub record IsMarkedAt (h : List HistoryEntry) (from to at : ℕ) : Type 0 where
   pub mark : Mark
   pub goes_on : GoesOn (marks_before from h) (marks_of h) (Some mark)
   pub at_is : mark.at ≡ at
   pub below : at < to
 
 -- Why a node wasn't followed: an event is marked that was to be passed.
-abbrev pub IsStopped : Node → List Logged → ℕ → ℕ → AssembleFault → Type 0
+abbrev pub IsStopped : Node → List HistoryEntry → ℕ → ℕ → AssembleFault → Type 0
 IsStopped node h from to (Unlike n at) = (n ≡ node) × IsMarkedAt h from to at
 IsStopped node h from to NoMemory = Unit {0}
 
 -- A node was followed up to the event of an entry, whose mark comes next there.
-pub record IsTold (node : Node) (h : List Logged) (entry : Mark) (old new : Followed) : Type 0 where
+pub record IsTold (node : Node) (h : List HistoryEntry) (entry : Mark)
+    (old new : Followed) : Type 0 where
   pub within : entry.at < length h
   pub rises : next_of old.next node ≤ entry.at
   pub places : new.places ≡ old.places
@@ -64,7 +65,7 @@ pub record IsTold (node : Node) (h : List Logged) (entry : Mark) (old new : Foll
   pub marks : marks_before (entry.at + 1) h ≡ entry ∷ marks_before (next_of old.next node) h
 
 -- From a place on, a node's history goes on otherwise than with the mark of an entry.
-pub record IsOther (h : List Logged) (from : ℕ) (entry : Mark) (at : ℕ) : Type 0 where
+pub record IsOther (h : List HistoryEntry) (from : ℕ) (entry : Mark) (at : ℕ) : Type 0 where
   pub event : Option Mark
   pub goes_on : GoesOn (marks_before from h) (marks_of h) event
   pub differ : event ≢ Some entry
@@ -86,7 +87,7 @@ pub record IsFollowed (r : Ran) (net : Network) (journal : List Line)
       ≡ marks_in net.frames node journal
 
 -- Why an entry wasn't told.
-abbrev pub IsUntold : Node → List Logged → ℕ → Mark → AssembleFault → Type 0
+abbrev pub IsUntold : Node → List HistoryEntry → ℕ → Mark → AssembleFault → Type 0
 IsUntold node h from entry (Unlike n at) = (n ≡ node) × IsOther h from entry at
 IsUntold node h from entry NoMemory = Unit {0}
 

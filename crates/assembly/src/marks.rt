@@ -5,12 +5,12 @@ ghost use Rattle.std.specs.Option.{option_and_then};
 ghost use Rattle.assembly.specs.Marks.{frame_of, mark_of, mark_of_line};
 ghost use Rattle.assembly.specs.Order.{whole_mark};
 
-use cells::{Came, Logged, is_left_out};
+use cells::{HistoryEntry, NodeInput, is_left_out};
 use hub::{Hub, Line};
 use messages::Frames;
 
 /// Whether an event took a frame or sent some.
-pub(crate) fn is_marked(event: &Logged) -> bool
+pub(crate) fn is_marked(event: &HistoryEntry) -> bool
     ensures { (at : ℕ) →
         mark_of at event.now ≡ (if result then whole_mark at event.now ∷ [] else []) }
 {
@@ -18,15 +18,15 @@ pub(crate) fn is_marked(event: &Logged) -> bool
 }
 
 /// Whether a frame came.
-fn has_frame(came: &Came) -> bool
+fn has_frame(came: &NodeInput) -> bool
     ensures { result ≡ is_some (frame_of came.now) }
 {
-    matches!(came, Came::Frame(_))
+    matches!(came, NodeInput::Frame(_))
 }
 
 /// Whether an entry of the journal, before which so many frames were sent, tells of this event, if it is at
 /// the entry's place: it took the entry's frame and sent its frames, by their bytes.
-pub(crate) fn is_told_by(hub: &Hub, before: u64, line: &Line, event: &Logged) -> bool
+pub(crate) fn is_told_by(hub: &Hub, before: u64, line: &Line, event: &HistoryEntry) -> bool
     requires there { before + line.now.sent ≤ length hub.now.net.frames }
     requires fits { length hub.now.net.frames < 2 ^ 64 }
     ensures { Decides result
@@ -36,7 +36,7 @@ pub(crate) fn is_told_by(hub: &Hub, before: u64, line: &Line, event: &Logged) ->
 }
 
 /// Whether an event took and sent the frames that an entry says.
-fn has_same(hub: &Hub, before: u64, line: &Line, event: &Logged) -> bool
+fn has_same(hub: &Hub, before: u64, line: &Line, event: &HistoryEntry) -> bool
     requires there { before + line.now.sent ≤ length hub.now.net.frames }
     requires fits { length hub.now.net.frames < 2 ^ 64 }
     ensures { Decides result
@@ -46,7 +46,7 @@ fn has_same(hub: &Hub, before: u64, line: &Line, event: &Logged) -> bool
 }
 
 /// Whether what came is the frame of this number; none where there is no number.
-fn has_taken(hub: &Hub, taken: Option<u64>, came: &Came) -> bool
+fn has_taken(hub: &Hub, taken: Option<u64>, came: &NodeInput) -> bool
     ensures { Decides result
         (frame_of came.now ≡ option_and_then (λ i. slice_get hub.now.net.frames i) taken) }
 {
@@ -55,8 +55,8 @@ fn has_taken(hub: &Hub, taken: Option<u64>, came: &Came) -> bool
         None => None,
     };
     match (came, frame) {
-        (Came::Frame(bytes), Some(frame)) => bytes.as_slice() == frame,
-        (Came::Frame(_), None) => false,
+        (NodeInput::Frame(bytes), Some(frame)) => bytes.as_slice() == frame,
+        (NodeInput::Frame(_), None) => false,
         (_, frame) => frame.is_none(),
     }
 }

@@ -1,7 +1,7 @@
 //! The order of all events, and how far each node was followed.
 
 ghost use Rattle.std.specs.Prelude.{◌≡◌, ◌+◌, ◌<◌, ◌≤◌, ◌^◌, ◌++◌, ◌∷◌, [], List, length, reverse, IfErr, OnOk};
-ghost use Rattle.cells.specs.declared.logged.Logged.{Logged as Event};
+ghost use Rattle.cells.specs.declared.entry.HistoryEntry.{HistoryEntry as Event};
 ghost use Rattle.assembly.specs.Marks.{mark_of_line};
 ghost use Rattle.assembly.specs.declared.fault.AssembleFault.TheVariants.{Unlike, NoMemory};
 ghost use Rattle.assembly.specs.Order.{nothing_followed, next_of, with_next, IsPassed, IsStopped, IsTold, IsUntold};
@@ -74,7 +74,7 @@ impl Order {
                 continue;
             }
             let lent = history.at(at as usize);
-            if is_marked(lent.as_logged()) {
+            if is_marked(lent.as_entry()) {
                 return Err(AssembleFault::Unlike { node: *node, at });
             }
             // It is left out.
@@ -113,7 +113,7 @@ impl Order {
         let Some(lent) = history.get(at as usize) else {
             return Err(unlike(line));
         };
-        if !is_told_by(hub, before, line, lent.as_logged()) {
+        if !is_told_by(hub, before, line, lent.as_entry()) {
             return Err(unlike(line));
         }
         self.add(line.node, at)?;

@@ -8,9 +8,9 @@ use Rattle.fc_base.specs.declared.fault.Fault.TheVariants.{NoMemory, NoFrame, No
 use Rattle.messages.specs.declared.node.Node.{Node}
 use Rattle.messages.specs.declared.frame.Frame.{Frame}
 use Rattle.hub.specs.Network.{Network}
-use Rattle.cells.specs.declared.came.Came.{Came}
-use Rattle.cells.specs.declared.came.Came.TheVariants as came
-use Rattle.cells.specs.declared.logged.Logged.{Logged}
+use Rattle.cells.specs.declared.input.NodeInput.{NodeInput}
+use Rattle.cells.specs.declared.input.NodeInput.TheVariants as came
+use Rattle.cells.specs.declared.entry.HistoryEntry.{HistoryEntry}
 use Rattle.cells.specs.AtHub.{is_left_out, Comes, Hears, IsWhy, Posts}
 use Rattle.cells.specs.Calls.{is_off, Delivers, HasWhy, IsWhyNot, IsWhyWhere}
 use Rattle.cells.specs.Replay.{Makes}
@@ -19,26 +19,26 @@ use Rattle.cells.specs.Rules.{Ask, Rules}
 -- ---- nothing changes
 
 -- What is refused, and left out, changes nothing.
-pub left_out_posts : (node : Node) (came : Came) (taken : Option ℕ) (old new : Network) (before after : List Logged) (fault : Fault)
+pub left_out_posts : (node : Node) (came : NodeInput) (taken : Option ℕ) (old new : Network) (before after : List HistoryEntry) (fault : Fault)
     → is_left_out (Err fault) ≡ true → new ≡ old → after ≡ before → Posts node came taken old new before after (Err fault)
 left_out_posts node came taken old new before after fault out net same =
     (Err fault, [], refl, subst (λ b. Hears b node came taken (Err fault) [] old new before after) (sym out) (record { net = net; history = same }))
 
-pub not_delivered : (node : Node) (position : ℕ) (found : Option (List ℕ)) (net : Network) (history : List Logged) (fault : Fault)
+pub not_delivered : (node : Node) (position : ℕ) (found : Option (List ℕ)) (net : Network) (history : List HistoryEntry) (fault : Fault)
     → is_left_out (Err fault) ≡ true → Delivers node position found net net history history (Err fault)
 not_delivered node position None net history fault out = record { net = refl; history = refl }
 not_delivered node position (Some bytes) net history fault out =
     left_out_posts node (came.Frame bytes) (Some position) net net history history fault out refl refl
 
 -- Where no frame comes, nothing changes.
-pub not_there : (node : Node) (net : Network) (position : ℕ) (history : List Logged) (fault : Fault) → Comes net position (Err fault)
+pub not_there : (node : Node) (net : Network) (position : ℕ) (history : List HistoryEntry) (fault : Fault) → Comes net position (Err fault)
     → Delivers node position (slice_get net.frames position) net net history history (Err fault)
 not_there node net position history NoFrame h = not_delivered node position (slice_get net.frames position) net history NoFrame refl
 not_there node net position history NoMemory h = not_delivered node position (slice_get net.frames position) net history NoMemory refl
 not_there node net position history _ h = absurd h
 
 -- A frame that comes is within the hub's.
-pub within : (net : Network) (position : ℕ) (it : Came × Frame) → Comes net position (Ok it) → ForSome (Some position) (λ i. i < length net.frames)
+pub within : (net : Network) (position : ℕ) (it : NodeInput × Frame) → Comes net position (Ok it) → ForSome (Some position) (λ i. i < length net.frames)
 within net position it (bytes, is, came, frame) i e = subst (λ n. n < length net.frames) (same position i e) (slice_get_within net.frames position bytes is)
   where
     same : (m n : ℕ) → Some m ≡ Some n → m ≡ n
@@ -47,17 +47,17 @@ within net position it (bytes, is, came, frame) i e = subst (λ n. n < length ne
 -- ---- why
 
 -- A node that is off says so.
-pub why_off : {E X : Type 0} (rules : Rules E X) (history : List Logged) (past : List X) (ask : Ask E) → Makes rules history past → is_off rules past ≡ true
+pub why_off : {E X : Type 0} (rules : Rules E X) (history : List HistoryEntry) (past : List X) (ask : Ask E) → Makes rules history past → is_off rules past ≡ true
     → HasWhy rules history ask NodeOff
 why_off rules history past ask made off = record { past = past; made = made; why = subst (λ b. IsWhyWhere b rules past ask NodeOff) (sym off) refl }
 
 -- Of one that is on it is by its rules.
-pub why_on : {E X : Type 0} (rules : Rules E X) (history : List Logged) (past : List X) (ask : Ask E) (fault : Fault) → Makes rules history past
+pub why_on : {E X : Type 0} (rules : Rules E X) (history : List HistoryEntry) (past : List X) (ask : Ask E) (fault : Fault) → Makes rules history past
     → is_off rules past ≡ false → IsWhy rules past ask fault → HasWhy rules history ask fault
 why_on rules history past ask fault made on why = record { past = past; made = made; why = subst (λ b. IsWhyWhere b rules past ask fault) (sym on) why }
 
 -- One that is on takes none where there is none, or memory runs out.
-pub why_not_there : {E X : Type 0} (rules : Rules E X) (history : List Logged) (past : List X) (net : Network) (position : ℕ) (fault : Fault)
+pub why_not_there : {E X : Type 0} (rules : Rules E X) (history : List HistoryEntry) (past : List X) (net : Network) (position : ℕ) (fault : Fault)
     → Makes rules history past → is_off rules past ≡ false → Comes net position (Err fault) → IsWhyNot rules history (slice_get net.frames position) fault
 why_not_there rules history past net position NoFrame made on h =
     rw h (record { past = past; made = made; why = subst (λ b. NoFrame ≡ (if b then NodeOff else NoFrame)) (sym on) refl })

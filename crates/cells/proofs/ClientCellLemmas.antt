@@ -9,10 +9,11 @@ use Rattle.client_core.specs.declared.noted.Noted.{Noted}
 use Rattle.client_core.specs.History.{Opening}
 use Rattle.client_core.specs.Hearing.{FrameEntry, Restart}
 use Rattle.client_core.specs.FrameEnds.{StandsFor, Opens}
-use Rattle.cells.specs.declared.answer.Said.{Said}
+use Rattle.cells.specs.ClientKind.{client_kind}
+use Rattle.cells.specs.declared.answer.Reply.{Reply}
 use Rattle.cells.specs.declared.answer.CallerAnswer.{CallerAnswer}
-use Rattle.cells.specs.declared.came.Came.{Came}
-use Rattle.cells.specs.declared.logged.Logged.{Logged}
+use Rattle.cells.specs.declared.input.NodeInput.{NodeInput}
+use Rattle.cells.specs.declared.entry.HistoryEntry.{HistoryEntry}
 use Rattle.cells.specs.ClientRules.{ask_of}
 use Rattle.cells.specs.AtHub.{lacks_memory, told_by}
 use Rattle.cells.specs.Failures.{Counts}
@@ -21,7 +22,7 @@ use Rattle.cells.proofs.HubLemmas.{same_kept, entered as kept_more}
 use Rattle.node_power.specs.declared.power.Power.{Power}
 use Rattle.node_power.specs.declared.power.Power.TheVariants.{On}
 use Rattle.cells.specs.declared.client_cell.task.ClientTask.{ClientTask}
-use Rattle.cells.specs.ClientStands.{ways, Stands}
+use Rattle.cells.specs.ClientStands.{Stands}
 use Rattle.cells.specs.ClientCells.{ClientLog, opening_of, IsReplay, IsCell}
 use Rattle.cells.specs.ClientCalls.{logged_by, Enters, Applies}
 use Rattle.cells.specs.ClientTasks.{came_by, loads_note}
@@ -48,7 +49,7 @@ pub seen_said : {T : Type 0} (note : T → Note) (servers : ℕ) (notes : T) (cl
 seen_said note servers notes client seen h is = rw is (said_then note servers notes client h)
 
 pub new_cell : {T : Type 0} (note : T → Note) (servers : ℕ) (notes : T) (client seen : Client T) (h : Opens note servers false (note notes) client)
-    (history : List Logged) (failures : ℕ) → 1 ≤ servers → servers ≤ 8 → seen ≡ client → history ≡ []
+    (history : List HistoryEntry) (failures : ℕ) → 1 ≤ servers → servers ≤ 8 → seen ≡ client → history ≡ []
     → IsCell note (record { opening = opening_of servers seen; history = reverse history; failures = failures }) (On client)
 new_cell note servers notes client seen h history failures some few is none =
     rw none (subst (λ said. IsCell note (record { opening = opening_by servers said; history = []; failures = failures }) (On client))
@@ -65,31 +66,31 @@ pub lacks : (old new : ClientLog) (task : ClientTask) → new ≡ old → Applie
 lacks old new task same = (Err NoMemory, refl, (same, refl))
 
 -- What a cell shows later.
-abbrev pub with_history : ClientLog → List Logged → ℕ → ClientLog
+abbrev pub with_history : ClientLog → List HistoryEntry → ℕ → ClientLog
 with_history log history failures = record { opening = log.opening; history = history; failures = failures }
 
 -- Where nothing is entered, a cell is what it was.
 pub same_cell : {T : Type 0} (note : T → Note) (log : ClientLog) (power new : Power (Client T) T) (failures : ℕ) (cell : IsCell note log power)
     → Stands note log.opening cell.kept.past new → IsCell note (with_history log log.history failures) new
 same_cell note log power new failures cell s =
-    record { kept = same_kept (ways note log.opening) log.history power new cell.kept s; some = cell.some; opens = cell.opens }
+    record { kept = same_kept (client_kind note log.opening) log.history power new cell.kept s; some = cell.some; opens = cell.opens }
 
 -- What was asked is entered.
-pub entered : {T : Type 0} (note : T → Note) (log : ClientLog) (power new : Power (Client T) T) (failures : ℕ) (came : Came) (answer : Result Said Fault)
+pub entered : {T : Type 0} (note : T → Note) (log : ClientLog) (power new : Power (Client T) T) (failures : ℕ) (came : NodeInput) (answer : Result Reply Fault)
     (cell : IsCell note log power)
-    → Moves (ways note log.opening) cell.kept.past (ask_of came) answer [] new
+    → Moves (client_kind note log.opening) cell.kept.past (ask_of came) answer [] new
     → IsCell note (with_history log (logged_by came answer ∷ log.history) failures) new
 entered note log power new failures came answer cell m =
-    record { kept = kept_more (ways note log.opening) log.history power new cell.kept _ came answer [] m; some = cell.some; opens = cell.opens }
+    record { kept = kept_more (client_kind note log.opening) log.history power new cell.kept _ came answer [] m; some = cell.some; opens = cell.opens }
 
-pub replayed : {T : Type 0} (note : T → Note) (log : ClientLog) (power new : Power (Client T) T) (failures : ℕ) (came : Came) (answer : Result Said Fault)
+pub replayed : {T : Type 0} (note : T → Note) (log : ClientLog) (power new : Power (Client T) T) (failures : ℕ) (came : NodeInput) (answer : Result Reply Fault)
     (cell : IsCell note log power)
-    → Moves (ways note log.opening) cell.kept.past (ask_of came) answer [] new
+    → Moves (client_kind note log.opening) cell.kept.past (ask_of came) answer [] new
     → (past : List FrameEntry) × IsReplay (with_history log (logged_by came answer ∷ log.history) failures) past
 replayed note log power new failures came answer cell m = (m.after, (cell.kept.past, cell.kept.made, m.ends))
 
 -- So a call ends that was entered.
-pub applied : (old : ClientLog) (task : ClientTask) (answer : Result Said Fault) (new : ClientLog) (result : Result CallerAnswer Fault)
+pub applied : (old : ClientLog) (task : ClientTask) (answer : Result Reply Fault) (new : ClientLog) (result : Result CallerAnswer Fault)
     → lacks_memory answer ≡ false → new.opening ≡ old.opening → new.history ≡ logged_by (came_by task) answer ∷ old.history
     → Counts (loads_note task) old.failures new.failures answer → result ≡ told_by answer → Applies old task new result
 applied old task answer new result kept opening history counted told =

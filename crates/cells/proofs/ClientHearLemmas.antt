@@ -26,8 +26,8 @@ use Rattle.client_core.specs.Hearing.{FrameEntry, packets_heard, is_up}
 use Rattle.client_core.specs.FrameAnswers.{answered_entry, entry_heard}
 use Rattle.client_core.specs.FrameEnds.{StandsFor, most_packets}
 use Rattle.cells.specs.declared.answer.CallerAnswer.{CallerAnswer}
-use Rattle.cells.specs.declared.came.Came.{Came}
-use Rattle.cells.specs.declared.logged.Logged.{Logged}
+use Rattle.cells.specs.declared.input.NodeInput.{NodeInput}
+use Rattle.cells.specs.declared.entry.HistoryEntry.{HistoryEntry}
 use Rattle.cells.specs.Rules.{Meets}
 use Rattle.cells.specs.ClientRules.{ask_of, core, rules}
 use Rattle.cells.specs.AtHub.{is_left_out, told_at, Hears, Comes}
@@ -43,7 +43,7 @@ use Rattle.node_power.specs.declared.power.Power.{Power}
 use Rattle.cells.specs.declared.client_cell.incoming.Incoming.{Incoming}
 use Rattle.cells.specs.declared.client_cell.incoming.Incoming.TheVariants as incoming
 use Rattle.cells.specs.declared.client_cell.request.ClientRequest.TheVariants as requests
-use Rattle.cells.specs.ClientStands.{reply_and_frames, ways}
+use Rattle.cells.specs.ClientStands.{reply_and_frames}
 use Rattle.cells.specs.ClientCells.{ClientLog, IsReplay, IsCell}
 use Rattle.cells.specs.ClientTasks.{input_in}
 use Rattle.cells.proofs.ClientCellLemmas.{with_history}
@@ -51,14 +51,14 @@ use Rattle.cells.proofs.ClientCellLemmas.{with_history}
 -- ---- the room for its frames
 
 short : {T : Type 0} (note : T → Note) (o : Opening) (past : List FrameEntry) (e : Input) (new : Power (Client T) T) (step : Result ClientOuts Fault)
-    → most_packets o past e ≡ 8 → OpensInRange o → CameInRange (packets_heard o past) → StepEnds (ways note o) past e new (reply_and_frames step)
+    → most_packets o past e ≡ 8 → OpensInRange o → CameInRange (packets_heard o past) → StepEnds (client_kind note o) past e new (reply_and_frames step)
     → AreShort 8 (outcome_of (reply_and_frames step)).1
 short note o past e new (Ok outs) eight i h f = subst (λ most. AreShort most outs.frames) eight (f.short i h)
 short note o past e new (Err fault) eight i h f = record { few = omega arith; short = omega arith }
 
 pub has_room : {T : Type 0} (note : T → Note) (log : ClientLog) (power : Power (Client T) T) (cell : IsCell note log power) (e : Input)
     (new : Power (Client T) T) (step : Result ClientOuts Fault) (room : Room) → most_packets log.opening cell.kept.past e ≡ 8
-    → StepEnds (ways note log.opening) cell.kept.past e new (reply_and_frames step) → HasRoom room 136 137864
+    → StepEnds (client_kind note log.opening) cell.kept.past e new (reply_and_frames step) → HasRoom room 136 137864
     → HasRoom room (length (outcome_of (reply_and_frames step)).1) (sum_by (λ (frame : List ℕ). length frame) (outcome_of (reply_and_frames step)).1)
 has_room note log power cell e new step room eight f has =
     let few = short note log.opening cell.kept.past e new step eight cell.opens cell.kept.ranges f in
@@ -99,11 +99,11 @@ by_entry law ranges o past i (Some x) came = hub.packets_spelled law (packets o 
 
 pub sent_spelled : {T : Type 0} (note : T → Note) (log : ClientLog) (power : Power (Client T) T) (cell : IsCell note log power) (e : Input)
     (new : Power (Client T) T) (step : Result ClientOuts Fault) → FramesAreSpelled → PacketsAreInRange
-    → StepEnds (ways note log.opening) cell.kept.past e new (reply_and_frames step) → All IsSpelled (outcome_of (reply_and_frames step)).1
+    → StepEnds (client_kind note log.opening) cell.kept.past e new (reply_and_frames step) → All IsSpelled (outcome_of (reply_and_frames step)).1
 sent_spelled note log power cell e new step law ranges f =
     let o = log.opening in
     let past = cell.kept.past in
-    hub.sent_spelled (ways note o) past e (answered_entry o past e) new (reply_and_frames step) refl cell.kept.ranges
+    hub.sent_spelled (client_kind note o) past e (answered_entry o past e) new (reply_and_frames step) refl cell.kept.ranges
     (λ came. by_entry law ranges o (packets_heard o past) cell.opens (entry_heard o past (answered_entry o past e))
     (λ x is. subst (λ (y : Option history.Entry). CameInRange (with_entry y (packets_heard o past))) is came)) f
 
@@ -111,12 +111,12 @@ sent_spelled note log power cell e new step law ranges f =
 
 -- A cell behind what came.
 pub heard_cell : {T : Type 0} (note : T → Note) (log : ClientLog) (power new : Power (Client T) T) (cell : IsCell note log power) (e : Input)
-    (step : Result ClientOuts Fault) (came : Came) (taken : Option ℕ) (net after : Network) (history : List Logged) (failures : ℕ) → ask_of came ≡ Meets e
-    → StepEnds (ways note log.opening) cell.kept.past e new (reply_and_frames step)
+    (step : Result ClientOuts Fault) (came : NodeInput) (taken : Option ℕ) (net after : Network) (history : List HistoryEntry) (failures : ℕ) → ask_of came ≡ Meets e
+    → StepEnds (client_kind note log.opening) cell.kept.past e new (reply_and_frames step)
     → Hears (is_left_out (outcome_of (reply_and_frames step)).0) nodes.Client came taken (outcome_of (reply_and_frames step)).0
     (outcome_of (reply_and_frames step)).1 net after log.history history → IsCell note (with_history log history failures) new
 heard_cell note log power new cell e step came taken net after history failures asks f h = record {
-  kept = hub.heard (ways note log.opening) log.history history power new cell.kept e (reply_and_frames step) nodes.Client came taken net after asks f h;
+  kept = hub.heard (client_kind note log.opening) log.history history power new cell.kept e (reply_and_frames step) nodes.Client came taken net after asks f h;
   some = cell.some;
   opens = cell.opens;
 }
@@ -135,7 +135,7 @@ unready_why note log power cell e fault shown h view =
 
 pub told_why : {T : Type 0} (note : T → Note) (log : ClientLog) (power new : Power (Client T) T) (cell : IsCell note log power) (e : Input)
     (step : Result ClientOuts Fault) (first sent : ℕ) (result : Result CallerAnswer Fault) (shown : ClientLog) → is_up log.opening cell.kept.past ≡ true
-    → StepEnds (ways note log.opening) cell.kept.past e new (reply_and_frames step) → result ≡ told_at first sent (outcome_of (reply_and_frames step)).0
+    → StepEnds (client_kind note log.opening) cell.kept.past e new (reply_and_frames step) → result ≡ told_at first sent (outcome_of (reply_and_frames step)).0
     → log ≡ shown
     → IfErr result (HasWhy (rules shown.opening) shown.history (Meets e))
 told_why note log power new cell e step first sent result shown up f is view =

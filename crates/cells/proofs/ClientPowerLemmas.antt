@@ -30,7 +30,7 @@ use Rattle.cells.specs.Failures.{Counts}
 use Rattle.cells.specs.Moves.{StepEnds}
 use Rattle.cells.proofs.StepLemmas.{Fits, answered_ends, unanswered_ends, faults_count}
 use Rattle.cells.specs.declared.client_cell.outs.ClientOuts.{ClientOuts}
-use Rattle.cells.specs.ClientStands.{reply_and_frames, outs_of, ways}
+use Rattle.cells.specs.ClientStands.{reply_and_frames, outs_of}
 
 -- ---- what came stays within its ranges
 
@@ -93,7 +93,7 @@ heard o past e (Err fault) h = unasked o past e fault h
 -- A client that is on answers what comes,
 pub answered : {T : Type 0} (note : T → Note) (o : Opening) (past : List FrameEntry) (e : Input) (old client : Client T) (outs : ClientOuts) → is_up o past ≡ true
     → outs.answer ≡ answer_to o past e → SenseInRange IsInRange (sense o past e) → steps.Answers (ends.steps note o) past e old client outs.frames
-    → StepEnds (ways note o) past e (On client) (reply_and_frames (Ok outs))
+    → StepEnds (client_kind note o) past e (On client) (reply_and_frames (Ok outs))
 answered note o past e old client outs on said h a =
     answered_ends (client_kind note o) past e (fits note o past e) on old client outs.frames _ outs.frames a h
     (rw said refl) a.sends.frames_are a.sends.short
@@ -101,7 +101,7 @@ answered note o past e old client outs on said h a =
 -- or doesn't.
 pub unanswered : {T : Type 0} (note : T → Note) (o : Opening) (past : List FrameEntry) (e : Input) (old client : Client T) (fault : Fault) → is_up o past ≡ true
     → UnlessMemory IsInRange (sort_of fault) (sense o past e) → steps.Faults (ends.steps note o) past e (sort_of fault) fault old client
-    → StepEnds (ways note o) past e (On client) (Err fault)
+    → StepEnds (client_kind note o) past e (On client) (Err fault)
 unanswered note o past e old client fault on h f =
     unanswered_ends (client_kind note o) past e (fits note o past e) on old client fault (sort_of fault) f h refl
 
@@ -109,7 +109,7 @@ unanswered note o past e old client fault on h f =
 pub sent_ends : {T : Type 0} (note : T → Note) (o : Opening) (past : List FrameEntry) (e : Input) (old client : Client T) (sent : Result (List (List ℕ)) Fault)
     → is_up o past ≡ true
     → Plain ≡ answer_to o past e → HearsInRange IsInRange (sense o past e) sent → steps.Ends (ends.steps note o) past e old client sent
-    → StepEnds (ways note o) past e (On client) (reply_and_frames (outs_of sent))
+    → StepEnds (client_kind note o) past e (On client) (reply_and_frames (outs_of sent))
 sent_ends note o past e old client (Ok sent) on said h a = answered note o past e old client (record { answer = Plain; frames = sent }) on said h a
 sent_ends note o past e old client (Err fault) on said h f = unanswered note o past e old client fault on h f
 

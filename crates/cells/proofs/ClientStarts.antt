@@ -13,7 +13,7 @@ use Rattle.client_core.specs.Stands.{IsBadNote, NotOpened}
 use Rattle.client_core.specs.Hearing.{FrameEntry, Restart, packets_heard, is_up}
 use Rattle.client_core.specs.FrameEnds as ends
 use Rattle.client_core.specs.FrameEnds.{note_in}
-use Rattle.cells.specs.declared.answer.Said.{Said}
+use Rattle.cells.specs.declared.answer.Reply.{Reply}
 use Rattle.node_power.specs.declared.power.Power.TheVariants.{Off}
 use Rattle.cells.specs.ClientKind.{client_kind, client_is_cut}
 use Rattle.cells.specs.Failures.{Counts}
@@ -21,7 +21,7 @@ use Rattle.cells.specs.Moves.{TaskEnds}
 use Rattle.node_power.specs.declared.power.Power.{Power}
 use Rattle.node_power.specs.Kinds.{left_by, note_by}
 use Rattle.node_power.specs.Kinds as nodes
-use Rattle.cells.specs.Powers.{told_of, ways}
+use Rattle.cells.specs.Powers.{told_of}
 use Rattle.cells.proofs.PowerLemmas.{was_on, was_on_counts}
 use Rattle.cells.specs.Rules.{Restarts}
 
@@ -32,7 +32,7 @@ no_note bytes (inr empty) said says = cc
 
 unstarted : {T : Type 0} (note : T → Note) (o : Opening) (past : List FrameEntry) (notes back : T) (fault : Fault) → is_up o past ≡ false
     → Says (note notes).bytes (words_noted o (packets_heard o past)) → NotOpened false (note notes) (note back) fault
-    → TaskEnds (ways (client_kind note o)) past Restarts (Off back) (Err fault)
+    → TaskEnds (client_kind note o) past Restarts (Off back) (Err fault)
 unstarted note o past notes back LoadFault off says h = record {
   after = past;
   ends = record { why = inr (refl, ap not off); sends_none = refl; after_is = refl };
@@ -46,7 +46,7 @@ unstarted note o past notes back _ off says h = absurd h
 pub starts : {T : Type 0} (note : T → Note) (o : Opening) (past : List FrameEntry) (servers : ℕ) (notes : T) (result : Result (Client T) (T × Fault))
     → o.servers ≡ servers → is_up o past ≡ false → Says (note notes).bytes (words_noted o (packets_heard o past))
     → ends.Restarts note servers false (note notes) result
-    → TaskEnds (ways (client_kind note o)) past Restarts (left_by result) (told_of (nodes.told_of result))
+    → TaskEnds (client_kind note o) past Restarts (left_by result) (told_of (nodes.told_of result))
 starts note o past servers notes (Ok client) is off says h = record {
   after = Restart false ∷ past;
   ends = record {
@@ -63,7 +63,7 @@ starts note o past servers notes (Ok client) is off says h = record {
 starts note o past servers notes (Err back) is off says h = unstarted note o past notes back.0 back.1 off says h
 
 -- A restart that fails counts why.
-unstarted_counts : (old new : Note) (fault : Fault) → NotOpened false old new fault → Counts {X = Said} true old.failures new.failures (Err fault)
+unstarted_counts : (old new : Note) (fault : Fault) → NotOpened false old new fault → Counts {X = Reply} true old.failures new.failures (Err fault)
 unstarted_counts old new LoadFault h = h.0
 unstarted_counts old new BadNote h = ap (λ (n : Note). n.failures) h.0
 unstarted_counts old new NoMemory h = ap (λ (n : Note). n.failures) h
@@ -80,7 +80,7 @@ start_counts note servers notes (Err back) h = unstarted_counts (note notes) (no
 pub restart_ends : {T : Type 0} (note : T → Note) (o : Opening) (past : List FrameEntry) (servers : ℕ) (old new : Power (Client T) T)
     (done : Result (Unit {0}) Fault) → o.servers ≡ servers → nodes.Stands (client_kind note o).node past old
     → nodes.Restarts (client_kind note o).node (λ notes result. ends.Restarts note servers false (note notes) result) past old new done
-    → TaskEnds (ways (client_kind note o)) past Restarts new (told_of done)
+    → TaskEnds (client_kind note o) past Restarts new (told_of done)
 restart_ends note o past servers old new done is s (inl w) = was_on (client_kind note o) past old new done (client_is_cut note o past) s w
 restart_ends note o past servers old new done is s (inr h) = rw (h.new_is, h.told) (starts note o past servers h.notes h.made is h.off h.left.says h.opens)
 

@@ -14,60 +14,62 @@ use Rattle.messages.specs.FramesOf.{spelled_frames}
 use Rattle.messages.specs.Pieces.{frames_of}
 use Rattle.hub.specs.Laws.{FramesAreSpelled}
 use Rattle.hub.specs.Network.{Network, IsSpelled}
-use Rattle.cells.specs.declared.answer.Said.{Said}
+use Rattle.cells.specs.declared.answer.Reply.{Reply}
 use Rattle.cells.specs.declared.answer.CallerAnswer.{CallerAnswer}
-use Rattle.cells.specs.declared.came.Came.{Came}
-use Rattle.cells.specs.declared.logged.Logged.{Logged}
-use Rattle.cells.specs.declared.logged.Turn.{Turn}
+use Rattle.cells.specs.declared.input.NodeInput.{NodeInput}
+use Rattle.cells.specs.declared.entry.HistoryEntry.{HistoryEntry}
+use Rattle.cells.specs.declared.entry.Turn.{Turn}
 use Rattle.cells.specs.AtHub.{is_left_out, told_at, Hears, Posts}
 use Rattle.cells.specs.Calls.{HasWhy}
 use Rattle.cells.specs.CoreRules.{rules_of}
 use Rattle.cells.specs.Failures.{Counts}
-use Rattle.cells.specs.Moves.{Ways, Moves, StepEnds, IsKept, outcome_of}
-use Rattle.cells.specs.Powers.{Kind, IsReady, ways}
+use Rattle.cells.specs.Kinds.{Kind}
+use Rattle.cells.specs.Moves.{Moves, StepEnds, IsKept, outcome_of}
+use Rattle.cells.specs.Powers.{IsReady}
 use Rattle.cells.specs.Rules.{Ask, Meets}
 use Rattle.node_power.specs.declared.power.Power.{Power}
+use Rattle.node_power.specs.Kinds.{Stands}
 use Rattle.cells.proofs.CallLemmas.{left_out_posts, why_off, why_on}
 use Rattle.cells.proofs.MoveLemmas.{off_where, unmoved, moved, refused_for}
 
 -- The newest entry is the last of the items.
-pub pushed : (items : List Logged) (l : Logged) → reverse (items ++ l ∷ []) ≡ l ∷ reverse items
+pub pushed : (items : List HistoryEntry) (l : HistoryEntry) → reverse (items ++ l ∷ []) ≡ l ∷ reverse items
 pushed items l = reverse-append items (l ∷ [])
 
 -- ---- what a node keeps
 
 -- Where nothing is entered, what it keeps is what it was.
-pub same_kept : {E X S : Type 0} (w : Ways E X S) (history : List Logged) (old new : S) (k : IsKept w history old) → w.Stands k.past new → IsKept w history new
-same_kept w history old new k s = record { past = k.past; made = k.made; stands = s; ranges = k.ranges }
+pub same_kept : {C N E X D O : Type 0} (k : Kind C N E X D O) (history : List HistoryEntry) (old new : Power C N) (kept : IsKept k history old) → Stands k.node kept.past new → IsKept k history new
+same_kept k history old new kept s = record { past = kept.past; made = kept.made; stands = s; ranges = kept.ranges }
 
 -- The entry of what came so.
-abbrev pub entry_by : Option Turn → Came → Result Said Fault → List (List ℕ) → Logged
+abbrev pub entry_by : Option Turn → NodeInput → Result Reply Fault → List (List ℕ) → HistoryEntry
 entry_by by came answer sent = record { by = by; came = came; answer = answer; sent = sent }
 
 -- What was asked is entered.
-pub entered : {E X S : Type 0} (w : Ways E X S) (history : List Logged) (old new : S) (k : IsKept w history old) (by : Option Turn) (came : Came)
-    (answer : Result Said Fault) (sent : List (List ℕ)) → Moves w k.past (w.rules.asked came) answer sent new
-    → IsKept w (entry_by by came answer sent ∷ history) new
-entered w history old new k by came answer sent m = record { past = m.after; made = (k.past, k.made, m.ends); stands = m.stands; ranges = m.ranges k.ranges }
+pub entered : {C N E X D O : Type 0} (k : Kind C N E X D O) (history : List HistoryEntry) (old new : Power C N) (kept : IsKept k history old) (by : Option Turn) (came : NodeInput)
+    (answer : Result Reply Fault) (sent : List (List ℕ)) → Moves k kept.past ((rules_of k.core).asked came) answer sent new
+    → IsKept k (entry_by by came answer sent ∷ history) new
+entered k history old new kept by came answer sent m = record { past = m.after; made = (kept.past, kept.made, m.ends); stands = m.stands; ranges = m.ranges kept.ranges }
 
 -- What came at the hub is entered, or left out.
-pub heard : {E X S : Type 0} (w : Ways E X S) (before after : List Logged) (old new : S) (k : IsKept w before old) (e : E)
-    (step : Result (Said × List (List ℕ)) Fault) (node : Node) (came : Came) (taken : Option ℕ) (net net' : Network) → w.rules.asked came ≡ Meets e
-    → StepEnds w k.past e new step
-    → Hears (is_left_out (outcome_of step).0) node came taken (outcome_of step).0 (outcome_of step).1 net net' before after → IsKept w after new
-heard w before after old new k e step node came taken net net' asks f h = by_test (is_left_out (outcome_of step).0) refl h
+pub heard : {C N E X D O : Type 0} (k : Kind C N E X D O) (before after : List HistoryEntry) (old new : Power C N) (kept : IsKept k before old) (e : E)
+    (step : Result (Reply × List (List ℕ)) Fault) (node : Node) (came : NodeInput) (taken : Option ℕ) (net net' : Network) → (rules_of k.core).asked came ≡ Meets e
+    → StepEnds k kept.past e new step
+    → Hears (is_left_out (outcome_of step).0) node came taken (outcome_of step).0 (outcome_of step).1 net net' before after → IsKept k after new
+heard k before after old new kept e step node came taken net net' asks f h = by_test (is_left_out (outcome_of step).0) refl h
   where
     by_test : (b : Bool) → is_left_out (outcome_of step).0 ≡ b → Hears b node came taken (outcome_of step).0 (outcome_of step).1 net net' before after
-        → IsKept w after new
-    by_test true t h = subst (λ history. IsKept w history new) (sym h.history) (same_kept w before old new k (unmoved w k.past e new step t f))
-    by_test false t h = subst (λ history. IsKept w history new) (sym h.entry)
-        (entered w before old new k _ came (outcome_of step).0 (outcome_of step).1
-        (subst (λ ask. Moves w k.past ask (outcome_of step).0 (outcome_of step).1 new) (sym asks) (moved w k.past e new step t f)))
+        → IsKept k after new
+    by_test true t h = subst (λ history. IsKept k history new) (sym h.history) (same_kept k before old new kept (unmoved k kept.past e new step t f))
+    by_test false t h = subst (λ history. IsKept k history new) (sym h.entry)
+        (entered k before old new kept _ came (outcome_of step).0 (outcome_of step).1
+        (subst (λ ask. Moves k kept.past ask (outcome_of step).0 (outcome_of step).1 new) (sym asks) (moved k kept.past e new step t f)))
 
 -- ---- why it isn't done
 
 -- A node that isn't ready leaves out what comes,
-pub unready : (up : Bool) (node : Node) (came : Came) (taken : Option ℕ) (old new : Network) (before after : List Logged) (fault : Fault)
+pub unready : (up : Bool) (node : Node) (came : NodeInput) (taken : Option ℕ) (old new : Network) (before after : List HistoryEntry) (fault : Fault)
     → IsReady up (Err fault) → new ≡ old → after ≡ before → Posts node came taken old new before after (Err fault)
 unready up node came taken old new before after NodeOff h net same = left_out_posts node came taken old new before after NodeOff refl net same
 unready up node came taken old new before after NoMemory h net same = left_out_posts node came taken old new before after NoMemory refl net same
@@ -80,35 +82,35 @@ unready_counts up old new NoMemory h same = same
 unready_counts up old new _ h same = absurd h
 
 -- and says why.
-pub unready_why : {C N E X D O : Type 0} (k : Kind C N E X D O) (history : List Logged) (state : Power C N) (kept : IsKept (ways k) history state) (ask : Ask E)
+pub unready_why : {C N E X D O : Type 0} (k : Kind C N E X D O) (history : List HistoryEntry) (state : Power C N) (kept : IsKept k history state) (ask : Ask E)
     (fault : Fault) → IsReady (k.core.is_up kept.past) (Err fault) → HasWhy (rules_of k.core) history ask fault
 unready_why k history state kept ask NodeOff h = why_off (rules_of k.core) history kept.past ask kept.made (off_where k.core kept.past false h)
 unready_why k history state kept ask NoMemory h = why_on (rules_of k.core) history kept.past ask NoMemory kept.made (off_where k.core kept.past true h) refl
 unready_why k history state kept ask _ h = absurd h
 
 -- What a step is refused for is by the rules.
-pub step_why : {C N E X D O : Type 0} (k : Kind C N E X D O) (history : List Logged) (old new : Power C N) (kept : IsKept (ways k) history old) (e : E)
-    (step : Result (Said × List (List ℕ)) Fault) (first sent : ℕ) (result : Result CallerAnswer Fault) → k.core.is_up kept.past ≡ true
-    → StepEnds (ways k) kept.past e new step
+pub step_why : {C N E X D O : Type 0} (k : Kind C N E X D O) (history : List HistoryEntry) (old new : Power C N) (kept : IsKept k history old) (e : E)
+    (step : Result (Reply × List (List ℕ)) Fault) (first sent : ℕ) (result : Result CallerAnswer Fault) → k.core.is_up kept.past ≡ true
+    → StepEnds k kept.past e new step
     → result ≡ told_at first sent (outcome_of step).0 → IfErr result (HasWhy (rules_of k.core) history (Meets e))
 step_why k history old new kept e step first sent result up f is =
     subst (λ (r : Result CallerAnswer Fault). IfErr r (HasWhy (rules_of k.core) history (Meets e))) (sym is) (by_step step f)
   where
-    by_step : (step : Result (Said × List (List ℕ)) Fault) → StepEnds (ways k) kept.past e new step
+    by_step : (step : Result (Reply × List (List ℕ)) Fault) → StepEnds k kept.past e new step
         → IfErr (told_at first sent (outcome_of step).0) (HasWhy (rules_of k.core) history (Meets e))
     by_step (Ok outs) f = tt
     by_step (Err fault) f = why_on (rules_of k.core) history kept.past (Meets e) fault kept.made (off_where k.core kept.past true up)
-        (refused_for (ways k) kept.past e fault new refl f)
+        (refused_for k kept.past e fault new refl f)
 
 -- ---- the device's failures
 
 -- What is told of a step counts it.
-pub hear_counts : (before old new first sent : ℕ) (step : Result (Said × List (List ℕ)) Fault) (result : Result CallerAnswer Fault) → old ≡ before
+pub hear_counts : (before old new first sent : ℕ) (step : Result (Reply × List (List ℕ)) Fault) (result : Result CallerAnswer Fault) → old ≡ before
     → result ≡ told_at first sent (outcome_of step).0 → Counts false old new step → Counts false before new result
 hear_counts before old new first sent step result same is h =
     subst (λ (n : ℕ). Counts false n new result) same (subst (Counts false old new) (sym is) (by_step step h))
   where
-    by_step : (step : Result (Said × List (List ℕ)) Fault) → Counts false old new step → Counts false old new (told_at first sent (outcome_of step).0)
+    by_step : (step : Result (Reply × List (List ℕ)) Fault) → Counts false old new step → Counts false old new (told_at first sent (outcome_of step).0)
     by_step (Ok outs) h = tt
     by_step (Err fault) h = h
 
@@ -127,15 +129,15 @@ pub packets_spelled : FramesAreSpelled → (ps : List PacketParts) → AllByRecu
 packets_spelled law ps h = subst (All IsSpelled) (spelled ps) (all_spelled law ps h)
 
 -- What a step sends is spelled, where the frames of its entry are.
-pub sent_spelled : {E X S : Type 0} (w : Ways E X S) (past : List X) (e : E) (x : X) (new : S) (step : Result (Said × List (List ℕ)) Fault)
-    → w.rules.added past (Meets e) ≡ Some x → w.InRange past → (w.InRange (x ∷ past) → All IsSpelled (map frame_spelling (w.rules.frames past x)))
-    → StepEnds w past e new step → All IsSpelled (outcome_of step).1
-sent_spelled w past e x new (Err fault) is came each f = All-nil IsSpelled
-sent_spelled {X = X} w past e x new (Ok outs) is came each f =
+pub sent_spelled : {C N E X D O : Type 0} (k : Kind C N E X D O) (past : List X) (e : E) (x : X) (new : Power C N) (step : Result (Reply × List (List ℕ)) Fault)
+    → (rules_of k.core).added past (Meets e) ≡ Some x → k.InRange past → (k.InRange (x ∷ past) → All IsSpelled (map frame_spelling ((rules_of k.core).frames past x)))
+    → StepEnds k past e new step → All IsSpelled (outcome_of step).1
+sent_spelled k past e x new (Err fault) is came each f = All-nil IsSpelled
+sent_spelled {X = X} k past e x new (Ok outs) is came each f =
     let m = f.moves in
     let same = by_some m.ends.entry x (sym m.ends.entry_is ∙ is) in
-    subst (All IsSpelled) (sym (m.ends.sent_are ∙ ap (λ x. map frame_spelling (w.rules.frames past x)) same))
-    (each (subst w.InRange (m.ends.after_is ∙ ap (λ x. x ∷ past) same) (m.ranges came)))
+    subst (All IsSpelled) (sym (m.ends.sent_are ∙ ap (λ x. map frame_spelling ((rules_of k.core).frames past x)) same))
+    (each (subst k.InRange (m.ends.after_is ∙ ap (λ x. x ∷ past) same) (m.ranges came)))
   where
     by_some : (x y : X) → Some x ≡ Some y → x ≡ y
     by_some x y h = cc

@@ -8,16 +8,17 @@ use Rattle.node_power.specs.declared.power.Power.{Power}
 use Rattle.node_power.specs.declared.power.Power.TheVariants.{Off}
 use Rattle.node_power.specs.Kinds.{Stands, Cuts, WasOn, note_of}
 use Rattle.cells.specs.Failures.{Counts}
-use Rattle.cells.specs.Moves.{plain_reply, TaskEnds}
-use Rattle.cells.specs.Powers.{Kind, IsCut, ways, told_of}
-use Rattle.cells.specs.Rules.{Restarts}
+use Rattle.cells.specs.Moves.{TaskEnds}
+use Rattle.cells.specs.Kinds.{Kind}
+use Rattle.cells.specs.Powers.{IsCut, told_of}
+use Rattle.cells.specs.Rules.{Restarts, plain_reply}
 use Rattle.cells.specs.Rules as rules
 use Rattle.cells.proofs.MoveLemmas.{up, refused}
 
 -- ---- a cut
 
 gives_up : {C N E X D O : Type 0} (k : Kind C N E X D O) (past : List X) (notes : N) → IsCut k past → k.node.is_up past ≡ true → k.node.Says past notes
-    → TaskEnds (ways k) past rules.Cuts (Off notes) (Ok plain_reply)
+    → TaskEnds k past rules.Cuts (Off notes) (Ok plain_reply)
 gives_up k past notes h on says = record {
   after = k.core.cut ∷ past;
   ends = record {
@@ -33,11 +34,11 @@ gives_up k past notes h on says = record {
 }
 
 pub cut_ends : {C N E X D O : Type 0} (k : Kind C N E X D O) (past : List X) (old new : Power C N) (done : Result (Unit {0}) Fault) → IsCut k past
-    → Stands k.node past old → Cuts k.node past old new done → TaskEnds (ways k) past rules.Cuts new (told_of done)
+    → Stands k.node past old → Cuts k.node past old new done → TaskEnds k past rules.Cuts new (told_of done)
 cut_ends k past old new (Ok t) h s c =
-    subst (λ power. TaskEnds (ways k) past rules.Cuts power (Ok plain_reply)) (sym c.off) (gives_up k past c.notes h c.on c.left.says)
+    subst (λ power. TaskEnds k past rules.Cuts power (Ok plain_reply)) (sym c.off) (gives_up k past c.notes h c.on c.left.says)
 cut_ends k past old new (Err fault) h s (is, off, same) =
-    rw (is, same) (refused (ways k) past rules.Cuts NodeOff old refl (ap (λ b. if b then None else Some NodeOff) (h.same_up ∙ off)) refl s)
+    rw (is, same) (refused k past rules.Cuts NodeOff old refl (ap (λ b. if b then None else Some NodeOff) (h.same_up ∙ off)) refl s)
 
 pub cut_counts : {C N E X D O : Type 0} (k : Kind C N E X D O) (past : List X) (old new : Power C N) (done : Result (Unit {0}) Fault)
     → Cuts k.node past old new done → Counts false (note_of k.node old).failures (note_of k.node new).failures (told_of done)
@@ -48,10 +49,10 @@ cut_counts k past old new (Err fault) (is, off, same) = rw is (ap (λ power. (no
 
 -- One that is on isn't started.
 pub was_on : {C N E X D O : Type 0} (k : Kind C N E X D O) (past : List X) (old new : Power C N) (done : Result (Unit {0}) Fault) → IsCut k past
-    → Stands k.node past old → WasOn k.node past old new done → TaskEnds (ways k) past Restarts new (told_of done)
+    → Stands k.node past old → WasOn k.node past old new done → TaskEnds k past Restarts new (told_of done)
 was_on k past old new done h s w =
     rw (w.told, w.same)
-    (refused (ways k) past Restarts NodeOn old refl (up (k.core.is_up past) (Some NodeOn) (k.core.spent past) (h.same_up ∙ w.on)) refl s)
+    (refused k past Restarts NodeOn old refl (up (k.core.is_up past) (Some NodeOn) (k.core.spent past) (h.same_up ∙ w.on)) refl s)
 
 pub was_on_counts : {C N E X D O : Type 0} (k : Kind C N E X D O) (past : List X) (old new : Power C N) (done : Result (Unit {0}) Fault)
     → WasOn k.node past old new done → Counts true (note_of k.node old).failures (note_of k.node new).failures (told_of done)

@@ -13,11 +13,12 @@ use Rattle.server_core.specs.History.{Opening}
 use Rattle.server_core.specs.Answers.{shown_entries, status}
 use Rattle.server_core.specs.Hearing.{FrameEntry, Restart, packets_heard}
 use Rattle.server_core.specs.FrameEnds.{StandsFor, Restarts}
-use Rattle.cells.specs.declared.logged.Logged.{Logged}
-use Rattle.cells.specs.declared.came.Came.{Came}
-use Rattle.cells.specs.declared.answer.Said.{Said}
+use Rattle.cells.specs.ServerKind.{server_kind}
+use Rattle.cells.specs.declared.entry.HistoryEntry.{HistoryEntry}
+use Rattle.cells.specs.declared.input.NodeInput.{NodeInput}
+use Rattle.cells.specs.declared.answer.Reply.{Reply}
 use Rattle.cells.specs.declared.answer.CallerAnswer.{CallerAnswer}
-use Rattle.cells.specs.declared.logged.Turn.{Turn}
+use Rattle.cells.specs.declared.entry.Turn.{Turn}
 use Rattle.cells.specs.Seated.{Seated}
 use Rattle.cells.specs.ServerRules.{ask_of}
 use Rattle.cells.specs.AtHub.{lacks_memory, told_by}
@@ -31,7 +32,7 @@ use Rattle.node_power.specs.declared.power.Power.{Power}
 use Rattle.node_power.specs.declared.power.Power.TheVariants.{On}
 use Rattle.cells.specs.declared.server_cell.task.ServerTask.{ServerTask}
 use Rattle.cells.specs.ServerTasks.{came_by, loads_note}
-use Rattle.cells.specs.ServerStands.{ways, Stands}
+use Rattle.cells.specs.ServerStands.{Stands}
 use Rattle.cells.specs.ServerCalls.{is_right, logged_by, entry_of, Enters, Applies, AppliesBy}
 use Rattle.cells.specs.ServerCells.{ServerLog, Replays, IsCell, AreCounted}
 
@@ -74,7 +75,7 @@ none_counted (suc n) zero h = refl
 none_counted (suc n) (suc seat) h = none_counted n seat (omega (arith, h))
 
 pub new_cell : {T : Type 0} (note : T → Note) (me : ℕ) (notes : T) (server : Server T) (h : Restarts note me notes server) (boot last : ℕ)
-    (history : List Logged) → me < 8 → h.said.boot ≡ boot → h.said.last_run ≡ last → history ≡ []
+    (history : List HistoryEntry) → me < 8 → h.said.boot ≡ boot → h.said.last_run ≡ last → history ≡ []
     → IsCell note (record { me = me; boot = boot; last = last }) (On server) (reverse history) (zeros 17)
 new_cell note me notes server h boot last history few b l none =
     rw (← b, ← l, none) (record {
@@ -86,7 +87,7 @@ new_cell note me notes server h boot last history few b l none =
 
 -- ---- what is asked from a seat
 
-times_few : (seat : ℕ) (history : List Logged) → times seat history ≤ length history
+times_few : (seat : ℕ) (history : List HistoryEntry) → times seat history ≤ length history
 times_few seat [] = omega arith
 times_few seat (l ∷ ls) = by_turn seat l.by (times seat ls) (length ls) (times_few seat ls)
   where
@@ -99,7 +100,7 @@ times_few seat (l ∷ ls) = by_turn seat l.by (times seat ls) (length ls) (times
         by_test false n m h = omega (arith, h)
 
 -- The count of a seat's events is a number of eight bytes, and so is the next.
-pub count_fits : (applied : List ℕ) (items : List Logged) (seat : ℕ) → AreCounted applied (reverse items) → seat < 17 → length items + 1 < 2 ^ 64
+pub count_fits : (applied : List ℕ) (items : List HistoryEntry) (seat : ℕ) → AreCounted applied (reverse items) → seat < 17 → length items + 1 < 2 ^ 64
     → slice_index_or applied seat 0 + 1 < 2 ^ 64
 count_fits applied items seat counted few small =
     omega (arith, counted.each seat few, times_few seat (reverse items), length-reverse items, small)
@@ -110,10 +111,10 @@ lacks old new seat task right same =
     subst (λ b. AppliesBy b old seat task new seat (Err NoMemory)) (sym right) (Err NoMemory, refl, (record { cell = same; seat_is = refl }, refl))
 
 -- Where nothing is entered, a cell is what it was.
-pub same_cell : {T : Type 0} (note : T → Note) (o : Opening) (power new : Power (Server T) T) (history : List Logged) (applied : List ℕ)
+pub same_cell : {T : Type 0} (note : T → Note) (o : Opening) (power new : Power (Server T) T) (history : List HistoryEntry) (applied : List ℕ)
     (cell : IsCell note o power history applied) → Stands note o cell.kept.past new → IsCell note o new history applied
 same_cell note o power new history applied cell s =
-    record { kept = same_kept (ways note o) history power new cell.kept s; numbered = cell.numbered; opens = cell.opens; counted = cell.counted }
+    record { kept = same_kept (server_kind note o) history power new cell.kept s; numbered = cell.numbered; opens = cell.opens; counted = cell.counted }
 
 clash : false ≡ true → ⊥
 clash h = cc
@@ -129,7 +130,7 @@ same_or_not a b true h applied n few is =
     (get_or-set_same applied a (slice_index_or applied a 0 + 1) 0 few ∙ ap (λ k. k + 1) (ap (λ k. slice_index_or applied k 0) same ∙ is))
 same_or_not a b false h applied n few is = get_or-set_other applied a b (slice_index_or applied a 0 + 1) 0 (differ a b h) ∙ is
 
-counted_once_more : (applied : List ℕ) (history : List Logged) (seat : Seated) (came : Came) (answer : Result Said Fault) → seat.number < 17
+counted_once_more : (applied : List ℕ) (history : List HistoryEntry) (seat : Seated) (came : NodeInput) (answer : Result Reply Fault) → seat.number < 17
     → AreCounted applied history
     → AreCounted (slice_set applied seat.number (slice_index_or applied seat.number 0 + 1)) (logged_by seat came answer ∷ history)
 counted_once_more applied history seat came answer few counted = record {
@@ -143,22 +144,22 @@ is_next log seat right =
     eqb-true seat.applied (times seat.number log.history) (and_parts (seat.server == log.opening.me) (seat.applied == times seat.number log.history) right).1
 
 -- What was asked is entered.
-pub entered : {T : Type 0} (note : T → Note) (o : Opening) (power new : Power (Server T) T) (history : List Logged) (applied : List ℕ) (failures : ℕ)
-    (seat : Seated) (task : ServerTask) (answer : Result Said Fault) → (cell : IsCell note o power history applied)
+pub entered : {T : Type 0} (note : T → Note) (o : Opening) (power new : Power (Server T) T) (history : List HistoryEntry) (applied : List ℕ) (failures : ℕ)
+    (seat : Seated) (task : ServerTask) (answer : Result Reply Fault) → (cell : IsCell note o power history applied)
     → is_right (record { opening = o; history = history; failures = failures }) seat ≡ true → seat.number < 17
-    → Moves (ways note o) cell.kept.past (ask_of (came_by task)) answer [] new
+    → Moves (server_kind note o) cell.kept.past (ask_of (came_by task)) answer [] new
     → IsCell note o new (entry_of seat task answer ∷ history) (slice_set applied seat.number (slice_index_or applied seat.number 0 + 1))
 entered note o power new history applied failures seat task answer cell right few m = record {
-  kept = kept_more (ways note o) history power new cell.kept _ (came_by task) answer [] m;
+  kept = kept_more (server_kind note o) history power new cell.kept _ (came_by task) answer [] m;
   numbered = (cell.numbered, is_next (record { opening = o; history = history; failures = failures }) seat right);
   opens = cell.opens;
   counted = counted_once_more applied history seat (came_by task) answer few cell.counted;
 }
 
-pub replayed : {T : Type 0} (note : T → Note) (o : Opening) {power new : Power (Server T) T} {history : List Logged} {applied : List ℕ}
-    (cell : IsCell note o power history applied) (failures : ℕ) (seat : Seated) (task : ServerTask) (answer : Result Said Fault)
+pub replayed : {T : Type 0} (note : T → Note) (o : Opening) {power new : Power (Server T) T} {history : List HistoryEntry} {applied : List ℕ}
+    (cell : IsCell note o power history applied) (failures : ℕ) (seat : Seated) (task : ServerTask) (answer : Result Reply Fault)
     → is_right (record { opening = o; history = history; failures = failures }) seat ≡ true
-    → Moves (ways note o) cell.kept.past (ask_of (came_by task)) answer [] new → (past : List FrameEntry) × Replays o (entry_of seat task answer ∷ history) past
+    → Moves (server_kind note o) cell.kept.past (ask_of (came_by task)) answer [] new → (past : List FrameEntry) × Replays o (entry_of seat task answer ∷ history) past
 replayed note o {history = history} cell failures seat task answer right m = (
   m.after,
   record {
@@ -167,13 +168,13 @@ replayed note o {history = history} cell failures seat task answer right m = (
   },
 )
 
-pub seat_fits : (items : List Logged) (cell : ServerLog) (seat : Seated) → is_right cell seat ≡ true → cell.history ≡ reverse items → length items + 1 < 2 ^ 64
+pub seat_fits : (items : List HistoryEntry) (cell : ServerLog) (seat : Seated) → is_right cell seat ≡ true → cell.history ≡ reverse items → length items + 1 < 2 ^ 64
     → seat.applied + 1 < 2 ^ 64
 seat_fits items cell seat right is small =
     omega (arith, is_next cell seat right, times_few seat.number cell.history, ap length is, length-reverse items, small)
 
 -- So a call ends that was entered.
-pub applied : (old : ServerLog) (seat : Seated) (task : ServerTask) (answer : Result Said Fault) (new : ServerLog) (after : Seated)
+pub applied : (old : ServerLog) (seat : Seated) (task : ServerTask) (answer : Result Reply Fault) (new : ServerLog) (after : Seated)
     (result : Result CallerAnswer Fault) → is_right old seat ≡ true → lacks_memory answer ≡ false → new.opening ≡ old.opening
     → new.history ≡ entry_of seat task answer ∷ old.history
     → Counts (loads_note task) old.failures new.failures answer
@@ -188,5 +189,5 @@ applied old seat task answer new after result right kept opening history counted
     )
 
 -- One entry more is a number of eight bytes, where they are counted behind it.
-pub few_before : (items new : List Logged) (l : Logged) → new ≡ items ++ l ∷ [] → length new < 2 ^ 64 → length items + 1 < 2 ^ 64
+pub few_before : (items new : List HistoryEntry) (l : HistoryEntry) → new ≡ items ++ l ∷ [] → length new < 2 ^ 64 → length items + 1 < 2 ^ 64
 few_before items new l is few = omega (arith, few, ap length is, length-append items (l ∷ []))

@@ -21,8 +21,9 @@ use Rattle.server_core.specs.Laws.{PacketsAreInRange}
 use Rattle.server_core.specs.Ranges.{OpensInRange, CameInRange}
 use Rattle.server_core.specs.Hearing.{FrameEntry, packets_heard}
 use Rattle.server_core.specs.FrameAnswers.{answered_entry, entry_heard}
-use Rattle.cells.specs.declared.came.Came.{Came}
-use Rattle.cells.specs.declared.logged.Logged.{Logged}
+use Rattle.cells.specs.ServerKind.{server_kind}
+use Rattle.cells.specs.declared.input.NodeInput.{NodeInput}
+use Rattle.cells.specs.declared.entry.HistoryEntry.{HistoryEntry}
 use Rattle.cells.specs.AtHub.{is_left_out, Hears}
 use Rattle.cells.specs.Moves.{IsKept, StepEnds, outcome_of}
 use Rattle.cells.specs.Rules.{Meets}
@@ -30,7 +31,7 @@ use Rattle.cells.specs.ServerRules.{ask_of}
 use Rattle.cells.proofs.HubLemmas.{heard, packets_spelled, sent_spelled as spelled_by}
 use Rattle.node_power.specs.declared.power.Power.{Power}
 use Rattle.cells.specs.ServerCells.{Replays, IsCell}
-use Rattle.cells.specs.ServerStands.{reply_and_frames, ways}
+use Rattle.cells.specs.ServerStands.{reply_and_frames}
 use Rattle.messages.specs.declared.node.Node.{Node}
 use Rattle.hub.specs.Network.{Network}
 
@@ -40,7 +41,7 @@ none_short : AreShort []
 none_short = record { few = omega arith; short = All-nil (λ (frame : List ℕ). length frame ≤ 1073) }
 
 pub short : {T : Type 0} (note : T → Note) (o : Opening) (past : List FrameEntry) (e : Input) (new : Power (Server T) T) (step : Result Outs Fault)
-    → OpensInRange o → CameInRange (packets_heard o past) → StepEnds (ways note o) past e new (reply_and_frames step)
+    → OpensInRange o → CameInRange (packets_heard o past) → StepEnds (server_kind note o) past e new (reply_and_frames step)
     → AreShort (outcome_of (reply_and_frames step)).1
 short note o past e new (Ok outs) i h f = f.short i h
 short note o past e new (Err fault) i h f = none_short
@@ -61,25 +62,25 @@ by_entry law ranges o past i None came = All-nil IsSpelled
 by_entry law ranges o past i (Some x) came = packets_spelled law (packets o past x) (ranges o past x i (came x refl))
 
 pub sent_spelled : {T : Type 0} (note : T → Note) (o : Opening) (past : List FrameEntry) (e : Input) (new : Power (Server T) T) (step : Result Outs Fault)
-    → FramesAreSpelled → PacketsAreInRange → OpensInRange o → CameInRange (packets_heard o past) → StepEnds (ways note o) past e new (reply_and_frames step)
+    → FramesAreSpelled → PacketsAreInRange → OpensInRange o → CameInRange (packets_heard o past) → StepEnds (server_kind note o) past e new (reply_and_frames step)
     → All IsSpelled (outcome_of (reply_and_frames step)).1
 sent_spelled note o past e new step law ranges i h f =
-    spelled_by (ways note o) past e (answered_entry o past e) new (reply_and_frames step) refl h
+    spelled_by (server_kind note o) past e (answered_entry o past e) new (reply_and_frames step) refl h
     (λ came. by_entry law ranges o (packets_heard o past) i (entry_heard o past (answered_entry o past e))
     (λ x is. subst (λ (y : Option history.Entry). CameInRange (with_entry y (packets_heard o past))) is came)) f
 
 -- ---- what came is entered
 
-pub heard_cell : {T : Type 0} (note : T → Note) (o : Opening) (power new : Power (Server T) T) (before after : List Logged) (applied : List ℕ)
-    (cell : IsCell note o power before applied) (e : Input) (step : Result Outs Fault) (node : Node) (came : Came) (taken : Option ℕ) (net net' : Network)
+pub heard_cell : {T : Type 0} (note : T → Note) (o : Opening) (power new : Power (Server T) T) (before after : List HistoryEntry) (applied : List ℕ)
+    (cell : IsCell note o power before applied) (e : Input) (step : Result Outs Fault) (node : Node) (came : NodeInput) (taken : Option ℕ) (net net' : Network)
     → ask_of came ≡ Meets e
-    → StepEnds (ways note o) cell.kept.past e new (reply_and_frames step)
+    → StepEnds (server_kind note o) cell.kept.past e new (reply_and_frames step)
     → Hears (is_left_out (outcome_of (reply_and_frames step)).0) node came taken (outcome_of (reply_and_frames step)).0
     (outcome_of (reply_and_frames step)).1 net net' before after → IsCell note o new after applied
 heard_cell note o power new before after applied cell e step node came taken net net' asks f h = by_test (is_left_out (outcome_of (reply_and_frames step)).0) h
   where
-    kept : IsKept (ways note o) after new
-    kept = heard (ways note o) before after power new cell.kept e (reply_and_frames step) node came taken net net' asks f h
+    kept : IsKept (server_kind note o) after new
+    kept = heard (server_kind note o) before after power new cell.kept e (reply_and_frames step) node came taken net net' asks f h
 
     same : after ≡ before → IsCell note o new after applied
     same is = record { kept = kept; numbered = rw is cell.numbered; opens = cell.opens; counted = rw is cell.counted }
@@ -98,6 +99,6 @@ heard_cell note o power new before after applied cell e step node came taken net
     by_test true h = same h.history
     by_test false h = more h.entry
 
-pub replayed : {T : Type 0} (note : T → Note) (o : Opening) (power : Power (Server T) T) (history : List Logged) (applied : List ℕ)
+pub replayed : {T : Type 0} (note : T → Note) (o : Opening) (power : Power (Server T) T) (history : List HistoryEntry) (applied : List ℕ)
     → IsCell note o power history applied → (past : List FrameEntry) × Replays o history past
 replayed note o power history applied cell = (cell.kept.past, record { numbered = cell.numbered; made = cell.kept.made })

@@ -26,7 +26,7 @@ use Rattle.cells.specs.Failures.{Counts}
 use Rattle.cells.specs.Moves.{StepEnds}
 use Rattle.cells.specs.ServerKind.{server_kind}
 use Rattle.cells.proofs.StepLemmas.{Fits, answered_ends, unanswered_ends, faults_count}
-use Rattle.cells.specs.ServerStands.{reply_and_frames, ways}
+use Rattle.cells.specs.ServerStands.{reply_and_frames}
 
 -- ---- what came stays within its ranges
 
@@ -73,7 +73,7 @@ fits note o past e = record {
 pub step_ends : {T : Type 0} (note : T → Note) (o : Opening) (past : List FrameEntry) (e : Input) (old server : Server T) (result : Result Outs Fault)
     → is_up o past ≡ true
     → steps.Ends (ends.steps note o) past e old server result → HearsInRange IsInRange (sense o past e) result
-    → StepEnds (ways note o) past e (On server) (reply_and_frames result)
+    → StepEnds (server_kind note o) past e (On server) (reply_and_frames result)
 step_ends note o past e old server (Ok outs) on a h =
     answered_ends (server_kind note o) past e (fits note o past e) on old server outs _ outs.frames a h
     (rw (a.sends.issue_is, a.sends.act_is) refl) a.sends.frames_are a.sends.short

@@ -15,14 +15,14 @@ use Rattle.server_core.specs.Serves.{NotOpened}
 use Rattle.server_core.specs.Hearing.{FrameEntry, Restart, packets_heard, is_up}
 use Rattle.server_core.specs.FrameEnds as ends
 use Rattle.server_core.specs.FrameEnds.{note_in}
-use Rattle.cells.specs.declared.answer.Said.{Said}
+use Rattle.cells.specs.declared.answer.Reply.{Reply}
 use Rattle.node_power.specs.declared.power.Power.TheVariants.{Off}
 use Rattle.cells.specs.Failures.{Counts}
 use Rattle.cells.specs.Moves.{TaskEnds}
 use Rattle.node_power.specs.declared.power.Power.{Power}
 use Rattle.node_power.specs.Kinds.{left_by, note_by}
 use Rattle.node_power.specs.Kinds as nodes
-use Rattle.cells.specs.Powers.{told_of, ways}
+use Rattle.cells.specs.Powers.{told_of}
 use Rattle.cells.proofs.PowerLemmas.{was_on, was_on_counts}
 use Rattle.cells.specs.Rules.{Restarts}
 use Rattle.cells.specs.ServerKind.{server_kind, server_is_cut}
@@ -63,7 +63,7 @@ next_says one old new o past n read left says is =
 
 unstarted : {T : Type 0} (note : T → Note) (o : Opening) (past : List FrameEntry) (notes back : T) (fault : Fault) → SaysOneThing → is_up o past ≡ false
     → Says (note notes).bytes (words_noted o (packets_heard o past)) → NotOpened (note notes) (note back) fault
-    → TaskEnds (ways (server_kind note o)) past Restarts (Off back) (Err fault)
+    → TaskEnds (server_kind note o) past Restarts (Off back) (Err fault)
 unstarted note o past notes back LoadFault one off says h = record {
   after = past;
   ends = record { why = inr (refl, not_off (is_up o past) off); sends_none = refl; after_is = refl };
@@ -72,7 +72,7 @@ unstarted note o past notes back LoadFault one off says h = record {
 }
 unstarted note o past notes back BadNote one off says h = absurd (h.1 (words_noted o (packets_heard o past)) says)
 unstarted note o past notes back NumbersSpent one off says h =
-    refused (ways (server_kind note o)) past Restarts NumbersSpent (Off back) refl
+    refused (server_kind note o) past Restarts NumbersSpent (Off back) refl
     (is_spent (is_up o past) (has_boot o (packets_heard o past)) off (le-ltb (boot o (packets_heard o past) + 1) (2 ^ 64)
     (omega (arith, h.1 (words_noted o (packets_heard o past)) says)))) refl
     (subst (λ (n : Note). Says n.bytes (words_noted o (packets_heard o past))) (sym h.0) says, off)
@@ -81,20 +81,20 @@ unstarted note o past notes back SaveFault one off says h = half h.1
   where
     half : (n : Noted) × Says (note notes).bytes n × (n.boot < 2 ^ 64 - 1)
         × (((note back).bytes ≡ (note notes).bytes) ⊎ ((note back).bytes ≡ spelling (record { boot = n.boot + 1; last_run = n.last_run })))
-        → TaskEnds (ways (server_kind note o)) past Restarts (Off back) (Err SaveFault)
+        → TaskEnds (server_kind note o) past Restarts (Off back) (Err SaveFault)
     half (n, read, left, inl is) =
-        lost (ways (server_kind note o)) past Restarts SaveFault false (Restart lefts.LostOld) (Off back) refl
+        lost (server_kind note o) past Restarts SaveFault false (Restart lefts.LostOld) (Off back) refl
         (may_restart (is_up o past) (has_boot o (packets_heard o past)) off (left_one one (note notes).bytes o past n read left says)) refl
         (subst (λ bytes. Says bytes (words_noted o (packets_heard o past))) (sym is) says, refl) (λ h. h)
     half (n, read, left, inr is) =
-        lost (ways (server_kind note o)) past Restarts SaveFault true (Restart lefts.LostNew) (Off back) refl
+        lost (server_kind note o) past Restarts SaveFault true (Restart lefts.LostNew) (Off back) refl
         (may_restart (is_up o past) (has_boot o (packets_heard o past)) off (left_one one (note notes).bytes o past n read left says)) refl
         (next_says one (note notes).bytes (note back).bytes o past n read left says is, refl) (λ h. h)
 unstarted note o past notes back _ one off says h = absurd h
 
 pub starts : {T : Type 0} (note : T → Note) (o : Opening) (past : List FrameEntry) (me : ℕ) (notes : T) (result : Result (Server T) (T × Fault)) → SaysOneThing
     → o.me ≡ me → is_up o past ≡ false → Says (note notes).bytes (words_noted o (packets_heard o past)) → ends.Opens note me notes result
-    → TaskEnds (ways (server_kind note o)) past Restarts (left_by result) (told_of (nodes.told_of result))
+    → TaskEnds (server_kind note o) past Restarts (left_by result) (told_of (nodes.told_of result))
 starts note o past me notes (Ok server) one is off says h =
     let stands = h.stands o past is says in
     record {
@@ -113,7 +113,7 @@ starts note o past me notes (Ok server) one is off says h =
 starts note o past me notes (Err back) one is off says h = unstarted note o past notes back.0 back.1 one off says h
 
 -- A restart that fails counts why.
-unstarted_counts : (old new : Note) (fault : Fault) → NotOpened old new fault → Counts {X = Said} true old.failures new.failures (Err fault)
+unstarted_counts : (old new : Note) (fault : Fault) → NotOpened old new fault → Counts {X = Reply} true old.failures new.failures (Err fault)
 unstarted_counts old new LoadFault h = h.0
 unstarted_counts old new BadNote h = ap (λ (n : Note). n.failures) h.0
 unstarted_counts old new NumbersSpent h = ap (λ (n : Note). n.failures) h.0
@@ -130,7 +130,7 @@ start_counts note me notes (Err back) h = unstarted_counts (note notes) (note ba
 
 pub restart_ends : {T : Type 0} (note : T → Note) (o : Opening) (past : List FrameEntry) (me : ℕ) (old new : Power (Server T) T)
     (done : Result (Unit {0}) Fault) → SaysOneThing → o.me ≡ me → nodes.Stands (server_kind note o).node past old
-    → nodes.Restarts (server_kind note o).node (ends.Opens note me) past old new done → TaskEnds (ways (server_kind note o)) past Restarts new (told_of done)
+    → nodes.Restarts (server_kind note o).node (ends.Opens note me) past old new done → TaskEnds (server_kind note o) past Restarts new (told_of done)
 restart_ends note o past me old new done one is s (inl w) = was_on (server_kind note o) past old new done (server_is_cut note o past) s w
 restart_ends note o past me old new done one is s (inr h) =
     rw (h.new_is, h.told) (starts note o past me h.notes h.made one is h.off h.left.says h.opens)

@@ -13,7 +13,7 @@ use Rattle.disk_model.specs.Notes.{Note}
 use Rattle.disk_model.specs.Steps as steps
 use Rattle.disk_model.specs.Steps.{Steps, answered}
 use Rattle.messages.specs.FrameBytes.{frame_spelling}
-use Rattle.cells.specs.declared.answer.Said.{Said}
+use Rattle.cells.specs.declared.answer.Reply.{Reply}
 use Rattle.node_power.specs.declared.power.Power.{Power}
 use Rattle.node_power.specs.declared.power.Power.TheVariants.{On}
 use Rattle.cells.specs.AtHub.{is_drop, is_save}
@@ -21,7 +21,7 @@ use Rattle.cells.specs.CoreRules.{left_by}
 use Rattle.cells.specs.Failures.{is_load, Counts, CountsBy}
 use Rattle.cells.specs.Moves.{Faults, StepEnds}
 use Rattle.node_power.specs.Kinds.{Stands}
-use Rattle.cells.specs.Powers.{Kind, ways}
+use Rattle.cells.specs.Kinds.{Kind}
 use Rattle.cells.specs.Rules.{Meets}
 use Rattle.cells.proofs.MoveLemmas as moves
 use Rattle.cells.proofs.MoveLemmas.{up, refused_step, lost, left_is, no_load}
@@ -41,16 +41,16 @@ pub record Fits {C N E X D O : Type 0} (k : Kind C N E X D O) (past : List X) (e
 
 -- What comes to a node that isn't on is refused, and nothing changes.
 pub off_ends : {C N E X D O : Type 0} (k : Kind C N E X D O) (past : List X) (e : E) (power : Power C N) (fault : Fault)
-    → (fault ≡ NodeOff) × (k.core.is_up past ≡ false) → Stands k.node past power → StepEnds (ways k) past e power (Err fault)
+    → (fault ≡ NodeOff) × (k.core.is_up past ≡ false) → Stands k.node past power → StepEnds k past e power (Err fault)
 off_ends k past e power fault off s =
-    rw off.0 (moves.off_ends (ways k) past e power (ap (λ b. if b then k.core.refusal past e else Some NodeOff) off.1) refl s)
+    rw off.0 (moves.off_ends k past e power (ap (λ b. if b then k.core.refusal past e else Some NodeOff) off.1) refl s)
 
 module _ {C N E X D O : Type 0} {Heard : FaultSort → Type 0} (k : Kind C N E X D O) (past : List X) (e : E) (fits : Fits k past e Heard)
     (on : k.node.is_up past ≡ true) (old new : C) where
   -- By one that is on, it is answered,
-  pub answered_ends : (outs : O) (said : Said) (sent : List (List ℕ)) → steps.Answers k.node.core past e old new outs → Heard sorts.Save → said ≡ k.core.said past e
+  pub answered_ends : (outs : O) (said : Reply) (sent : List (List ℕ)) → steps.Answers k.node.core past e old new outs → Heard sorts.Save → said ≡ k.core.said past e
       → sent ≡ map frame_spelling (k.core.frames past (k.core.answered past e)) → k.SendsFew past e sent
-      → StepEnds (ways k) past e (On new) (Ok (said, sent))
+      → StepEnds k past e (On new) (Ok (said, sent))
   answered_ends outs said sent a heard said_is sent_are short = record {
     moves = record {
       after = answered k.node.core past e ∷ past;
@@ -70,16 +70,16 @@ module _ {C N E X D O : Type 0} {Heard : FaultSort → Type 0} (k : Kind C N E X
 
   -- or it isn't.
   pub unanswered_ends : (fault : Fault) (sort : FaultSort) → steps.Faults k.node.core past e sort fault old new → Heard sort → sort_of fault ≡ sort
-      → Faults (ways k) past e sort fault (On new)
+      → Faults k past e sort fault (On new)
   unanswered_ends fault sorts.Memory f heard is = (f.why, f.unchanged)
   unanswered_ends fault sorts.Save f heard is =
       let l = left_is f.left f.lost in
-      lost (ways k) past (Meets e) fault l.0 (k.node.core.met e f.left) (On new) is
+      lost k past (Meets e) fault l.0 (k.node.core.met e f.left) (On new) is
       (up (k.core.is_up past) (k.core.refusal past e) (Some NodeOff) (fits.same_up ∙ on) ∙ sym fits.refusal_is ∙ f.free)
       (sym (fits.unsaved_is (left_by l.0)) ∙ ap (option_map (λ due. k.node.core.met e (left_by l.0))) f.makes_one ∙ ap (λ left. Some (k.node.core.met e left)) l.1)
       f.stands (fits.ranges heard f.left)
   unanswered_ends fault sorts.Refusal f heard is =
-      refused_step (ways k) past e (k.node.core.met e NoSave) fault (On new) is
+      refused_step k past e (k.node.core.met e NoSave) fault (On new) is
       (up (k.core.is_up past) (k.core.refusal past e) (Some NodeOff) (fits.same_up ∙ on) ∙ sym fits.refusal_is ∙ f.why)
       (ap (λ x. if is_drop fault then x ∷ past else past) (sym fits.dropped_is))
       f.stands (λ other. fits.stays fault new f.why other f.unchanged) (fits.ranges (fits.alike heard) NoSave)

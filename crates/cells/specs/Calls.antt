@@ -5,15 +5,15 @@ use Rattle.fc_base.specs.declared.fault.Fault.TheVariants.{NodeOff, NoFrame}
 use Rattle.messages.specs.declared.node.Node.{Node}
 use Rattle.hub.specs.Network.{Network}
 use Rattle.cells.specs.declared.answer.CallerAnswer.{CallerAnswer}
-use Rattle.cells.specs.declared.came.Came.{Came}
-use Rattle.cells.specs.declared.came.Came.TheVariants.{Frame}
-use Rattle.cells.specs.declared.logged.Logged.{Logged}
+use Rattle.cells.specs.declared.input.NodeInput.{NodeInput}
+use Rattle.cells.specs.declared.input.NodeInput.TheVariants.{Frame}
+use Rattle.cells.specs.declared.entry.HistoryEntry.{HistoryEntry}
 use Rattle.cells.specs.AtHub.{IsSame, IsWhy, Posts}
 use Rattle.cells.specs.Replay.{Makes}
 use Rattle.cells.specs.Rules.{Ask, Cuts, Rules}
 
 -- By the rules of its node, the history makes a list.
-abbrev pub Replays : {E X : Type 0} → Rules E X → List Logged → Type 0
+abbrev pub Replays : {E X : Type 0} → Rules E X → List HistoryEntry → Type 0
 Replays {E} {X} rules history = (past : List X) × Makes rules history past
 
 -- The fault says that the node is off.
@@ -32,35 +32,36 @@ IsWhyWhere true rules past ask fault = fault ≡ NodeOff
 IsWhyWhere false rules past ask fault = IsWhy rules past ask fault
 
 -- So it is by a list that the history makes.
-pub record HasWhy {E X : Type 0} (rules : Rules E X) (history : List Logged) (ask : Ask E)
+pub record HasWhy {E X : Type 0} (rules : Rules E X) (history : List HistoryEntry) (ask : Ask E)
     (fault : Fault) : Type 0 where
   pub past : List X
   pub made : Makes rules history past
   pub why : IsWhyWhere (is_off rules past) rules past ask fault
 
 -- Why there is nothing to be delivered: the node is off, or there is no such frame.
-pub record HasNone {E X : Type 0} (rules : Rules E X) (history : List Logged)
+pub record HasNone {E X : Type 0} (rules : Rules E X) (history : List HistoryEntry)
     (fault : Fault) : Type 0 where
   pub past : List X
   pub made : Makes rules history past
   pub why : fault ≡ (if is_off rules past then NodeOff else NoFrame)
 
 -- Why a delivery isn't answered, where these are the bytes at its position.
-abbrev pub IsWhyNot : {E X : Type 0} → Rules E X → List Logged → Option (List ℕ) → Fault → Type 0
+abbrev pub IsWhyNot : {E X : Type 0} → Rules E X → List HistoryEntry → Option (List ℕ) → Fault
+    → Type 0
 IsWhyNot rules history None fault = HasNone rules history fault
 IsWhyNot rules history (Some bytes) fault = HasWhy rules history (rules.asked (Frame bytes)) fault
 
 -- How a delivery ends, where these are the bytes at its position: the frame comes; where there is
 -- none, it is refused, and nothing changes.
-abbrev pub Delivers : Node → ℕ → Option (List ℕ) → Network → Network → List Logged → List Logged
-    → Result CallerAnswer Fault → Type 0
+abbrev pub Delivers : Node → ℕ → Option (List ℕ) → Network → Network
+    → List HistoryEntry → List HistoryEntry → Result CallerAnswer Fault → Type 0
 Delivers node position None old new before after (Ok told) = ⊥
 Delivers node position None old new before after (Err fault) = IsSame old new before after
 Delivers node position (Some bytes) old new before after result =
     Posts node (Frame bytes) (Some position) old new before after result
 
 -- It is refused, and nothing changes.
-pub record Misses (old new : Network) (before after : List Logged)
+pub record Misses (old new : Network) (before after : List HistoryEntry)
     (result : Result CallerAnswer Fault) : Type 0 where
   pub fault : Fault
   pub refused : result ≡ Err fault
@@ -68,8 +69,9 @@ pub record Misses (old new : Network) (before after : List Logged)
 
 -- How a command ends, which asks this: it comes, is kept as what asks it, and takes no frame; or it
 -- doesn't come.
-abbrev pub Commands : {E X : Type 0} → Rules E X → Ask E → Node → Network → Network → List Logged
-    → List Logged → Result CallerAnswer Fault → Type 0
+abbrev pub Commands : {E X : Type 0} → Rules E X → Ask E → Node → Network → Network
+    → List HistoryEntry → List HistoryEntry → Result CallerAnswer Fault → Type 0
 Commands rules ask node old new before after result =
     Misses old new before after result
-    ⊎ ((kept : Came) × (rules.asked kept ≡ ask) × Posts node kept None old new before after result)
+    ⊎ ((kept : NodeInput) × (rules.asked kept ≡ ask)
+    × Posts node kept None old new before after result)

@@ -10,7 +10,8 @@ use Rattle.client_core.specs.Saves.{Addition}
 use Rattle.client_core.specs.Hearing.{FrameEntry, packets_heard}
 use Rattle.client_core.specs.FrameEnds.{most_packets}
 use Rattle.node_power.specs.ClientKind as nodes
-use Rattle.cells.specs.Powers.{Kind, IsCut}
+use Rattle.cells.specs.Kinds.{Kind}
+use Rattle.cells.specs.Powers.{IsCut}
 use Rattle.cells.specs.ClientRules.{core}
 
 -- The kind of a client that was opened so.

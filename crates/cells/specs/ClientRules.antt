@@ -11,8 +11,8 @@ use Rattle.client_core.specs.History.{Opening}
 use Rattle.client_core.specs.Words.{words_noted}
 use Rattle.client_core.specs.Hearing.{FrameEntry, Met, Cut, Restart, packets_heard, is_up}
 use Rattle.client_core.specs.FrameAnswers as answers
-use Rattle.cells.specs.declared.came.Came.{Came}
-use Rattle.cells.specs.declared.came.Came.TheVariants as came
+use Rattle.cells.specs.declared.input.NodeInput.{NodeInput}
+use Rattle.cells.specs.declared.input.NodeInput.TheVariants as came
 use Rattle.cells.specs.declared.answer.Answer.{Answer}
 use Rattle.cells.specs.declared.answer.Answer.TheVariants.{Plain, Run, Attempt}
 use Rattle.cells.specs.CoreRules.{CoreRules, rules_of}
@@ -24,7 +24,7 @@ ask_of_frame None = Nothing
 ask_of_frame (Some f) = Meets (inputs.Deliver f)
 
 -- What is asked of the client.
-abbrev pub ask_of : Came → Ask Input
+abbrev pub ask_of : NodeInput → Ask Input
 ask_of (came.Frame bytes) = ask_of_frame (frame_at bytes)
 ask_of (came.Begin text) = Meets (inputs.Begin text)
 ask_of (came.Trigger run act) = Meets (inputs.Trigger run act)

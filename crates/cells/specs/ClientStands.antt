@@ -2,20 +2,17 @@
 use Rattle.std.specs.Prelude.{ℕ, List, Result, Ok, Err}
 use Rattle.fc_base.specs.declared.fault.Fault.{Fault}
 use Rattle.disk_model.specs.Notes.{Note}
-use Rattle.client_core.specs.declared.input.Input.{Input}
 use Rattle.client_core.specs.declared.client.Client.{Client}
 use Rattle.client_core.specs.History.{Opening}
 use Rattle.client_core.specs.Hearing.{FrameEntry}
 use Rattle.client_core.specs.FrameEnds.{note_in}
 use Rattle.messages.specs.declared.refusal.Act.TheVariants as acts
 use Rattle.cells.specs.declared.answer.Answer.TheVariants.{Plain}
-use Rattle.cells.specs.declared.answer.Said.{Said}
+use Rattle.cells.specs.declared.answer.Reply.{Reply}
 use Rattle.node_power.specs.declared.power.Power.{Power}
 use Rattle.cells.specs.ClientKind.{client_kind}
-use Rattle.cells.specs.Moves.{Ways}
 use Rattle.node_power.specs.Kinds.{note_by}
 use Rattle.node_power.specs.Kinds as nodes
-use Rattle.cells.specs.Powers as powers
 use Rattle.cells.specs.declared.client_cell.outs.ClientOuts.{ClientOuts}
 
 -- A client that has power stands for the list; of one that has none, which the list says, the note
@@ -24,17 +21,13 @@ abbrev pub Stands : {T : Type 0} → (T → Note) → Opening → List FrameEntr
     → Type 0
 Stands note o past power = nodes.Stands (client_kind note o).node past power
 
--- The ways of a client that was opened so.
-abbrev pub ways : {T : Type 0} → (T → Note) → Opening → Ways Input FrameEntry (Power (Client T) T)
-ways note o = powers.ways (client_kind note o)
-
 -- How often the device of its note has failed.
 abbrev pub failures_of : {T : Type 0} → (T → Note) → Power (Client T) T → ℕ
 failures_of note power = (note_by (λ client. note_in note client) note power).failures
 
 -- What a step says to its caller, and the frames that it sends. A client asks nothing of its
 -- caller.
-abbrev pub reply_and_frames : Result ClientOuts Fault → Result (Said × List (List ℕ)) Fault
+abbrev pub reply_and_frames : Result ClientOuts Fault → Result (Reply × List (List ℕ)) Fault
 reply_and_frames (Ok outs) = Ok (record { answer = outs.answer; act = acts.None }, outs.frames)
 reply_and_frames (Err fault) = Err fault
 

@@ -2,8 +2,8 @@
 use Rattle.std.specs.Prelude.{Bool, true, false}
 use Rattle.client_core.specs.declared.input.Input.{Input}
 use Rattle.client_core.specs.declared.input.Input.TheVariants as inputs
-use Rattle.cells.specs.declared.came.Came.{Came}
-use Rattle.cells.specs.declared.came.Came.TheVariants as came
+use Rattle.cells.specs.declared.input.NodeInput.{NodeInput}
+use Rattle.cells.specs.declared.input.NodeInput.TheVariants as came
 use Rattle.cells.specs.declared.client_cell.task.ClientTask.{ClientTask}
 use Rattle.cells.specs.declared.client_cell.task.ClientTask.TheVariants.{Cut, Restart}
 use Rattle.cells.specs.declared.client_cell.request.ClientRequest.{ClientRequest}
@@ -12,7 +12,7 @@ use Rattle.cells.specs.declared.client_cell.incoming.Incoming.{Incoming}
 use Rattle.cells.specs.declared.client_cell.incoming.Incoming.TheVariants.{Frame, Request}
 
 -- What comes to the client by a task.
-abbrev pub came_by : ClientTask → Came
+abbrev pub came_by : ClientTask → NodeInput
 came_by Cut = came.Cut
 came_by Restart = came.Restart
 
@@ -22,7 +22,7 @@ loads_note Cut = false
 loads_note Restart = true
 
 -- What comes to the client by a request.
-abbrev pub came_of : ClientRequest → Came
+abbrev pub came_of : ClientRequest → NodeInput
 came_of (Begin text) = came.Begin text
 came_of (Trigger run act) = came.Trigger run act
 came_of (Stop run) = came.Stop run
@@ -36,7 +36,7 @@ input_of (Stop run) = inputs.Stop run
 input_of (Verify run text) = inputs.Verify run text
 
 -- What comes to the client at the hub.
-abbrev pub came_in : Incoming → Came
+abbrev pub came_in : Incoming → NodeInput
 came_in (Frame came frame) = came
 came_in (Request request) = came_of request
 

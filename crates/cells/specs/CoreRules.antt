@@ -5,20 +5,19 @@ use Rattle.fc_base.specs.declared.fault.Fault.TheVariants.{NodeOff, NodeOn}
 use Rattle.disk_model.specs.declared.left.Left.{Left}
 use Rattle.disk_model.specs.declared.left.Left.TheVariants.{LostNew, LostOld}
 use Rattle.messages.specs.declared.frame.Frame.{Frame}
-use Rattle.cells.specs.declared.came.Came.{Came}
-use Rattle.cells.specs.declared.answer.Said.{Said}
+use Rattle.cells.specs.declared.input.NodeInput.{NodeInput}
+use Rattle.cells.specs.declared.answer.Reply.{Reply}
 use Rattle.cells.specs.AtHub.{is_drop}
-use Rattle.cells.specs.Moves.{plain_reply}
-use Rattle.cells.specs.Rules.{Ask, Meets, Cuts, Restarts, Nothing, Rules}
+use Rattle.cells.specs.Rules.{Ask, Meets, Cuts, Restarts, Nothing, Rules, plain_reply}
 
 -- What has to be known of a core that meets inputs E and stands for lists of entries X, newest
 -- first.
 pub record CoreRules (E X : Type 0) : Type 0 where
-  pub asked : Came → Ask E  -- what is asked by what comes
+  pub asked : NodeInput → Ask E  -- what is asked by what comes
   pub is_up : List X → Bool  -- it is on
   pub refusal : List X → E → Option Fault  -- why it refuses an input, if it does
   pub spent : List X → Option Fault  -- why one that is off can't be started, if it can't
-  pub said : List X → E → Said  -- what it answers to an input
+  pub said : List X → E → Reply  -- what it answers to an input
   pub answered : List X → E → X  -- the entry of an input that it answers
   pub dropped : E → X  -- that of a piece whose tag it drops
   pub unsaved : List X → E → Left → Option X  -- that of an input whose save was due, and left this
@@ -41,7 +40,7 @@ loads c past Restarts = not (c.is_up past)
 loads c past _ = false
 
 -- What is answered.
-abbrev pub reply_to : {E X : Type 0} → CoreRules E X → List X → Ask E → Said
+abbrev pub reply_to : {E X : Type 0} → CoreRules E X → List X → Ask E → Reply
 reply_to c past (Meets e) = c.said past e
 reply_to c past _ = plain_reply
 

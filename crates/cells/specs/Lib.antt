@@ -10,6 +10,7 @@ pub mod ClientTasks
 pub mod CoreRules
 pub mod Failures
 pub mod Histories
+pub mod Kinds
 pub mod Moves
 pub mod Powers
 pub mod Replay

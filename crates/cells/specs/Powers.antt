@@ -1,32 +1,10 @@
--- What has to be known of a node under its lock, which may have no power, and what is told of its
--- cuts and starts.
-use Rattle.std.specs.Prelude.{◌≡◌, ℕ, Bool, true, false, List, [], ◌∷◌, Result, Ok, Err}
+-- When a node under its lock is ready, and what is told of its cuts and starts.
+use Rattle.std.specs.Prelude.{◌≡◌, Bool, true, false, List, [], ◌∷◌, Result, Ok, Err}
 use Rattle.fc_base.specs.declared.fault.Fault.{Fault}
 use Rattle.fc_base.specs.declared.fault.Fault.TheVariants.{NodeOff, NoMemory}
-use Rattle.node_power.specs.declared.power.Power.{Power}
-use Rattle.node_power.specs.Kinds as nodes
-use Rattle.node_power.specs.Kinds.{Stands}
-use Rattle.cells.specs.declared.answer.Said.{Said}
-use Rattle.cells.specs.Moves.{Ways, plain_reply}
-use Rattle.cells.specs.CoreRules.{CoreRules, rules_of}
-
--- A kind of node, of cores C over notes N, whose core meets inputs E, whose lists have entries X,
--- which adds D to its notes and answers O: as a node that may have no power, with the rules of its
--- core, in which lists all is within its ranges, and which frames are few and short.
-pub record Kind (C N E X D O : Type 0) : Type 1 where
-  pub node : nodes.Kind C N E X D O
-  pub core : CoreRules E X
-  pub InRange : List X → Type 0
-  pub SendsFew : List X → E → List (List ℕ) → Type 0
-
--- Its ways.
-abbrev pub ways : {C N E X D O : Type 0} → Kind C N E X D O → Ways E X (Power C N)
-ways k = record {
-  rules = rules_of k.core;
-  Stands = Stands k.node;
-  InRange = k.InRange;
-  SendsFew = k.SendsFew;
-}
+use Rattle.cells.specs.declared.answer.Reply.{Reply}
+use Rattle.cells.specs.Kinds.{Kind}
+use Rattle.cells.specs.Rules.{plain_reply}
 
 -- A node is ready where it is on, and there is room for what comes; else it is off, or memory ran
 -- out.
@@ -37,7 +15,7 @@ IsReady up (Err NoMemory) = up ≡ true
 IsReady up (Err _) = ⊥
 
 -- What is told of a cut, or of a start.
-abbrev pub told_of : Result (Unit {0}) Fault → Result Said Fault
+abbrev pub told_of : Result (Unit {0}) Fault → Result Reply Fault
 told_of (Ok done) = Ok plain_reply
 told_of (Err fault) = Err fault
 

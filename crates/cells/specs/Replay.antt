@@ -7,13 +7,13 @@ use Rattle.fc_base.specs.declared.fault.FaultSort.{FaultSort}
 use Rattle.fc_base.specs.declared.fault.FaultSort.TheVariants as sorts
 use Rattle.fc_base.specs.Fault.{sort_of}
 use Rattle.messages.specs.FrameBytes.{frame_spelling}
-use Rattle.cells.specs.declared.answer.Said.{Said}
-use Rattle.cells.specs.declared.logged.Logged.{Logged}
+use Rattle.cells.specs.declared.answer.Reply.{Reply}
+use Rattle.cells.specs.declared.entry.HistoryEntry.{HistoryEntry}
 use Rattle.cells.specs.Rules.{Ask, Rules}
 
 -- What comes isn't refused: its answer and its frames are those of the rules, and its entry is
 -- added.
-pub record Accepts {E X : Type 0} (rules : Rules E X) (past : List X) (ask : Ask E) (said : Said)
+pub record Accepts {E X : Type 0} (rules : Rules E X) (past : List X) (ask : Ask E) (said : Reply)
     (sent : List (List ℕ)) (after : List X) : Type 0 where
   pub free : rules.refusal past ask ≡ None
   pub said_is : said ≡ rules.said past ask
@@ -50,13 +50,13 @@ Stops rules past ask sorts.Save fault sent after = Loses rules past ask sent aft
 Stops rules past ask sorts.Refusal fault sent after = Passes rules past ask fault sent after
 
 -- What an event with this answer makes of a list.
-abbrev pub Ends : {E X : Type 0} → Rules E X → List X → Ask E → Result Said Fault → List (List ℕ)
+abbrev pub Ends : {E X : Type 0} → Rules E X → List X → Ask E → Result Reply Fault → List (List ℕ)
     → List X → Type 0
 Ends rules past ask (Ok said) sent after = Accepts rules past ask said sent after
 Ends rules past ask (Err fault) sent after = Stops rules past ask (sort_of fault) fault sent after
 
 -- The history makes this list.
-abbrev pub Makes : {E X : Type 0} → Rules E X → List Logged → List X → Type 0
+abbrev pub Makes : {E X : Type 0} → Rules E X → List HistoryEntry → List X → Type 0
 Makes rules [] after = after ≡ rules.opened
 Makes {E} {X} rules (l ∷ ls) after =
     (past : List X) × Makes rules ls past

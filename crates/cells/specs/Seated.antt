@@ -2,14 +2,14 @@
 use Rattle.std.specs.Prelude.{ℕ, List, map, Option, None, Result}
 use Rattle.fc_base.specs.declared.fault.Fault.{Fault}
 use Rattle.fc_base.specs.Counted.{numbers_below}
-use Rattle.cells.specs.declared.answer.Said.{Said}
+use Rattle.cells.specs.declared.answer.Reply.{Reply}
 
 -- A seat: its server, its number there, how many events it has applied, and the answer of the last.
 pub record Seated : Type 0 where
   pub server : ℕ
   pub number : ℕ
   pub applied : ℕ
-  pub last : Option (Result Said Fault)
+  pub last : Option (Result Reply Fault)
 
 -- A seat that has applied nothing.
 abbrev pub new_seat : ℕ → ℕ → Seated

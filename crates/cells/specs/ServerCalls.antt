@@ -2,10 +2,10 @@
 use Rattle.std.specs.Prelude.{◌≡◌, ◌+◌, ◌&&◌, ◌==◌, Bool, true, false, [], ◌∷◌, Some, Result, Err}
 use Rattle.fc_base.specs.declared.fault.Fault.{Fault}
 use Rattle.fc_base.specs.declared.fault.Fault.TheVariants.{NoMemory, WrongSeat}
-use Rattle.cells.specs.declared.answer.Said.{Said}
+use Rattle.cells.specs.declared.answer.Reply.{Reply}
 use Rattle.cells.specs.declared.answer.CallerAnswer.{CallerAnswer}
-use Rattle.cells.specs.declared.came.Came.{Came}
-use Rattle.cells.specs.declared.logged.Logged.{Logged}
+use Rattle.cells.specs.declared.input.NodeInput.{NodeInput}
+use Rattle.cells.specs.declared.entry.HistoryEntry.{HistoryEntry}
 pub use Rattle.cells.specs.AtHub.{lacks_memory, told_by}
 use Rattle.cells.specs.Failures.{Counts}
 use Rattle.cells.specs.Seats.{times}
@@ -20,7 +20,7 @@ is_right cell seat =
     (seat.server == cell.opening.me) && (seat.applied == times seat.number cell.history)
 
 -- The entry of what came from a seat: it has the seat's next number, and sends nothing.
-abbrev pub logged_by : Seated → Came → Result Said Fault → Logged
+abbrev pub logged_by : Seated → NodeInput → Result Reply Fault → HistoryEntry
 logged_by seat came answer = record {
   by = Some (record { seat = seat.number; number = seat.applied });
   came = came;
@@ -29,13 +29,13 @@ logged_by seat came answer = record {
 }
 
 -- The entry of a task.
-abbrev pub entry_of : Seated → ServerTask → Result Said Fault → Logged
+abbrev pub entry_of : Seated → ServerTask → Result Reply Fault → HistoryEntry
 entry_of seat task answer = logged_by seat (came_by task) answer
 
 -- The history has one entry more, a fault of the device has been counted, and the seat has applied
 -- one event more and keeps its answer.
-pub record IsAdded (old : ServerLog) (seat : Seated) (task : ServerTask) (answer : Result Said Fault)
-    (new : ServerLog) (after : Seated) : Type 0 where
+pub record IsAdded (old : ServerLog) (seat : Seated) (task : ServerTask)
+    (answer : Result Reply Fault) (new : ServerLog) (after : Seated) : Type 0 where
   pub opening : new.opening ≡ old.opening
   pub history : new.history ≡ entry_of seat task answer ∷ old.history
   pub failures : Counts (loads_note task) old.failures new.failures answer
@@ -54,7 +54,7 @@ pub record IsSame (old : ServerLog) (seat : Seated) (new : ServerLog)
 
 -- How what is asked from a right seat ends, with this answer: for want of memory nothing changes,
 -- and any other answer is entered.
-abbrev pub Enters : Bool → ServerLog → Seated → ServerTask → ServerLog → Seated → Result Said Fault
+abbrev pub Enters : Bool → ServerLog → Seated → ServerTask → ServerLog → Seated → Result Reply Fault
     → Type 0
 Enters true old seat task new after answer = IsSame old seat new after × (answer ≡ Err NoMemory)
 Enters false old seat task new after answer = IsAdded old seat task answer new after
@@ -66,11 +66,11 @@ abbrev pub AppliesBy : Bool → ServerLog → Seated → ServerTask → ServerLo
 AppliesBy false old seat task new after result =
     IsSame old seat new after × (result ≡ Err WrongSeat)
 AppliesBy true old seat task new after result =
-    (answer : Result Said Fault) × (result ≡ told_by answer)
+    (answer : Result Reply Fault) × (result ≡ told_by answer)
     × Enters (lacks_memory answer) old seat task new after answer
 
 -- How a task ends that is asked for with a seat.
-abbrev pub Applies : ServerLog → Seated → ServerTask → ServerLog → Seated → Result CallerAnswer Fault
-    → Type 0
+abbrev pub Applies : ServerLog → Seated → ServerTask → ServerLog → Seated
+    → Result CallerAnswer Fault → Type 0
 Applies old seat task new after result =
     AppliesBy (is_right old seat) old seat task new after result

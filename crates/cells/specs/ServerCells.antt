@@ -6,19 +6,19 @@ use Rattle.server_core.specs.declared.server.Server.{Server}
 use Rattle.server_core.specs.History.{Opening}
 use Rattle.server_core.specs.Ranges.{OpensInRange}
 use Rattle.server_core.specs.Hearing.{FrameEntry}
-use Rattle.cells.specs.declared.logged.Logged.{Logged}
+use Rattle.cells.specs.ServerKind.{server_kind}
+use Rattle.cells.specs.declared.entry.HistoryEntry.{HistoryEntry}
 use Rattle.node_power.specs.declared.power.Power.{Power}
 use Rattle.cells.specs.Moves.{IsKept}
 use Rattle.cells.specs.Replay.{Makes}
 use Rattle.cells.specs.Seats.{times, IsNumbered}
 use Rattle.cells.specs.ServerRules.{rules}
-use Rattle.cells.specs.ServerStands.{ways}
 
 -- A server under its lock: what it was opened with, its history, newest first, and how often the
 -- device of its note has failed.
 pub record ServerLog : Type 0 where
   pub opening : Opening
-  pub history : List Logged
+  pub history : List HistoryEntry
   pub failures : ℕ
 
 -- It was opened over a note that says of no boot and no run.
@@ -26,7 +26,8 @@ abbrev pub is_blank : Opening → Bool
 is_blank o = (o.boot == 0) && (o.last == 0)
 
 -- A history is numbered, and makes this list by the rules of a server that was opened so.
-pub record Replays (o : Opening) (history : List Logged) (past : List FrameEntry) : Type 0 where
+pub record Replays (o : Opening) (history : List HistoryEntry)
+    (past : List FrameEntry) : Type 0 where
   pub numbered : IsNumbered history
   pub made : Makes (rules o) history past
 
@@ -35,15 +36,15 @@ abbrev pub IsReplay : ServerLog → List FrameEntry → Type 0
 IsReplay cell past = Replays cell.opening cell.history past
 
 -- For each of 17 seats its events are counted.
-pub record AreCounted (applied : List ℕ) (history : List Logged) : Type 0 where
+pub record AreCounted (applied : List ℕ) (history : List HistoryEntry) : Type 0 where
   pub long : length applied ≡ 17
   pub each : (seat : ℕ) → seat < MAX_SEATS → slice_index_or applied seat 0 ≡ times seat history
 
 -- What is true of every cell: the server stands for a list that its history makes, in which all is
 -- in its ranges, and the events of each seat are numbered and counted.
 pub record IsCell {T : Type 0} (note : T → Note) (o : Opening) (power : Power (Server T) T)
-    (history : List Logged) (applied : List ℕ) : Type 0 where
-  pub kept : IsKept (ways note o) history power
+    (history : List HistoryEntry) (applied : List ℕ) : Type 0 where
+  pub kept : IsKept (server_kind note o) history power
   pub numbered : IsNumbered history
   pub opens : OpensInRange o
   pub counted : AreCounted applied history

@@ -13,8 +13,8 @@ use Rattle.server_core.specs.History.{Opening}
 use Rattle.server_core.specs.Words.{has_boot}
 use Rattle.server_core.specs.Hearing.{FrameEntry, Met, Cut, Restart, packets_heard, is_up}
 use Rattle.server_core.specs.FrameAnswers as answers
-use Rattle.cells.specs.declared.came.Came.{Came}
-use Rattle.cells.specs.declared.came.Came.TheVariants as came
+use Rattle.cells.specs.declared.input.NodeInput.{NodeInput}
+use Rattle.cells.specs.declared.input.NodeInput.TheVariants as came
 use Rattle.cells.specs.declared.answer.Answer.{Answer}
 use Rattle.cells.specs.declared.answer.Answer.TheVariants.{Plain, Issued}
 use Rattle.cells.specs.CoreRules.{CoreRules, rules_of}
@@ -31,7 +31,7 @@ ask_of_report true e = Meets e
 ask_of_report false e = Nothing
 
 -- What is asked of a server.
-abbrev pub ask_of : Came → Ask Input
+abbrev pub ask_of : NodeInput → Ask Input
 ask_of (came.Frame bytes) = ask_of_frame (frame_at bytes)
 ask_of (came.Issue j) = Meets (inputs.Issue j)
 ask_of (came.WriteDone ticket end) = Meets (inputs.WriteDone ticket end)

@@ -2,18 +2,15 @@
 use Rattle.std.specs.Prelude.{ℕ, List, Result, Ok, Err}
 use Rattle.fc_base.specs.declared.fault.Fault.{Fault}
 use Rattle.disk_model.specs.Notes.{Note}
-use Rattle.server_core.specs.declared.input.Input.{Input}
 use Rattle.server_core.specs.declared.outs.Outs.{Outs}
 use Rattle.server_core.specs.declared.server.Server.{Server}
 use Rattle.server_core.specs.History.{Opening}
 use Rattle.server_core.specs.Hearing.{FrameEntry}
 use Rattle.server_core.specs.FrameEnds.{note_in}
-use Rattle.cells.specs.declared.answer.Said.{Said}
+use Rattle.cells.specs.declared.answer.Reply.{Reply}
 use Rattle.node_power.specs.declared.power.Power.{Power}
-use Rattle.cells.specs.Moves.{Ways}
 use Rattle.node_power.specs.Kinds.{note_by}
 use Rattle.node_power.specs.Kinds as nodes
-use Rattle.cells.specs.Powers as powers
 use Rattle.cells.specs.ServerKind.{server_kind}
 use Rattle.cells.specs.ServerRules.{answer_of}
 
@@ -23,16 +20,12 @@ abbrev pub Stands : {T : Type 0} → (T → Note) → Opening → List FrameEntr
     → Type 0
 Stands note o past power = nodes.Stands (server_kind note o).node past power
 
--- The ways of a server that was opened so.
-abbrev pub ways : {T : Type 0} → (T → Note) → Opening → Ways Input FrameEntry (Power (Server T) T)
-ways note o = powers.ways (server_kind note o)
-
 -- How often the device of its note has failed.
 abbrev pub failures_of : {T : Type 0} → (T → Note) → Power (Server T) T → ℕ
 failures_of note power = (note_by (λ server. note_in note server) note power).failures
 
 -- What a step says to its caller, and the frames that it sends.
-abbrev pub reply_and_frames : Result Outs Fault → Result (Said × List (List ℕ)) Fault
+abbrev pub reply_and_frames : Result Outs Fault → Result (Reply × List (List ℕ)) Fault
 reply_and_frames (Ok outs) =
     Ok (record { answer = answer_of outs.issue; act = outs.act }, outs.frames)
 reply_and_frames (Err fault) = Err fault

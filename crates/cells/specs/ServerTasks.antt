@@ -1,12 +1,12 @@
 -- What a seat asks of a server, as what comes to it.
 use Rattle.std.specs.Prelude.{Bool, true, false}
-use Rattle.cells.specs.declared.came.Came.{Came}
-use Rattle.cells.specs.declared.came.Came.TheVariants as came
+use Rattle.cells.specs.declared.input.NodeInput.{NodeInput}
+use Rattle.cells.specs.declared.input.NodeInput.TheVariants as came
 use Rattle.cells.specs.declared.server_cell.task.ServerTask.{ServerTask}
 use Rattle.cells.specs.declared.server_cell.task.ServerTask.TheVariants.{Issue, WriteDone, Cut, Restart}
 
 -- What comes to the server.
-abbrev pub came_by : ServerTask → Came
+abbrev pub came_by : ServerTask → NodeInput
 came_by (Issue j) = came.Issue j
 came_by (WriteDone ticket end) = came.WriteDone ticket end
 came_by Cut = came.Cut

@@ -7,21 +7,21 @@ use Rattle.server_core.specs.declared.event.WriteEnd.TheVariants as ends
 use Rattle.messages.specs.declared.refusal.Act.TheVariants as acts
 use Rattle.cells.specs.declared.answer.Answer.{Answer}
 use Rattle.cells.specs.declared.answer.Answer.TheVariants.{Plain, Issued}
-use Rattle.cells.specs.declared.answer.Said.{Said}
-use Rattle.cells.specs.declared.came.Came.{Came}
-use Rattle.cells.specs.declared.came.Came.TheVariants as came
-use Rattle.cells.specs.declared.logged.Logged.{Logged}
-use Rattle.cells.specs.declared.logged.Turn.{Turn}
+use Rattle.cells.specs.declared.answer.Reply.{Reply}
+use Rattle.cells.specs.declared.input.NodeInput.{NodeInput}
+use Rattle.cells.specs.declared.input.NodeInput.TheVariants as came
+use Rattle.cells.specs.declared.entry.HistoryEntry.{HistoryEntry}
+use Rattle.cells.specs.declared.entry.Turn.{Turn}
 use Rattle.cells.specs.declared.short.Deed.{Deed}
 use Rattle.cells.specs.declared.short.Deed.TheVariants as deeds
 use Rattle.cells.specs.declared.short.Short.{Short}
 
 -- The entry of a seat's turn that sent nothing.
-abbrev pub turn_entry : Turn → Came → Result Said Fault → Logged
+abbrev pub turn_entry : Turn → NodeInput → Result Reply Fault → HistoryEntry
 turn_entry by came answer = record { by = Some by; came = came; answer = answer; sent = [] }
 
 -- It was answered so, without an act.
-abbrev pub reply_of : Answer → Result Said Fault
+abbrev pub reply_of : Answer → Result Reply Fault
 reply_of answer = Ok (record { answer = answer; act = acts.None })
 
 -- Whose turn it was.
@@ -38,7 +38,7 @@ ticket_of s = record {
 }
 
 -- What came to the server.
-abbrev pub came_by : Deed → Ticket → Came
+abbrev pub came_by : Deed → Ticket → NodeInput
 came_by deeds.Done ticket = came.WriteDone ticket ends.Done
 came_by deeds.Failed ticket = came.WriteDone ticket ends.Failed
 came_by _ ticket = came.Issue ticket.key.job
@@ -55,6 +55,6 @@ answer_by deeds.Done ticket = Plain
 answer_by deeds.Failed ticket = Plain
 
 -- The entry that a short one stands for.
-abbrev pub entry_of : Short → Logged
+abbrev pub entry_of : Short → HistoryEntry
 entry_of s = turn_entry (turn_of s) (came_by s.deed (ticket_of s))
     (reply_of (answer_by s.deed (ticket_of s)))

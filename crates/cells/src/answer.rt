@@ -21,7 +21,7 @@ pub enum Answer {
 
 /// An answer, and what a server asks of its caller.
 #[derive(Clone, Copy, PartialEq, Eq)]
-pub struct Said {
+pub struct Reply {
     pub answer: Answer,
     pub act: Act,
 }
@@ -36,40 +36,40 @@ pub struct CallerAnswer {
     pub act: Act,
 }
 
-impl Said {
-    ghost use Rattle.cells.specs.Moves.{plain_reply};
+impl Reply {
+    ghost use Rattle.cells.specs.Rules.{plain_reply};
     ghost use Rattle.cells.specs.Powers.{told_of};
     ghost use Rattle.cells.specs.ServerRules.{answer_of};
 
     /// Nothing but that it was done.
     #[inline(always)]
-    pub fn plain() -> Said
+    pub fn plain() -> Reply
         ensures { result ≡ plain_reply }
     {
-        Said {
+        Reply {
             answer: Answer::Plain,
             act: Act::None,
         }
     }
 
     /// What is said of a cut, or of a start.
-    pub(crate) fn of_power(done: Result<(), Fault>) -> Result<Said, Fault>
+    pub(crate) fn of_power(done: Result<(), Fault>) -> Result<Reply, Fault>
         ensures { result ≡ told_of done }
     {
         match done {
-            Ok(()) => Ok(Said::plain()),
+            Ok(()) => Ok(Reply::plain()),
             Err(fault) => Err(fault),
         }
     }
 
     /// What a server says: what it answers of writes, if anything, and what it asks of its caller.
-    pub fn of(issue: Option<Issue>, act: Act) -> Said
+    pub fn of(issue: Option<Issue>, act: Act) -> Reply
         ensures { result ≡ record { answer = answer_of issue; act = act } }
     {
         let answer = match issue {
             Some(issue) => Answer::Issued(issue),
             None => Answer::Plain,
         };
-        Said { answer, act }
+        Reply { answer, act }
     }
 }

@@ -3,16 +3,16 @@
 ghost use Rattle.std.specs.Prelude.{◌≡◌, IfOk, Err};
 ghost use Rattle.cells.specs.AtHub.{is_left_out, is_save, is_drop, is_frame, is_quiet, lacks_memory, told_at, Comes};
 
-use crate::answer::{CallerAnswer, Said};
-use crate::came::{Came, FrameBytes};
-use crate::logged::Logged;
+use crate::answer::{CallerAnswer, Reply};
+use crate::entry::HistoryEntry;
+use crate::input::{FrameBytes, NodeInput};
 use fc_base::{Fault, FaultSort};
 use hub::Hub;
 use messages::{Frame, decode_frame};
 use std::alloc::{AllocError, Global};
 
 /// The frame at this position of the hub, as it comes and as a history keeps it. `NoFrame`; `NoMemory`.
-pub fn frame_came(alloc: Global, hub: &Hub, position: u64) -> Result<(Came, Frame), Fault>
+pub fn frame_came(alloc: Global, hub: &Hub, position: u64) -> Result<(NodeInput, Frame), Fault>
     ensures { Comes hub.now.net position result }
 {
     let Some(bytes) = hub.frame(position) else {
@@ -22,7 +22,7 @@ pub fn frame_came(alloc: Global, hub: &Hub, position: u64) -> Result<(Came, Fram
         return Err(Fault::NoMemory);
     };
     match copy(alloc, bytes) {
-        Ok(kept) => Ok((Came::Frame(kept), frame)),
+        Ok(kept) => Ok((NodeInput::Frame(kept), frame)),
         Err(_) => Err(Fault::NoMemory),
     }
 }
@@ -37,7 +37,7 @@ fn copy(alloc: Global, bytes: &[u8]) -> Result<FrameBytes, AllocError>
 }
 
 /// Whether an answer leaves a history as it was: it is a refusal that changes nothing.
-pub fn is_left_out(answer: &Result<Said, Fault>) -> bool
+pub fn is_left_out(answer: &Result<Reply, Fault>) -> bool
     ensures { result ≡ is_left_out answer.now }
 {
     match answer {
@@ -63,22 +63,22 @@ fn is_drop(fault: Fault) -> bool
 }
 
 /// Whether an entry stands, and neither took nor sent a frame.
-pub(crate) fn is_quiet(entry: &Logged) -> bool
+pub(crate) fn is_quiet(entry: &HistoryEntry) -> bool
     ensures { result ≡ is_quiet entry.now }
 {
     !is_left_out(&entry.answer) && !is_frame(&entry.came) && entry.sent.len() == 0
 }
 
 /// Whether a frame came.
-fn is_frame(came: &Came) -> bool
+fn is_frame(came: &NodeInput) -> bool
     ensures { result ≡ is_frame came.now }
 {
-    matches!(came, Came::Frame(_))
+    matches!(came, NodeInput::Frame(_))
 }
 
 /// Whether memory ran out.
 #[inline(always)]
-pub fn lacks_memory(answer: &Result<Said, Fault>) -> bool
+pub fn lacks_memory(answer: &Result<Reply, Fault>) -> bool
     ensures { result ≡ lacks_memory answer.now }
 {
     match answer {
@@ -89,7 +89,7 @@ pub fn lacks_memory(answer: &Result<Said, Fault>) -> bool
 
 /// What is told of an answer, with so many frames behind so many.
 #[inline(always)]
-pub fn told_at(first: u64, sent: u64, answer: &Result<Said, Fault>) -> Result<CallerAnswer, Fault>
+pub fn told_at(first: u64, sent: u64, answer: &Result<Reply, Fault>) -> Result<CallerAnswer, Fault>
     ensures { result ≡ told_at first sent answer.now }
 {
     match answer {

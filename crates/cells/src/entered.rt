@@ -7,11 +7,11 @@ ghost use Rattle.cells.specs.AtHub.{is_left_out, told_at, Hears};
 ghost use Rattle.node_power.specs.Kinds.{Stands};
 ghost use Rattle.cells.specs.Powers.{IsReady};
 
-use crate::answer::{CallerAnswer, Said};
+use crate::answer::{CallerAnswer, Reply};
 use crate::at_hub::{is_left_out, told_at};
-use crate::came::Came;
+use crate::entry::HistoryEntry;
 use crate::history::History;
-use crate::logged::Logged;
+use crate::input::NodeInput;
 use fc_base::Fault;
 use hub::Hub;
 use messages::{Frames, Node};
@@ -67,9 +67,9 @@ pub fn enter(
     history: &mut History,
     hub: &mut Hub,
     node: Node,
-    came: Came,
+    came: NodeInput,
     taken: Option<u64>,
-    outcome: (Result<Said, Fault>, Frames),
+    outcome: (Result<Reply, Fault>, Frames),
 ) -> Result<CallerAnswer, Fault>
     requires place { 1 ≤ history.old.room }
     requires room { HasRoom hub.old.room (length outcome.1)
@@ -87,7 +87,7 @@ pub fn enter(
     }
     let told = told_at(hub.len() as u64, sent.len() as u64, &answer);
     hub.note(node, history.len() as u64, taken, &sent);
-    history.push(Logged {
+    history.push(HistoryEntry {
         by: None,
         came,
         answer,

@@ -2,15 +2,15 @@
 
 ghost use Rattle.std.specs.Prelude.{◌≡◌, ◌≤◌, ◌<◌, ◌^◌, ◌∷◌, ◌++◌, [], length, slice_get, Some, IfSome, MatchOption, OnOk};
 ghost use Rattle.std.specs.Option.{ForSome};
-ghost use Rattle.cells.specs.declared.came.Came.TheVariants as came;
+ghost use Rattle.cells.specs.declared.input.NodeInput.TheVariants as came;
 ghost use Rattle.cells.specs.AtHub.{is_quiet};
 ghost use Rattle.cells.specs.Histories.{lent_entry};
 ghost use Rattle.cells.specs.Shorts.{entry_of, turn_entry};
 
-use crate::answer::{Answer, Said};
+use crate::answer::{Answer, Reply};
 use crate::at_hub::is_quiet;
-use crate::came::Came;
-use crate::logged::{Logged, Turn};
+use crate::entry::{HistoryEntry, Turn};
+use crate::input::NodeInput;
 use crate::short::Short;
 use engine::Ticket;
 use fc_base::{Fault, JobNo};
@@ -31,7 +31,7 @@ pub(crate) enum Row {
 pub struct History {
     alloc: Global,
     rows: Vec<Row>,
-    others: Vec<Logged>,
+    others: Vec<HistoryEntry>,
 }
 
 /// By hand, so that the crates above need no proof of it.
@@ -61,21 +61,21 @@ impl Model for History {
 
 /// An entry of a history that is lent.
 #[derive(Drop)]
-pub enum Lent<'a> {
+pub enum LentEntry<'a> {
     /// It is kept short, and was made anew.
-    Made(Logged),
+    Made(HistoryEntry),
     /// It is kept so.
-    Kept(&'a Logged),
+    Kept(&'a HistoryEntry),
 }
 
-impl<'a> Lent<'a> {
+impl<'a> LentEntry<'a> {
     /// The entry.
-    pub fn as_logged(&self) -> &Logged
+    pub fn as_entry(&self) -> &HistoryEntry
         ensures { result.now ≡ lent_entry self.now }
     {
         match self {
-            Lent::Made(entry) => entry,
-            Lent::Kept(entry) => entry,
+            LentEntry::Made(entry) => entry,
+            LentEntry::Kept(entry) => entry,
         }
     }
 }
@@ -100,7 +100,7 @@ impl History {
     }
 
     /// The entry at this place, from 0 on, in constant time; `None` where there are no more.
-    pub fn get(&self, at: usize) -> Option<Lent<'_>>
+    pub fn get(&self, at: usize) -> Option<LentEntry<'_>>
         ensures { MatchOption result (length self.now.items ≤ at)
             (λ entry. slice_get self.now.items at ≡ Some (lent_entry entry)) }
     {
@@ -112,13 +112,13 @@ impl History {
     }
 
     /// The entry at this place, from 0 on, in constant time.
-    pub fn at(&self, at: usize) -> Lent<'_>
+    pub fn at(&self, at: usize) -> LentEntry<'_>
         requires { at < length self.now.items }
         ensures { slice_get self.now.items at ≡ Some (lent_entry result) }
     {
         match &self.rows.as_slice()[at] {
-            Row::Short(short) => Lent::Made(short.logged(self.alloc)),
-            Row::Other(place) => Lent::Kept(&self.others.as_slice()[*place]),
+            Row::Short(short) => LentEntry::Made(short.entry(self.alloc)),
+            Row::Other(place) => LentEntry::Kept(&self.others.as_slice()[*place]),
         }
     }
 
@@ -145,7 +145,7 @@ impl History {
 
     /// Adds an entry.
     #[inline(never)]
-    pub fn push(&mut self, entry: Logged)
+    pub fn push(&mut self, entry: HistoryEntry)
         requires { 1 ≤ self.old.room }
         ensures items { self.new.items ≡ self.old.items ++ entry ∷ [] }
         ensures few { length self.new.items < 2 ^ 64 }
@@ -157,12 +157,12 @@ impl History {
 
     /// Adds what came from a seat, which was answered so and sent nothing.
     #[inline(never)]
-    pub fn push_turn(&mut self, by: Turn, came: Came, answer: &Result<Said, Fault>)
+    pub fn push_turn(&mut self, by: Turn, came: NodeInput, answer: &Result<Reply, Fault>)
         requires { 1 ≤ self.old.room }
         ensures items { self.new.items ≡ self.old.items ++ turn_entry by came answer.now ∷ [] }
         ensures few { length self.new.items < 2 ^ 64 }
     {
-        self.push(Logged {
+        self.push(HistoryEntry {
             by: Some(by),
             came,
             answer: *answer,
@@ -172,7 +172,7 @@ impl History {
 
     /// Adds that a worker asked for a write of a job, and was answered so.
     #[inline(always)]
-    pub fn push_issue(&mut self, by: Turn, job: JobNo, answer: &Result<Said, Fault>)
+    pub fn push_issue(&mut self, by: Turn, job: JobNo, answer: &Result<Reply, Fault>)
         requires { 1 ≤ self.old.room }
         ensures few { length self.new.items < 2 ^ 64 }
         ensures items { self.new.items
@@ -180,7 +180,7 @@ impl History {
     {
         match short_issue(by, job, answer) {
             Some(short) => self.rows.push_reserved(Row::Short(short)),
-            None => self.push_turn(by, Came::Issue(job), answer),
+            None => self.push_turn(by, NodeInput::Issue(job), answer),
         }
     }
 
@@ -191,7 +191,7 @@ impl History {
         by: Turn,
         ticket: &Ticket,
         end: WriteEnd,
-        answer: &Result<Said, Fault>,
+        answer: &Result<Reply, Fault>,
     )
         requires { 1 ≤ self.old.room }
         ensures few { length self.new.items < 2 ^ 64 }
@@ -200,19 +200,19 @@ impl History {
     {
         match short_end(by, ticket, end, answer) {
             Some(short) => self.rows.push_reserved(Row::Short(short)),
-            None => self.push_turn(by, Came::WriteDone(*ticket, end), answer),
+            None => self.push_turn(by, NodeInput::WriteDone(*ticket, end), answer),
         }
     }
 }
 
 /// The short entry of a request for a write; `None` where it isn't one.
 #[inline(always)]
-fn short_issue(by: Turn, job: JobNo, answer: &Result<Said, Fault>) -> Option<Short>
+fn short_issue(by: Turn, job: JobNo, answer: &Result<Reply, Fault>) -> Option<Short>
     ensures { IfSome result (λ short. entry_of short ≡ turn_entry by (came.Issue job) answer.now) }
 {
     match answer {
         Ok(
-            Said {
+            Reply {
                 answer: Answer::Issued(issue),
                 act: Act::None,
             },
@@ -227,14 +227,14 @@ fn short_end(
     by: Turn,
     ticket: &Ticket,
     end: WriteEnd,
-    answer: &Result<Said, Fault>,
+    answer: &Result<Reply, Fault>,
 ) -> Option<Short>
     ensures { IfSome result
         (λ short. entry_of short ≡ turn_entry by (came.WriteDone ticket.now end) answer.now) }
 {
     match answer {
         Ok(
-            Said {
+            Reply {
                 answer: Answer::Plain,
                 act: Act::None,
             },

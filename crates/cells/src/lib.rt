@@ -23,20 +23,20 @@
 
 mod answer;
 mod at_hub;
-mod came;
 mod client_cell;
 mod entered;
+mod entry;
 mod history;
-mod logged;
+mod input;
 mod node;
 mod server_cell;
 mod short;
 
-pub use answer::{Answer, CallerAnswer, Said};
+pub use answer::{Answer, CallerAnswer, Reply};
 pub use at_hub::is_left_out;
-pub use came::{Came, FrameBytes};
 pub use client_cell::{ClientCell, ClientCommand, ClientRequest, ClientTask};
-pub use history::{History, Lent};
-pub use logged::{Logged, Turn};
+pub use entry::{HistoryEntry, Turn};
+pub use history::{History, LentEntry};
+pub use input::{FrameBytes, NodeInput};
 pub use node::Node;
 pub use server_cell::{Report, Seat, ServerCell, ServerTask};

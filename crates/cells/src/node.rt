@@ -2,7 +2,7 @@
 
 ghost use Rattle.std.specs.Prelude.{◌≡◌, ℕ, false, List, IfErr, reverse, slice_get};
 ghost use Rattle.messages.specs.declared.node.Node.{Node as Name};
-ghost use Rattle.cells.specs.declared.logged.Logged.{Logged as Entry};
+ghost use Rattle.cells.specs.declared.entry.HistoryEntry.{HistoryEntry as Entry};
 ghost use Rattle.cells.specs.Calls.{Replays, Delivers, IsWhyNot, HasWhy, Commands};
 ghost use Rattle.cells.specs.Failures.{Counts};
 ghost use Rattle.cells.specs.Rules.{Ask, Rules};

@@ -2,12 +2,12 @@
 
 ghost use Rattle.std.specs.Prelude.{◌≡◌, IfSome};
 ghost use Rattle.cells.specs.declared.answer.Answer.TheVariants.{Plain, Issued};
-ghost use Rattle.cells.specs.declared.came.Came.TheVariants as came;
+ghost use Rattle.cells.specs.declared.input.NodeInput.TheVariants as came;
 ghost use Rattle.cells.specs.Shorts.{entry_of, turn_entry, reply_of, turn_of, ticket_of, came_by, answer_by};
 
-use crate::answer::{Answer, Said};
-use crate::came::Came;
-use crate::logged::{Logged, Turn};
+use crate::answer::{Answer, Reply};
+use crate::entry::{HistoryEntry, Turn};
+use crate::input::NodeInput;
 use engine::{Issue, Ticket};
 use fc_base::{JobNo, Key, RunNo, Seq, ServerNo};
 use messages::{Act, Frames};
@@ -104,16 +104,16 @@ impl Short {
     }
 
     /// The entry.
-    pub(crate) fn logged(&self, alloc: Global) -> Logged
+    pub(crate) fn entry(&self, alloc: Global) -> HistoryEntry
         ensures { result ≡ entry_of self.now }
     {
-        Logged {
+        HistoryEntry {
             by: Some(Turn {
                 seat: u32::from(self.seat),
                 number: u64::from(self.number),
             }),
             came: self.came(),
-            answer: Ok(Said {
+            answer: Ok(Reply {
                 answer: self.answer(),
                 act: Act::None,
             }),
@@ -121,13 +121,13 @@ impl Short {
         }
     }
 
-    fn came(&self) -> Came
+    fn came(&self) -> NodeInput
         ensures { result ≡ came_by self.now.deed (ticket_of self.now) }
     {
         match self.deed {
-            Deed::Done => Came::WriteDone(self.ticket(), WriteEnd::Done),
-            Deed::Failed => Came::WriteDone(self.ticket(), WriteEnd::Failed),
-            _ => Came::Issue(JobNo(u32::from(self.job))),
+            Deed::Done => NodeInput::WriteDone(self.ticket(), WriteEnd::Done),
+            Deed::Failed => NodeInput::WriteDone(self.ticket(), WriteEnd::Failed),
+            _ => NodeInput::Issue(JobNo(u32::from(self.job))),
         }
     }
 

@@ -19,7 +19,7 @@ use Rattle.server_core.specs.contracts.open_check.OpenCheck as open_check
 use Rattle.server_core.specs.contracts.machine.Machine as machine
 use Rattle.server_core.specs.contracts.server.Server as server_core
 use Rattle.client_core.specs.contracts.client.Client as client_core
-use Rattle.cells.specs.contracts.logged.Logged as logged
+use Rattle.cells.specs.contracts.entry.HistoryEntry as logged
 use Rattle.node_power.specs.contracts.power.Power as power
 use Rattle.cells.specs.contracts.client_cell.ClientCell as client
 use Rattle.cells.specs.contracts.server_cell.ServerCell as server

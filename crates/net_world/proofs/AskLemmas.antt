@@ -24,7 +24,7 @@ use Rattle.client_core.specs.Words as words
 use Rattle.client_core.specs.Packets.{packets}
 use Rattle.client_core.specs.Hearing.{FrameEntry, Met, rules, heard_at, packets_heard, arrival, is_up}
 use Rattle.client_core.specs.FrameAnswers as answers
-use Rattle.net_world.specs.declared.asked.Asked.{Asked}
+use Rattle.net_world.specs.declared.client_outs.ClientOuts.{ClientOuts}
 use Rattle.net_world.specs.MirrorNodes.{MirrorNode}
 use Rattle.net_world.specs.declared.mirror_node.Mirrored.{Mirrored}
 use Rattle.net_world.specs.ServerNodes.{ServerNode}
@@ -46,6 +46,7 @@ use Rattle.net_world.specs.ClientNodes.{client_nodes, handed_in}
 use Rattle.net_world.specs.Stands.{IsMirror, IsGreatest, StandsFor}
 use Rattle.net_world.specs.Asking.{entries, step_of, step_by, told_of, IsBarred, Refuses, Faults, ClientEnds}
 use Rattle.net_world.proofs.ClientHeardLemmas.{heard_is, frames_are, entry_again}
+use Rattle.net_world.proofs.ClientNodeLemmas as of_nodes
 use Rattle.net_world.proofs.MetLemmas.{frames_more}
 use Rattle.net_world.proofs.ServeLemmas.{first_is}
 
@@ -96,7 +97,7 @@ pub record HasPassed (sent : List (List ℕ)) (old new : World) : Type 0 where
   pub node_is : new.mirror.node ≡ old.mirror.node
 
 -- The client was asked, and the world has moved.
-pub record HasAsked (e : Input) (result : Result Asked Fault) (sent : List (List ℕ)) (old new : World) : Type 0 where
+pub record HasAsked (e : Input) (result : Result ClientOuts Fault) (sent : List (List ℕ)) (old new : World) : Type 0 where
   pub asks : (o : client.Opening) (past : List FrameEntry) → nodes.Stands o past old.client → nodes.Asks o past e new.client result
   pub moved : HasMoved sent old new
 
@@ -144,12 +145,12 @@ client_kept w past old new stands h node_is = record {
   files_are = λ s j disk l at. stands.files_are s j disk l (ap (λ (v : Vec MemDisk Global). slice_get v.items (MAX_JOBS * s + j)) (sym h.files_are) ∙ at);
 }
 
-same_told : (first first' sent' : ℕ) (asked : Asked) (answer : WorldAnswer) → first ≡ first' → length asked.frames ≡ sent' → asked.answer ≡ answer
+same_told : (first first' sent' : ℕ) (asked : ClientOuts) (answer : WorldAnswer) → first ≡ first' → length asked.frames ≡ sent' → asked.answer ≡ answer
     → told_of first asked ≡ record { answer = answer; first = first'; sent = sent'; act = acts.None }
 same_told first first' sent' asked answer f k a = rw (f, k, a) refl
 
 -- It is answered.
-pub answered : (w : Setup) (past : List Change) (e : Input) (asked : Asked) (first : ℕ) (told : Told) (old new : World) → StandsFor w past old
+pub answered : (w : Setup) (past : List Change) (e : Input) (asked : ClientOuts) (first : ℕ) (told : Told) (old new : World) → StandsFor w past old
     → HasAsked e (Ok asked) asked.frames old new
     → first ≡ length (sent_in old.sent) → told ≡ told_of first asked → ClientEnds w past e new (Ok told)
 answered w past e asked first told old new stands h is tells =
@@ -183,7 +184,7 @@ refused w past e fault old new stands h (inr r) =
       on = is_there w past r.on;
       why = r.why;
       stands = client_stepped w past (Met e NoSave) [] old new stands h.moved nothing r.stands refl;
-      unchanged = λ d. client_kept w past old new stands h.moved (r.unchanged d);
+      unchanged = λ d. client_kept w past old new stands h.moved (of_nodes.unchanged (client_opening w) (entries w past) e new.client r.unchanged r.on d);
     })
 
 by_sort : (w : Setup) (past : List Change) (e : Input) (fault : Fault) (old new : World) → StandsFor w past old → HasAsked e (Err fault) [] old new

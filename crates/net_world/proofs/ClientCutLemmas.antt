@@ -2,7 +2,7 @@
 use Rattle.std.proofs.Common.{◌≡◌, refl, sym, ◌∙◌, ap, subst, Bool, true, false, ◌&&◌, List, ◌∷◌, Option, Some, None}
 use Rattle.std.specs.Prelude.{not, is_some}
 use Rattle.fc_base.specs.declared.fault.Fault.{Fault}
-use Rattle.disk_model.specs.MemNotes.{note_of}
+use Rattle.disk_model.specs.MemNotes.{Saved as Kept, note_of}
 use Rattle.disk_model.specs.declared.left.Left.{Left}
 use Rattle.disk_model.specs.declared.left.Left.TheVariants.{Saved, LostNew, LostOld}
 use Rattle.disk_model.specs.Left.{saved_for, is_lost, has_new}
@@ -21,10 +21,8 @@ use Rattle.client_core.specs.Words.{words_noted}
 use Rattle.client_core.specs.Saves.{Addition, unless_refused, due_by, noted_after}
 use Rattle.client_core.specs.Hearing.{FrameEntry, Met, Cut, rules, heard_at, packets_heard, arrival, is_up}
 use Rattle.client_core.specs.FrameAnswers.{sense, due, answered_entry}
-use Rattle.net_world.specs.ClientNodes.{ClientNode}
-use Rattle.node_power.specs.declared.power.Power.TheVariants.{On, Off, Lent}
-use Rattle.net_world.specs.ClientNodes.{client_nodes, Stands, IsEmptyIfBlank}
-use Rattle.net_world.proofs.NodeLemmas.{Saves, never}
+use Rattle.net_world.specs.ClientNodes.{ClientNode, client_nodes, Stands, IsNoteOf, IsEmptyIfBlank}
+use Rattle.net_world.proofs.NodeLemmas.{Saves, relabel}
 
 -- ---- what the note says behind what a save left
 
@@ -90,13 +88,10 @@ down o past e left h d = ap words.is_on (heard_behind o past e left) ∙ sense_f
 off_again : (o : Opening) (a b : List FrameEntry) (node : ClientNode) → Stands o a node → is_up o a ≡ false → is_up o b ≡ false → said o a ≡ said o b
     → Stands o b node
 unfolding said
-off_again o a b (On client) s up off same = absurd (never (is_up o a) s.1 up)
-off_again o a b (Off notes) s up off same = (
-  subst (λ n. NoteSays (note_of notes).bytes n) same s.0,
-  off,
-  subst (λ n. IsEmptyIfBlank (note_of notes).bytes n) same s.2,
-)
-off_again o a b Lent s up off same = absurd s
+off_again o a b node s up off same = relabel (client_nodes o) a b up off says node s
+  where
+    says : (notes : Kept) → IsNoteOf o a notes → IsNoteOf o b notes
+    says notes h = (subst (λ n. NoteSays (note_of notes).bytes n) same h.0, subst (λ n. IsEmptyIfBlank (note_of notes).bytes n) same h.1)
 
 saved_by : (x : Option Addition) → is_some x ≡ true → saved_for x ≡ Saved
 saved_by None h = cc

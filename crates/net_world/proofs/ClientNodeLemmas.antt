@@ -8,6 +8,7 @@ use Rattle.disk_model.specs.Left.{is_lost}
 use Rattle.disk_model.specs.Steps as steps
 use Rattle.messages.specs.declared.frame.Frame.TheVariants.{Whole, Piece}
 use Rattle.messages.specs.Hearing.{Meaning, Says, Waits, Spoils, Strays, meaning, heard_by, with_entry}
+use Rattle.messages.specs.Senses.{is_drop}
 use Rattle.client_core.specs.declared.client.Client.{Client}
 use Rattle.client_core.specs.declared.input.Input.{Input}
 use Rattle.client_core.specs.declared.input.Input.TheVariants as inputs
@@ -15,11 +16,13 @@ use Rattle.client_core.specs.History as client
 use Rattle.client_core.specs.History.{Opening}
 use Rattle.client_core.specs.Note.{Says as NoteSays, blank}
 use Rattle.client_core.specs.Words as words
-use Rattle.client_core.specs.Hearing.{FrameEntry, Met, rules, heard_at, packets_heard, is_up}
+use Rattle.client_core.specs.Hearing.{FrameEntry, Met, Cut, rules, heard_at, packets_heard, is_up}
+use Rattle.client_core.specs.FrameAnswers.{sense}
 use Rattle.client_core.specs.FrameEnds as core
-use Rattle.net_world.specs.declared.asked.Asked.{Asked}
-use Rattle.node_power.specs.declared.power.Power.TheVariants.{On}
-use Rattle.net_world.specs.ClientNodes.{client_nodes, Asks, answer_to}
+use Rattle.net_world.specs.declared.client_outs.ClientOuts.{ClientOuts}
+use Rattle.node_power.specs.declared.power.Power.TheVariants.{On, Off, Lent}
+use Rattle.net_world.specs.Nodes.{Stays}
+use Rattle.net_world.specs.ClientNodes.{ClientNode, client_nodes, Stands, Asks, answer_to}
 use Rattle.net_world.proofs.NodeLemmas.{Laws, stays, ends}
 
 piece_stays : (o : Opening) (list : List client.Entry) (left : Left) (m : Meaning) → words.is_on list ≡ true → is_lost left ≡ false
@@ -38,24 +41,31 @@ stays_up o past (inputs.Deliver (Whole p)) left h k = stays (is_up o past) (is_l
 stays_up o past (inputs.Deliver (Piece q)) left h k = piece_stays o (packets_heard o past) left (meaning (rules o) (heard_at o past) (Piece q)) h k
 stays_up o past inputs.Tick left h k = stays (is_up o past) (is_lost left) h k
 
-laws : (o : Opening) → Laws (client_nodes o) On
+pub laws : (o : Opening) → Laws (client_nodes o) Cut
 laws o = record {
   fails_never = λ core. refl;
-  runs = λ past core s up. (s, up);
   stays_up = stays_up o;
-  stays_on = λ past e core h up d. (h d, up);
+  off = λ past. refl;
+  says = λ past notes s. s;
 }
 
+-- What is refused leaves a client as it was, but where it drops a tag: that alone changes.
+pub unchanged : (o : Opening) (past : List FrameEntry) (e : Input) (node : ClientNode) → Stays (client_nodes o) past e node → is_up o past ≡ true
+    → is_drop (sense o past e) ≡ false → Stands o past node
+unchanged o past e (On client) h up d = (h d, up)
+unchanged o past e (Off notes) h up d = absurd h
+unchanged o past e Lent h up d = absurd h
+
 -- A call that is answered, and told so.
-pub answers : (o : Opening) (past : List FrameEntry) (e : Input) (old new : Client Kept) (asked : Asked) → is_up o past ≡ true
+pub answers : (o : Opening) (past : List FrameEntry) (e : Input) (old new : Client Kept) (asked : ClientOuts) → is_up o past ≡ true
     → asked.answer ≡ answer_to o past e
     → steps.Answers (core.steps note_of o) past e old new asked.frames → Asks o past e (On new) (Ok asked)
-answers o past e old new asked on is h = (is, ends (client_nodes o) On (laws o) past e old new (Ok asked.frames) on h)
+answers o past e old new asked on is h = (is, ends (client_nodes o) (laws o) past e old new (Ok asked.frames) on h)
 
 -- A call that isn't answered.
 pub fails : (o : Opening) (past : List FrameEntry) (e : Input) (fault : Fault) (old new : Client Kept) → is_up o past ≡ true
     → steps.Faults (core.steps note_of o) past e (sort_of fault) fault old new → Asks o past e (On new) (Err fault)
-fails o past e fault old new on h = ends (client_nodes o) On (laws o) past e old new (Err fault) on h
+fails o past e fault old new on h = ends (client_nodes o) (laws o) past e old new (Err fault) on h
 
 -- No bytes at all are a blank note.
 pub says_blank : (bytes : List ℕ) → bytes ≡ [] → NoteSays bytes blank

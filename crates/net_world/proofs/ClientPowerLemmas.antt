@@ -15,21 +15,21 @@ use Rattle.client_core.specs.Words.{words_noted}
 use Rattle.node_power.specs.declared.power.Power.TheVariants.{On, Off, Lent}
 use Rattle.node_power.specs.Kinds as nodes
 use Rattle.node_power.specs.ClientKind.{client_kind}
-use Rattle.net_world.specs.Nodes.{Shows}
 use Rattle.net_world.specs.ClientNodes.{ClientNode, client_nodes, HasNone, IsEmptyIfBlank, Stands, Restarts, Renews}
-use Rattle.net_world.proofs.NodeLemmas.{never}
+use Rattle.net_world.proofs.NodeLemmas.{never, stays_off}
+use Rattle.net_world.proofs.ClientNodeLemmas.{laws}
 use Rattle.net_world.proofs.RenewalLemmas.{says_nothing, may_start, not_started, may_renew, not_renewed}
 
 -- The client of a world is one that may have no power.
 pub weak : (o : Opening) (past : List FrameEntry) (node : ClientNode) → Stands o past node → nodes.Stands (client_kind note_of o) past node
 weak o past (On client) s = s.0
-weak o past (Off notes) s = (s.0, s.1)
+weak o past (Off notes) s = (s.0.0, s.1)
 weak o past Lent s = s
 
 pub shows : (o : Opening) (past : List FrameEntry) (node : ClientNode) (shown : Option (Bor (Client Kept)))
-    → nodes.Shows (client_kind note_of o) past node (option_copied shown) → Shows (client_nodes o) past (option_copied shown)
+    → nodes.Shows (client_kind note_of o) past node (option_copied shown) → nodes.Shows (client_nodes o) past node (option_copied shown)
 shows o past node None s = s
-shows o past node (Some client) s = (s.1, s.2)
+shows o past node (Some client) s = s
 
 -- The notes that it leaves have no bytes where they say nothing, as they had.
 pub kept : (o : Opening) (past : List FrameEntry) (old : ClientNode) (notes : Kept) → Stands o past old → is_up o past ≡ false
@@ -37,13 +37,8 @@ pub kept : (o : Opening) (past : List FrameEntry) (old : ClientNode) (notes : Ke
     → Stands o past (Off notes)
 kept o past (On client) notes s off says same = absurd (never (is_up o past) s.1 off)
 kept o past (Off old) notes s off says same =
-    (says, off, subst (λ (m : Note). IsEmptyIfBlank m.bytes (words_noted o (packets_heard o past))) (sym same) s.2)
+    ((says, subst (λ (m : Note). IsEmptyIfBlank m.bytes (words_noted o (packets_heard o past))) (sym same) s.0.1), off)
 kept o past Lent notes s off says same = absurd s
-
-stays_off : (o : Opening) (past : List FrameEntry) (node : ClientNode) → Stands o past node → is_up o past ≡ false → Stands o (Cut ∷ past) node
-stays_off o past (On client) s off = absurd (never (is_up o past) s.1 off)
-stays_off o past (Off notes) s off = (s.0, refl, s.2)
-stays_off o past Lent s off = absurd s
 
 up_written : (up blank : Bool) → up ≡ true → (up && blank) ≡ false → blank ≡ false
 up_written true blank h k = k
@@ -55,8 +50,9 @@ pub cut_written : (o : Opening) (past : List FrameEntry) (old new : ClientNode) 
     → Stands o (Cut ∷ past) new
 cut_written o past old new (Ok t) s w c =
     subst (Stands o (Cut ∷ past)) (sym c.off)
-    (c.left.says, refl, inr (up_written (is_up o past) (is_blank (words_noted o (packets_heard o past))) c.on w))
-cut_written o past old new (Err fault) s w (is, off, same) = subst (Stands o (Cut ∷ past)) (sym same) (stays_off o past old s off)
+    ((c.left.says, inr (up_written (is_up o past) (is_blank (words_noted o (packets_heard o past))) c.on w)), refl)
+cut_written o past old new (Err fault) s w (is, off, same) =
+    subst (Stands o (Cut ∷ past)) (sym same) (stays_off (client_nodes o) Cut (laws o) past old s off)
 
 -- One that is on is off behind a cut.
 pub cut_off : (o : Opening) (past : List FrameEntry) (old new : ClientNode) (done : Result (Unit {0}) Fault) → is_up o past ≡ true
@@ -68,7 +64,7 @@ cut_off o past old new (Err fault) up (is, off, same) = absurd (never (is_up o p
 pub none_said : (o : Opening) (past : List FrameEntry) (node : ClientNode) → HasNone node → is_up o past ≡ false
     → is_blank (words_noted o (packets_heard o past)) ≡ true → Stands o past node
 none_said o past (On client) h off blank = absurd h
-none_said o past (Off notes) h off blank = (says_nothing (note_of notes).bytes (words_noted o (packets_heard o past)) h blank, off, inl h)
+none_said o past (Off notes) h off blank = ((says_nothing (note_of notes).bytes (words_noted o (packets_heard o past)) h blank, inl h), off)
 none_said o past Lent h off blank = absurd h
 
 -- One that is off is its notes.
@@ -91,7 +87,7 @@ restarted one o past servers mirror old new done is s (inr h) = rw (h.new_is, h.
         → Restarts o past mirror (nodes.left_by made) (nodes.told_of made)
     by_made (Ok client) opens = (
       h.off,
-      may_start mirror (note_of h.notes).bytes (words_noted o (packets_heard o past)) opens.some left.2,
+      may_start mirror (note_of h.notes).bytes (words_noted o (packets_heard o past)) opens.some left.0.1,
       (opens.stands o past is h.left.says, refl),
     )
     by_made (Err back) opens = not_started one o past mirror h.notes back.0 back.1 left opens
@@ -100,6 +96,6 @@ pub renewed : SaysOneThing → (o : Opening) (past : List FrameEntry) (servers g
     (made : Result (Client Kept) (Kept × Fault)) → o.servers ≡ servers → is_generation g ≡ true → is_up o past ≡ false → Stands o past (Off notes)
     → Renewed note_of servers g (note_of notes) made → new ≡ nodes.left_by made → done ≡ nodes.told_of made → Renews o past g new done
 renewed one o past servers g notes new done (Ok client) is fits off s opens new_is told =
-    rw (new_is, told) (off, may_renew one (note_of notes).bytes (words_noted o (packets_heard o past)) opens.empty s.0, (opens.stands o past is s.0, refl))
+    rw (new_is, told) (off, may_renew one (note_of notes).bytes (words_noted o (packets_heard o past)) opens.empty s.0.0, (opens.stands o past is s.0.0, refl))
 renewed one o past servers g notes new done (Err back) is fits off s opens new_is told =
     rw (new_is, told) (not_renewed o past g notes back.0 back.1 fits s opens)

@@ -30,16 +30,16 @@ use Rattle.server_core.specs.Answers as answers
 use Rattle.server_core.specs.Hearing.{FrameEntry, Met, Cut, Restart, rules, heard_at, packets_heard, is_up}
 use Rattle.server_core.specs.FrameAnswers.{refusal, due, would_save, answered_entry}
 use Rattle.net_world.specs.ServerNodes.{ServerNode}
-use Rattle.node_power.specs.declared.power.Power.TheVariants.{On, Off, Lent}
+use Rattle.node_power.specs.declared.power.Power.TheVariants.{Off}
 use Rattle.net_world.specs.ServerNodes.{server_nodes, Stands, Restarts, CutsInRestart, no_save, boots}
+use Rattle.net_world.proofs.NodeLemmas as of_nodes
 use Rattle.net_world.proofs.NodeLemmas.{Saves}
 
 -- A node that is off stands for each list that is off and says the same.
 relabel : (o : Opening) (old new : List FrameEntry) (node : ServerNode) → Stands o old node → is_up o old ≡ false → is_up o new ≡ false
     → words_noted o (packets_heard o old) ≡ words_noted o (packets_heard o new) → Stands o new node
-relabel o old new (On server) s off down same = absurd (false≢true (sym off ∙ s.1))
-relabel o old new (Off notes) s off down same = (subst (λ x. NoteSays (note_of notes).bytes x) same s.0, down)
-relabel o old new Lent s off down same = absurd s
+relabel o old new node s off down same =
+    of_nodes.relabel (server_nodes o) old new off down (λ notes says. subst (λ x. NoteSays (note_of notes).bytes x) same says) node s
 
 -- ---- what is noted of an event, by what its save left
 

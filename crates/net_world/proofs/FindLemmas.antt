@@ -27,7 +27,7 @@ use Rattle.server_core.specs.Check.{Check, Progress, Wanting, Full, With, Refuse
 use Rattle.server_core.specs.Answers.{shown_entries, run_job, job_of_run, check_job, job_of_check, is_ready, status, number_of_check}
 use Rattle.server_core.specs.OpenWrites.{open_origin, open_ticket, open_write, origin_told, TicketsTellOrigins}
 use Rattle.server_core.specs.Hearing.{FrameEntry, packets_heard, is_up}
-use Rattle.net_world.specs.ServerNodes.{ServerNode}
+use Rattle.node_power.specs.Kinds.{Shows}
 use Rattle.net_world.specs.declared.world.World.{World}
 use Rattle.net_world.specs.Setup.{Setup}
 use Rattle.net_world.specs.Trace.{of_server, opening_of}
@@ -37,8 +37,7 @@ use Rattle.net_world.specs.Contents.{content}
 use Rattle.net_world.specs.Checks.{end_of_check, end_of_check_in, check_end, report_for, report_by}
 use Rattle.net_world.specs.Writes.{open_at}
 use Rattle.net_world.specs.Barred.{unless_on, unless_open, unless}
-use Rattle.net_world.specs.Nodes.{Shows}
-use Rattle.net_world.specs.ServerNodes.{server_nodes, Stands}
+use Rattle.net_world.specs.ServerNodes.{ServerNode, server_nodes, Stands}
 use Rattle.net_world.specs.Stands.{StandsFor}
 use Rattle.net_world.specs.Serving.{entries}
 use Rattle.net_world.specs.Finding.{IsRunning, IsAway, IsOpen, IsMadeBy, IsReady, state_of}
@@ -52,7 +51,7 @@ pub record Found (w : World) (s : ℕ) (shown : Option (Server Kept)) : Type 0 w
   pub node : ServerNode
   pub there : s < length w.servers.items
   pub node_is : slice_get w.servers.items s ≡ Some node
-  pub shows : (o : Opening) (past : List FrameEntry) → Stands o past node → Shows (server_nodes o) past shown
+  pub shows : (o : Opening) (past : List FrameEntry) → Stands o past node → Shows (server_nodes o) past node shown
 
 pub not_there : (w : Setup) (past : List Change) (s : ℕ) (now : World) → StandsFor w past now → length now.servers.items ≤ s
     → unless_on w (trace w past) (nodes.Server s) ≡ Some NoServer
@@ -67,7 +66,7 @@ found_on : (w : Setup) (past : List Change) (s : ℕ) (now : World) (core : Serv
     → IsRunning w past s core
 found_on w past s now core stands f =
     let h = f.shows (opening_of s) (entries past s) (stands.servers_are s f.node f.node_is) in
-    record { on = is_there w past s (omega (arith, stands.number, f.there)) h.1; stands = h.0; up = h.1 }
+    record { on = is_there w past s (omega (arith, stands.number, f.there)) h.2; stands = h.1; up = h.2 }
 
 -- The node shows a server that runs, or the server is away.
 pub found_runs : (w : Setup) (past : List Change) (s : ℕ) (now : World) (shown : Option (Bor (Server Kept))) → StandsFor w past now

@@ -20,16 +20,23 @@ use Rattle.mirror_core.specs.Stands.{NotOpened, Restarts as Opened}
 use Rattle.node_power.specs.Kinds as nodes
 use Rattle.node_power.specs.MirrorKind.{mirror_kind}
 use Rattle.node_power.specs.declared.power.Power.TheVariants.{On, Off, Lent}
+use Rattle.net_world.specs.Nodes.{Stays}
 use Rattle.net_world.specs.MirrorNodes.{MirrorNode, mirror_nodes, Stands, Restarts}
-use Rattle.net_world.proofs.NodeLemmas.{Laws, Saves, stays, never}
+use Rattle.net_world.proofs.NodeLemmas.{Laws, Saves, stays, relabel}
 
-pub laws : (o : Noted) → Laws (mirror_nodes o) On
+pub laws : (o : Noted) → Laws (mirror_nodes o) Cut
 laws o = record {
   fails_never = λ core. refl;
-  runs = λ past core s up. (s, up);
   stays_up = λ past f left up kept. stays (is_on past) (is_lost left) up kept;
-  stays_on = λ past f core h up. (h, up);
+  off = λ past. refl;
+  says = λ past notes s. s;
 }
+
+-- What is refused leaves a mirror as it was.
+pub unchanged : (o : Noted) (past : List Entry) (f : Frame) (node : MirrorNode) → Stays (mirror_nodes o) past f node → is_on past ≡ true → Stands o past node
+unchanged o past f (On mirror) h up = (h, up)
+unchanged o past f (Off notes) h up = absurd h
+unchanged o past f Lent h up = absurd h
 
 -- No bytes at all are a blank note.
 pub says_blank : (bytes : List ℕ) → bytes ≡ [] → Says bytes blank
@@ -54,14 +61,14 @@ saved_old (Some a) n = refl
 
 landed_new : (o : Noted) (past : List Entry) (f : Frame) (new : MirrorNode) → is_some (due o past f) ≡ true
     → Stands o (Cut ∷ answered_entry o past f ∷ past) new → Stands o (Met f LostNew ∷ past) new
-landed_new o past f (On m) d s = let clash = s.1 in absurd cc
-landed_new o past f (Off notes) d s = (subst (Says (note_of notes).bytes) (saved_new (due o past f) (words_noted o past) d) s.0, and_false (is_on past))
-landed_new o past f Lent d s = absurd s
+landed_new o past f new d s =
+    relabel (mirror_nodes o) (Cut ∷ answered_entry o past f ∷ past) (Met f LostNew ∷ past) refl (and_false (is_on past))
+    (λ notes says. subst (Says (note_of notes).bytes) (saved_new (due o past f) (words_noted o past) d) says) new s
 
 landed_old : (o : Noted) (past : List Entry) (f : Frame) (new : MirrorNode) → Stands o (Cut ∷ past) new → Stands o (Met f LostOld ∷ past) new
-landed_old o past f (On m) s = let clash = s.1 in absurd cc
-landed_old o past f (Off notes) s = (subst (Says (note_of notes).bytes) (saved_old (due o past f) (words_noted o past)) s.0, and_false (is_on past))
-landed_old o past f Lent s = absurd s
+landed_old o past f new s =
+    relabel (mirror_nodes o) (Cut ∷ past) (Met f LostOld ∷ past) refl (and_false (is_on past))
+    (λ notes says. subst (Says (note_of notes).bytes) (saved_old (due o past f) (words_noted o past)) says) new s
 
 free_of : (r : Option Fault) (x : Option Addition) → is_some (unless_refused r x) ≡ true → r ≡ None
 free_of None x d = refl
@@ -77,23 +84,7 @@ saves o past f up d = record {
   old = λ node s. landed_old o past f node s;
 }
 
--- ---- its power
-
--- A mirror of a world is one that may have no power.
-pub weak : (o : Noted) (past : List Entry) (node : MirrorNode) → Stands o past node → nodes.Stands (mirror_kind note_of o) past node
-weak o past (On mirror) s = s.0
-weak o past (Off notes) s = s
-weak o past Lent s = s
-
-stays_off : (o : Noted) (past : List Entry) (node : MirrorNode) → Stands o past node → is_on past ≡ false → Stands o (Cut ∷ past) node
-stays_off o past (On mirror) s off = absurd (never (is_on past) s.1 off)
-stays_off o past (Off notes) s off = (s.0, refl)
-stays_off o past Lent s off = absurd s
-
-pub cut_stands : (o : Noted) (past : List Entry) (old new : MirrorNode) (done : Result (Unit {0}) Fault) → Stands o past old
-    → nodes.Cuts (mirror_kind note_of o) past old new done → Stands o (Cut ∷ past) new
-cut_stands o past old new (Ok t) s c = subst (Stands o (Cut ∷ past)) (sym c.off) (c.left.says, refl)
-cut_stands o past old new (Err fault) s (is, off, same) = subst (Stands o (Cut ∷ past)) (sym same) (stays_off o past old s off)
+-- ---- a start
 
 says_same : (old new : Note) (n : Noted) → new ≡ old → Says old.bytes n → Says new.bytes n
 says_same old new n h s = subst (λ (x : Note). Says x.bytes n) (sym h) s

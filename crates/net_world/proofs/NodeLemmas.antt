@@ -11,7 +11,11 @@ use Rattle.disk_model.specs.declared.left.Left.TheVariants.{NoSave, LostNew, Los
 use Rattle.disk_model.specs.Left.{saved_for, is_lost}
 use Rattle.disk_model.specs.Steps as steps
 use Rattle.disk_model.specs.Steps.{answered}
-use Rattle.net_world.specs.Nodes.{Nodes, Faults, Ends, CutsIn}
+use Rattle.node_power.specs.declared.power.Power.{Power}
+use Rattle.node_power.specs.declared.power.Power.TheVariants.{On, Off, Lent}
+use Rattle.node_power.specs.Kinds as powers
+use Rattle.node_power.specs.Kinds.{Kind}
+use Rattle.net_world.specs.Nodes.{Stands, Faults, Ends, CutsIn}
 
 pub stays : (on lost : Bool) → on ≡ true → lost ≡ false → (on && not lost) ≡ true
 stays true false h k = refl
@@ -28,75 +32,95 @@ never false h k = cc
 
 -- ---- what comes
 
--- What holds of a node whose core runs as this.
-pub record Laws {N S E X D O : Type 0} (n : Nodes N S E X D O) (run : S → N) : Type 0 where
-  pub fails_never : (core : S) → (n.core.note core).failures ≡ 0
-  pub runs : (past : List X) (core : S) → n.core.StandsFor past core → n.is_up past ≡ true → n.Stands past (run core)
-  pub stays_up : (past : List X) (e : E) (left : Left) → n.is_up past ≡ true → is_lost left ≡ false → n.is_up (n.core.met e left ∷ past) ≡ true
-  pub stays_on : (past : List X) (e : E) (core : S) → n.core.Stays past e core → n.is_up past ≡ true → n.Stays past e (run core)
+-- What holds of the nodes of this kind, in whose lists a cut is this entry: behind it a node is off, and notes say what they said.
+pub record Laws {C N E X D O : Type 0} (k : Kind C N E X D O) (cut : X) : Type 0 where
+  pub fails_never : (core : C) → (k.core.note core).failures ≡ 0
+  pub stays_up : (past : List X) (e : E) (left : Left) → k.is_up past ≡ true → is_lost left ≡ false → k.is_up (k.core.met e left ∷ past) ≡ true
+  pub off : (past : List X) → k.is_up (cut ∷ past) ≡ false
+  pub says : (past : List X) (notes : N) → k.Says past notes → k.Says (cut ∷ past) notes
 
-unanswered : {N S E X D O : Type 0} (n : Nodes N S E X D O) (run : S → N) → Laws n run → (past : List X) (e : E) (fault : Fault) (old new : S)
-    → n.is_up past ≡ true → (sort : FaultSort)
-    → steps.Faults n.core past e sort fault old new → Faults n past e sort fault (run new)
-unanswered n run l past e fault old new up sorts.Memory h = (h.why, l.runs past new h.unchanged up)
-unanswered n run l past e fault old new up sorts.Save h = absurd (omega (arith, h.cause, l.fails_never new))
-unanswered n run l past e fault old new up sorts.Refusal h =
-    inr (record {
-      on = up;
-      why = h.why;
-      stands = l.runs (n.core.met e NoSave ∷ past) new h.stands (l.stays_up past e NoSave up refl);
-      unchanged = l.stays_on past e new h.unchanged up;
-    })
+unanswered : {C N E X D O : Type 0} {cut : X} (k : Kind C N E X D O) → Laws k cut → (past : List X) (e : E) (fault : Fault) (old new : C)
+    → k.is_up past ≡ true → (sort : FaultSort)
+    → steps.Faults k.core past e sort fault old new → Faults k past e sort fault (On new)
+unanswered k l past e fault old new up sorts.Memory h = (h.why, (h.unchanged, up))
+unanswered k l past e fault old new up sorts.Save h = absurd (omega (arith, h.cause, l.fails_never new))
+unanswered k l past e fault old new up sorts.Refusal h =
+    inr (record { on = up; why = h.why; stands = (h.stands, l.stays_up past e NoSave up refl); unchanged = h.unchanged })
 
-pub ends : {N S E X D O : Type 0} (n : Nodes N S E X D O) (run : S → N) → Laws n run → (past : List X) (e : E) (old new : S) (result : Result O Fault)
-    → n.is_up past ≡ true
-    → steps.Ends n.core past e old new result → Ends n past e (run new) result
-ends n run l past e old new (Ok outs) up h = record {
+pub ends : {C N E X D O : Type 0} {cut : X} (k : Kind C N E X D O) → Laws k cut → (past : List X) (e : E) (old new : C) (result : Result O Fault)
+    → k.is_up past ≡ true
+    → steps.Ends k.core past e old new result → Ends k past e (On new) result
+ends k l past e old new (Ok outs) up h = record {
   on = up;
   free = h.free;
   sends = h.sends;
-  stands = l.runs (answered n.core past e ∷ past) new h.stands (l.stays_up past e (saved_for (n.core.due past e)) up (not_lost (n.core.due past e)));
+  stands = (h.stands, l.stays_up past e (saved_for (k.core.due past e)) up (not_lost (k.core.due past e)));
 }
-ends n run l past e old new (Err fault) up h = unanswered n run l past e fault old new up (sort_of fault) h
+ends k l past e old new (Err fault) up h = unanswered k l past e fault old new up (sort_of fault) h
 
 -- One that is off takes nothing.
-pub off_ends : {N S E X D O : Type 0} (n : Nodes N S E X D O) (past : List X) (e : E) (fault : Fault) (node : N)
-    → (fault ≡ NodeOff) × (n.is_up past ≡ false) → n.Stands past node → Ends n past e node (Err fault)
-off_ends n past e fault node off s = rw off.0 (inl (record { off = off.1; why = refl; unchanged = s }))
+pub off_ends : {C N E X D O : Type 0} (k : Kind C N E X D O) (past : List X) (e : E) (fault : Fault) (node : Power C N)
+    → (fault ≡ NodeOff) × (k.is_up past ≡ false) → Stands k past node → Ends k past e node (Err fault)
+off_ends k past e fault node off s = rw off.0 (inl (record { off = off.1; why = refl; unchanged = s }))
+
+-- ---- its power
+
+-- A node of a world is one that may have no power.
+pub weak : {C N E X D O : Type 0} (k : Kind C N E X D O) (past : List X) (node : Power C N) → Stands k past node → powers.Stands k past node
+weak k past (On core) s = s.0
+weak k past (Off notes) s = s
+weak k past Lent s = s
+
+-- One that is off stands for each list that says so, and of which its notes say what they say of the other.
+pub relabel : {C N E X D O : Type 0} (k : Kind C N E X D O) (old new : List X) → k.is_up old ≡ false → k.is_up new ≡ false
+    → ((notes : N) → k.Says old notes → k.Says new notes) → (node : Power C N) → Stands k old node → Stands k new node
+relabel k old new off down says (On core) s = absurd (never (k.is_up old) s.1 off)
+relabel k old new off down says (Off notes) s = (says notes s.0, down)
+relabel k old new off down says Lent s = absurd s
+
+pub stays_off : {C N E X D O : Type 0} (k : Kind C N E X D O) (cut : X) → Laws k cut → (past : List X) (node : Power C N) → Stands k past node
+    → k.is_up past ≡ false → Stands k (cut ∷ past) node
+stays_off k cut l past node s off = relabel k past (cut ∷ past) off (l.off past) (l.says past) node s
+
+pub cut_stands : {C N E X D O : Type 0} (k : Kind C N E X D O) (cut : X) → Laws k cut → (past : List X) (old new : Power C N)
+    (done : Result (Unit {0}) Fault) → Stands k past old
+    → powers.Cuts k past old new done → Stands k (cut ∷ past) new
+cut_stands k cut l past old new (Ok t) s c = subst (Stands k (cut ∷ past)) (sym c.off) (l.says past c.notes c.left.says, l.off past)
+cut_stands k cut l past old new (Err fault) s (is, off, same) = subst (Stands k (cut ∷ past)) (sym same) (stays_off k cut l past old s off)
 
 -- ---- a cut within a save
 
 -- The node is on and an input is due to make a save, so that it isn't refused; and what stands for the
 -- list with a cut behind it, or before it, stands for it where its save was lost.
-pub record Saves {N S E X D O : Type 0} (n : Nodes N S E X D O) (cut : X) (past : List X) (e : E) : Type 0 where
-  pub up : n.is_up past ≡ true
-  pub due : is_some (n.core.due past e) ≡ true
-  pub free : n.core.refusal past e ≡ None
-  pub new : (node : N) → n.Stands (cut ∷ answered n.core past e ∷ past) node → n.Stands (n.core.met e LostNew ∷ past) node
-  pub old : (node : N) → n.Stands (cut ∷ past) node → n.Stands (n.core.met e LostOld ∷ past) node
+pub record Saves {C N E X D O : Type 0} (k : Kind C N E X D O) (cut : X) (past : List X) (e : E) : Type 0 where
+  pub up : k.is_up past ≡ true
+  pub due : is_some (k.core.due past e) ≡ true
+  pub free : k.core.refusal past e ≡ None
+  pub new : (node : Power C N) → Stands k (cut ∷ answered k.core past e ∷ past) node → Stands k (k.core.met e LostNew ∷ past) node
+  pub old : (node : Power C N) → Stands k (cut ∷ past) node → Stands k (k.core.met e LostOld ∷ past) node
 
 -- It was cut as it was, or behind the save.
-pub cut_old : {N S E X D O : Type 0} (n : Nodes N S E X D O) (cut : X) (past : List X) (e : E) (node : N) → Saves n cut past e → n.Stands (cut ∷ past) node
-    → CutsIn n past false e node (Ok tt)
-cut_old n cut past e node s h = (s.up, s.due, s.old node h)
+pub cut_old : {C N E X D O : Type 0} (k : Kind C N E X D O) (cut : X) (past : List X) (e : E) (node : Power C N) → Saves k cut past e → Stands k (cut ∷ past) node
+    → CutsIn k past false e node (Ok tt)
+cut_old k cut past e node s h = (s.up, s.due, s.old node h)
 
-pub cut_new : {N S E X D O : Type 0} (n : Nodes N S E X D O) (cut : X) (past : List X) (e : E) (node : N) → Saves n cut past e
-    → n.Stands (cut ∷ answered n.core past e ∷ past) node → CutsIn n past true e node (Ok tt)
-cut_new n cut past e node s h = (s.up, s.due, s.new node h)
+pub cut_new : {C N E X D O : Type 0} (k : Kind C N E X D O) (cut : X) (past : List X) (e : E) (node : Power C N) → Saves k cut past e
+    → Stands k (cut ∷ answered k.core past e ∷ past) node → CutsIn k past true e node (Ok tt)
+cut_new k cut past e node s h = (s.up, s.due, s.new node h)
 
 some_none : (x : Option Fault) (fault : Fault) → x ≡ Some fault → x ≡ None → ⊥
 some_none x fault h k = let e = sym h ∙ k in cc
 
 -- It wants for memory.
-cut_by_sort : {N S E X D O : Type 0} (n : Nodes N S E X D O) (cut : X) (past : List X) (landed : Bool) (e : E) (fault : Fault) (node : N) → Saves n cut past e
-    → (sort : FaultSort) → Faults n past e sort fault node
-    → CutsIn n past landed e node (Err fault)
-cut_by_sort n cut past landed e fault node s sorts.Memory h = subst (λ (x : Fault). CutsIn n past landed e node (Err x)) (sym h.0) (s.up, h.1)
-cut_by_sort n cut past landed e fault node s sorts.Save h = absurd h
-cut_by_sort n cut past landed e fault node s sorts.Refusal (inl off) = absurd (never (n.is_up past) s.up off.off)
-cut_by_sort n cut past landed e fault node s sorts.Refusal (inr r) = absurd (some_none (n.core.refusal past e) fault r.why s.free)
+cut_by_sort : {C N E X D O : Type 0} (k : Kind C N E X D O) (cut : X) (past : List X) (landed : Bool) (e : E) (fault : Fault) (node : Power C N) → Saves k cut past e
+    → (sort : FaultSort) → Faults k past e sort fault node
+    → CutsIn k past landed e node (Err fault)
+cut_by_sort k cut past landed e fault node s sorts.Memory h = subst (λ (x : Fault). CutsIn k past landed e node (Err x)) (sym h.0) (s.up, h.1)
+cut_by_sort k cut past landed e fault node s sorts.Save h = absurd h
+cut_by_sort k cut past landed e fault node s sorts.Refusal (inl off) = absurd (never (k.is_up past) s.up off.off)
+cut_by_sort k cut past landed e fault node s sorts.Refusal (inr r) = absurd (some_none (k.core.refusal past e) fault r.why s.free)
 
-pub cut_fails : {N S E X D O : Type 0} (n : Nodes N S E X D O) (cut : X) (past : List X) (landed : Bool) (e : E) (fault : Fault) (node : N) → Saves n cut past e
-    → Faults n past e (sort_of fault) fault node
-    → CutsIn n past landed e node (Err fault)
-cut_fails n cut past landed e fault node s h = cut_by_sort n cut past landed e fault node s (sort_of fault) h
+pub cut_fails : {C N E X D O : Type 0} (k : Kind C N E X D O) (cut : X) (past : List X) (landed : Bool) (e : E) (fault : Fault) (node : Power C N) → Saves k cut past e
+    → Faults k past e (sort_of fault) fault node
+    → CutsIn k past landed e node (Err fault)
+cut_fails k cut past landed e fault node s h = cut_by_sort k cut past landed e fault node s (sort_of fault) h

@@ -17,10 +17,9 @@ use Rattle.client_core.specs.Hearing.{FrameEntry, Renew, Cut, packets_heard}
 use Rattle.client_core.specs.Note.{Says, SaysOneThing, blank, is_blank}
 use Rattle.client_core.specs.Words.{words_noted}
 use Rattle.client_core.specs.Stands.{IsBadNote, NotOpened, NotRenewed}
-use Rattle.net_world.specs.ClientNodes.{ClientNode}
-use Rattle.node_power.specs.declared.power.Power.TheVariants.{On, Off, Lent}
-use Rattle.net_world.specs.ClientNodes.{Stands, IsEmptyIfBlank, Restarts, Renews, CutsInRenewal}
-use Rattle.net_world.proofs.NodeLemmas.{never}
+use Rattle.node_power.specs.declared.power.Power.TheVariants.{Off}
+use Rattle.net_world.specs.ClientNodes.{ClientNode, client_nodes, Stands, IsEmptyIfBlank, Restarts, Renews, CutsInRenewal}
+use Rattle.net_world.proofs.NodeLemmas.{never, relabel}
 use Rattle.net_world.proofs.ClientNodeLemmas.{says_blank}
 
 -- ---- notes that say nothing
@@ -50,9 +49,11 @@ said_is one bytes n none s = ap is_blank (one bytes n blank s (says_blank bytes 
 -- Other notes with the same bytes stand for the same.
 restand : (o : Opening) (past : List FrameEntry) (old new : Kept) → note_of new ≡ note_of old → Stands o past (Off old) → Stands o past (Off new)
 restand o past old new e h = (
-  subst (λ (m : Note). Says m.bytes (words_noted o (packets_heard o past))) (sym e) h.0,
+  (
+    subst (λ (m : Note). Says m.bytes (words_noted o (packets_heard o past))) (sym e) h.0.0,
+    subst (λ (m : Note). IsEmptyIfBlank m.bytes (words_noted o (packets_heard o past))) (sym e) h.0.1,
+  ),
   h.1,
-  subst (λ (m : Note). IsEmptyIfBlank m.bytes (words_noted o (packets_heard o past))) (sym e) h.2,
 )
 
 -- ---- a restart
@@ -70,7 +71,7 @@ pub not_started : SaysOneThing → (o : Opening) (past : List FrameEntry) (mirro
     → NotOpened mirror (note_of old) (note_of new) fault → Restarts o past mirror (Off new) (Err fault)
 not_started one o past mirror old new LoadFault h k = absurd (omega (arith, k.0))
 not_started one o past mirror old new BadNote h k =
-    (h.1, bad_note one mirror (note_of old).bytes (words_noted o (packets_heard o past)) h.0 k.1, restand o past old new k.0 h, refl)
+    (h.1, bad_note one mirror (note_of old).bytes (words_noted o (packets_heard o past)) h.0.0 k.1, restand o past old new k.0 h, refl)
 not_started one o past mirror old new NoMemory h k = (h.1, restand o past old new k h)
 not_started one o past mirror old new _ h k = absurd k
 
@@ -89,7 +90,7 @@ not_renewed o past g old new BadGeneration fits h k = absurd (never (is_generati
 not_renewed o past g old new LoadFault fits h k = absurd (omega (arith, k.0))
 not_renewed o past g old new SaveFault fits h k = absurd (omega (arith, k.0))
 not_renewed o past g old new BadNote fits h k =
-    (h.1, written_note (note_of old).bytes (words_noted o (packets_heard o past)) k.2 h.2, restand o past old new k.0 h, refl)
+    (h.1, written_note (note_of old).bytes (words_noted o (packets_heard o past)) k.2 h.0.1, restand o past old new k.0 h, refl)
 not_renewed o past g old new NoMemory fits h k = (h.1, restand o past old new k h)
 not_renewed o past g old new _ fits h k = absurd k
 
@@ -98,9 +99,7 @@ not_renewed o past g old new _ fits h k = absurd k
 -- Behind the save.
 pub cut_new : (o : Opening) (past : List FrameEntry) (g : ℕ) (new : ClientNode) → Stands o (Cut ∷ Renew g Saved ∷ past) new
     → Stands o (Renew g LostNew ∷ past) new
-cut_new o past g (On client) s = let clash = s.1 in absurd cc
-cut_new o past g (Off notes) s = (s.0, refl, s.2)
-cut_new o past g Lent s = absurd s
+cut_new o past g new s = relabel (client_nodes o) (Cut ∷ Renew g Saved ∷ past) (Renew g LostNew ∷ past) refl refl (λ notes says. says) new s
 
 -- A renewal that is refused saves nothing: there is a note, or it is refused as it is.
 module _ (o : Opening) (past : List FrameEntry) (g : ℕ) (landed : Bool) (new : ClientNode) where

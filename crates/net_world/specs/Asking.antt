@@ -12,7 +12,7 @@ use Rattle.messages.specs.declared.refusal.Act.TheVariants as acts
 use Rattle.client_core.specs.declared.input.Input.{Input}
 use Rattle.client_core.specs.Hearing.{FrameEntry, Met, coming_of}
 use Rattle.client_core.specs.FrameAnswers.{sense, refusal, answered_entry}
-use Rattle.net_world.specs.declared.asked.Asked.{Asked}
+use Rattle.net_world.specs.declared.client_outs.ClientOuts.{ClientOuts}
 use Rattle.net_world.specs.declared.told.Told.{Told}
 use Rattle.net_world.specs.declared.world.World.{World}
 use Rattle.net_world.specs.Setup.{Setup}
@@ -37,7 +37,7 @@ abbrev pub step_by : Setup → List Change → Input → FrameStep
 step_by w past e = step_of (answered_entry (client_opening w) (entries w past) e)
 
 -- What is told of what the client has answered, behind so many frames.
-abbrev pub told_of : ℕ → Asked → Told
+abbrev pub told_of : ℕ → ClientOuts → Told
 told_of first asked =
     record { answer = asked.answer; first = first; sent = length asked.frames; act = acts.None }
 

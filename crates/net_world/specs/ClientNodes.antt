@@ -1,10 +1,9 @@
--- Which lists of frames the client of a world stands for, and how its calls end.
+-- What kind of node the client of a world is, and how its calls end.
 use Rattle.std.specs.Prelude.{◌≡◌, ◌⊎◌, ℕ, ◌+◌, Bool, true, false, ◌&&◌, List, [], ◌∷◌}
 use Rattle.std.specs.Prelude.{Result, Ok, Err}
 use Rattle.fc_base.specs.declared.fault.Fault.{Fault}
 use Rattle.fc_base.specs.declared.fault.Fault.TheVariants.{BadNote, NodeOn, NoSave}
 use Rattle.fc_base.specs.Fault.{sort_of}
-use Rattle.messages.specs.Senses.{is_drop}
 use Rattle.disk_model.specs.MemNotes.{Saved as Kept, note_of}
 use Rattle.disk_model.specs.declared.left.Left.TheVariants.{Saved}
 use Rattle.client_core.specs.declared.client.Client.{Client}
@@ -16,14 +15,15 @@ use Rattle.client_core.specs.Note.{Says, is_blank}
 use Rattle.client_core.specs.Words.{words_noted}
 use Rattle.client_core.specs.Saves.{Addition}
 use Rattle.client_core.specs.Hearing.{FrameEntry, Restart, Renew, Lose, packets_heard, is_up}
-use Rattle.client_core.specs.FrameAnswers.{sense}
-use Rattle.client_core.specs.FrameEnds.{StandsFor, steps}
-use Rattle.net_world.specs.declared.asked.Asked.{Asked}
+use Rattle.client_core.specs.FrameEnds.{steps}
+use Rattle.net_world.specs.declared.client_outs.ClientOuts.{ClientOuts}
 use Rattle.node_power.specs.declared.power.Power.{Power}
-use Rattle.node_power.specs.declared.power.Power.TheVariants.{On, Off, Lent}
+use Rattle.node_power.specs.declared.power.Power.TheVariants.{Off}
+use Rattle.node_power.specs.Kinds.{Kind}
 use Rattle.net_world.specs.declared.told.WorldAnswer.{WorldAnswer}
 use Rattle.net_world.specs.declared.told.WorldAnswer.TheVariants as answers
-use Rattle.net_world.specs.Nodes.{Nodes, Answers, Faults, Starts}
+use Rattle.net_world.specs.Nodes as nodes
+use Rattle.net_world.specs.Nodes.{Answers, Faults, Starts}
 use Rattle.net_world.specs.Outcomes.{lost_by}
 
 -- The client of a world.
@@ -39,25 +39,26 @@ HasNone _ = ⊥
 abbrev pub IsEmptyIfBlank : List ℕ → Noted → Type 0
 IsEmptyIfBlank bytes n = (bytes ≡ []) ⊎ (is_blank n ≡ false)
 
--- A client that runs stands for the list, which says that it is on; of one that is off, which the
--- list says, the note says what the list says, without bytes where that is nothing.
-abbrev pub Stands : Opening → List FrameEntry → ClientNode → Type 0
-Stands o past (On client) = StandsFor note_of client o past × (is_up o past ≡ true)
-Stands o past (Off notes) =
-    Says (note_of notes).bytes (words_noted o (packets_heard o past)) × (is_up o past ≡ false)
+-- The notes say what the list says, without bytes where that is nothing.
+abbrev pub IsNoteOf : Opening → List FrameEntry → Kept → Type 0
+IsNoteOf o past notes =
+    Says (note_of notes).bytes (words_noted o (packets_heard o past))
     × IsEmptyIfBlank (note_of notes).bytes (words_noted o (packets_heard o past))
-Stands o past Lent = ⊥
 
--- What has to be known of the client of a world. What is refused leaves it as it was, but where it
--- drops a tag: that alone changes.
+-- The kind of the client of a world that was opened so: one over notes in memory, which are empty
+-- for as long as they say nothing.
 abbrev pub client_nodes : Opening →
-    Nodes ClientNode (Client Kept) Input FrameEntry Addition (List (List ℕ))
+    Kind (Client Kept) Kept Input FrameEntry Addition (List (List ℕ))
 client_nodes o = record {
   core = steps note_of o;
+  note = note_of;
   is_up = is_up o;
-  Stands = Stands o;
-  Stays = λ past e new. is_drop (sense o past e) ≡ false → Stands o past new;
+  Says = IsNoteOf o;
 }
+
+-- For which lists it stands.
+abbrev pub Stands : Opening → List FrameEntry → ClientNode → Type 0
+Stands o = nodes.Stands (client_nodes o)
 
 -- What is answered: the number of the run or of the attempt, if one has begun.
 abbrev pub answer_to : Opening → List FrameEntry → Input → WorldAnswer
@@ -67,7 +68,7 @@ answer_to o past (inputs.Verify run text) =
 answer_to o past _ = answers.Plain
 
 -- How a call ends: as what comes to a node does, and with that number.
-abbrev pub Asks : Opening → List FrameEntry → Input → ClientNode → Result Asked Fault → Type 0
+abbrev pub Asks : Opening → List FrameEntry → Input → ClientNode → Result ClientOuts Fault → Type 0
 Asks o past e new (Ok asked) =
     (asked.answer ≡ answer_to o past e) × Answers (client_nodes o) past e new asked.frames
 Asks o past e new (Err fault) = Faults (client_nodes o) past e (sort_of fault) fault new

@@ -1,4 +1,4 @@
--- Which lists the mirror of a world stands for, and how it is started.
+-- What kind of node the mirror of a world is, and how it is started.
 use Rattle.std.specs.Prelude.{◌≡◌, true, false, ℕ, List, ◌∷◌, Result, Ok, Err}
 use Rattle.fc_base.specs.declared.fault.Fault.{Fault}
 use Rattle.fc_base.specs.declared.fault.Fault.TheVariants.{NoMemory, NodeOn}
@@ -7,35 +7,24 @@ use Rattle.messages.specs.declared.frame.Frame.{Frame}
 use Rattle.mirror_core.specs.declared.mirror.Mirror.{Mirror}
 use Rattle.mirror_core.specs.declared.noted.Noted.{Noted}
 use Rattle.mirror_core.specs.History.{Entry, Restart}
-use Rattle.mirror_core.specs.Note.{Says}
 use Rattle.mirror_core.specs.Saves.{Addition}
-use Rattle.mirror_core.specs.Words.{is_on, words_noted}
-use Rattle.mirror_core.specs.Stands.{StandsFor}
-use Rattle.mirror_core.specs.Ends.{steps}
+use Rattle.mirror_core.specs.Words.{is_on}
 use Rattle.node_power.specs.declared.power.Power.{Power}
-use Rattle.node_power.specs.declared.power.Power.TheVariants.{On, Off, Lent}
-use Rattle.net_world.specs.Nodes.{Nodes}
+use Rattle.node_power.specs.Kinds.{Kind}
+use Rattle.node_power.specs.MirrorKind.{mirror_kind}
+use Rattle.net_world.specs.Nodes as nodes
 
 -- The mirror of a world.
 abbrev pub MirrorNode : Type 0
 MirrorNode = Power (Mirror Kept) Kept
 
--- A mirror that runs stands for the list, which says that it is on; of one that is off, which the
--- list says, the note says what the list says.
-abbrev pub Stands : Noted → List Entry → MirrorNode → Type 0
-Stands o past (On mirror) = StandsFor note_of mirror o past × (is_on past ≡ true)
-Stands o past (Off notes) = Says (note_of notes).bytes (words_noted o past) × (is_on past ≡ false)
-Stands o past Lent = ⊥
+-- The kind of the mirror of a world whose note said this: one over notes in memory.
+abbrev pub mirror_nodes : Noted → Kind (Mirror Kept) Kept Frame Entry Addition (List (List ℕ))
+mirror_nodes o = mirror_kind note_of o
 
--- What has to be known of the mirror of a world. What is refused leaves it as it was.
-abbrev pub mirror_nodes : Noted →
-    Nodes MirrorNode (Mirror Kept) Frame Entry Addition (List (List ℕ))
-mirror_nodes o = record {
-  core = steps note_of o;
-  is_up = is_on;
-  Stands = Stands o;
-  Stays = λ past f new. Stands o past new;
-}
+-- For which lists it stands.
+abbrev pub Stands : Noted → List Entry → MirrorNode → Type 0
+Stands o = nodes.Stands (mirror_nodes o)
 
 -- How a restart ends, which nothing hinders: the mirror runs; or it ran, or memory ran out, and
 -- nothing changes.

@@ -10,7 +10,7 @@ ghost use Rattle.client_core.specs.History.{Opening};
 ghost use Rattle.client_core.specs.Hearing.{FrameEntry, Restart, Cut, is_up, packets_heard};
 ghost use Rattle.client_core.specs.Words.{words_noted};
 ghost use Rattle.node_power.specs.declared.power.Power.TheVariants.{Off};
-ghost use Rattle.net_world.specs.Nodes.{Shows};
+ghost use Rattle.node_power.specs.Kinds.{Shows};
 ghost use Rattle.net_world.specs.ClientNodes.{client_nodes, HasNone, Stands, Restarts};
 
 mod asks;
@@ -55,7 +55,7 @@ pub(crate) fn runs(node: &ClientNode) -> bool
 /// The client, while it runs.
 pub(crate) fn client(node: &ClientNode) -> Option<&Client<MemNotes>>
     ensures { (o : Opening) (past : List FrameEntry) → Stands o past node.now →
-        Shows (client_nodes o) past (option_copied result) }
+        Shows (client_nodes o) past node.now (option_copied result) }
 {
     node.core()
 }

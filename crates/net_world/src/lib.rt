@@ -14,8 +14,8 @@
 #![tactic(auto)]
 
 mod ask;
-mod asked;
 mod client_node;
+mod client_outs;
 mod config;
 mod event;
 mod example;

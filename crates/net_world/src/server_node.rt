@@ -11,7 +11,8 @@ ghost use Rattle.server_core.specs.History.{Opening};
 ghost use Rattle.server_core.specs.Hearing.{FrameEntry, Restart, Cut, packets_heard, is_up};
 ghost use Rattle.server_core.specs.Note.{Says};
 ghost use Rattle.server_core.specs.Words.{is_on};
-ghost use Rattle.net_world.specs.Nodes.{Shows, Ends, CutsIn};
+ghost use Rattle.node_power.specs.Kinds.{Shows};
+ghost use Rattle.net_world.specs.Nodes.{Ends, CutsIn};
 ghost use Rattle.net_world.specs.ServerNodes.{server_nodes, no_save, boots, Stands, Restarts, CutsInRestart};
 ghost use Rattle.net_world.specs.Trace.{opening_of};
 
@@ -47,7 +48,7 @@ pub(crate) fn runs(node: &ServerNode) -> bool
 /// The server, while it runs.
 pub(crate) fn server(node: &ServerNode) -> Option<&Server<MemNotes>>
     ensures { (o : Opening) (past : List FrameEntry) → Stands o past node.now →
-        Shows (server_nodes o) past (option_copied result) }
+        Shows (server_nodes o) past node.now (option_copied result) }
 {
     node.core()
 }

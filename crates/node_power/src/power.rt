@@ -3,6 +3,7 @@
 ghost use Rattle.std.specs.Prelude.{◌≡◌, List, IfSome, IfNone};
 ghost use Rattle.std.specs.Borrow.{sem};
 ghost use Rattle.std.specs.Option.{option_copied};
+ghost use Rattle.node_power.specs.declared.power.Power.TheVariants.{Lent as Away};
 ghost use Rattle.node_power.specs.Kinds.{left_by, note_of, told_of, Cuts, IsLent, LendsCore, Restarts, Shows, Stands};
 
 use crate::node_core::NodeCore;
@@ -101,6 +102,7 @@ impl<N: Drop, C: NodeCore<N>> Power<C, N> {
 
     /// Its notes, which are lent until they are put back; `None` where they are lent already.
     pub fn lend(&mut self) -> Option<N>
+        ensures left { self.new ≡ Away }
         ensures same { (o : C.Opening) → IfSome result
             (λ notes. (C.kind o).note notes ≡ note_of (C.kind o) self.old) }
         ensures says { (o : C.Opening) (past : List C.Entry) → Stands (C.kind o) past self.old →

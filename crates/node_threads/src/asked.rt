@@ -3,7 +3,7 @@
 ghost use Rattle.std.specs.Prelude.{◌≡◌, IsTrue, Some, OnOk, slice_get};
 ghost use Rattle.node_threads.specs.Asked.{IsAsked, is_frame, asked_of_client, errand};
 
-use cells::{Came, History};
+use cells::{History, NodeInput};
 use fc_base::RunNo;
 use fleet_threads::{Client, FleetFault};
 use messages::Act;
@@ -35,7 +35,7 @@ fn is_errand(history: &History, run: RunNo, write: &[u8], read: &[u8]) -> bool
     let mut done = 0;
     for at in 0..history.len() {
         let entry = history.at(at);
-        let came = &entry.as_logged().came;
+        let came = &entry.as_entry().came;
         if is_frame(came) {
             continue;
         }
@@ -48,20 +48,20 @@ fn is_errand(history: &History, run: RunNo, write: &[u8], read: &[u8]) -> bool
 }
 
 /// Whether a frame has come, which nobody asked for.
-fn is_frame(came: &Came) -> bool
+fn is_frame(came: &NodeInput) -> bool
     ensures { result ≡ is_frame came.now }
 {
-    matches!(came, Came::Frame(_))
+    matches!(came, NodeInput::Frame(_))
 }
 
 /// Whether this is the next request of the errand, of which so many are done.
-fn is_next(done: usize, came: &Came, run: RunNo, write: &[u8], read: &[u8]) -> bool
+fn is_next(done: usize, came: &NodeInput, run: RunNo, write: &[u8], read: &[u8]) -> bool
     ensures { IsTrue result → slice_get (errand run write.now read.now) done ≡ Some came.now }
 {
     match (done, came) {
-        (0, Came::Begin(text)) => text.as_slice() == write,
-        (1, Came::Trigger(triggered, Act::Cut)) => *triggered == run,
-        (2, Came::Verify(verified, text)) => *verified == run && text.as_slice() == read,
+        (0, NodeInput::Begin(text)) => text.as_slice() == write,
+        (1, NodeInput::Trigger(triggered, Act::Cut)) => *triggered == run,
+        (2, NodeInput::Verify(verified, text)) => *verified == run && text.as_slice() == read,
         _ => false,
     }
 }

@@ -30,8 +30,9 @@ mod left;
 pub use assembly::{AssembleFault, Assembled, Place, assemble};
 pub use calls::{deliver, pick, post};
 pub use cells::{
-    Answer, CallerAnswer, Came, ClientCell, ClientCommand, ClientRequest, ClientTask, FrameBytes,
-    History, Lent, Logged, Node, Report, Said, Seat, ServerCell, ServerTask, Turn,
+    Answer, CallerAnswer, ClientCell, ClientCommand, ClientRequest, ClientTask, FrameBytes,
+    History, HistoryEntry, LentEntry, Node, NodeInput, Reply, Report, Seat, ServerCell, ServerTask,
+    Turn,
 };
 pub use ends::CheckEnd;
 pub use fleet::{run_and_leave, run_fleet};

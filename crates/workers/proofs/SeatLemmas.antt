@@ -3,15 +3,15 @@ use Rattle.std.proofs.Common.{◌≡◌, refl, sym, ◌∙◌, ap, arith, ◌+�
 use Rattle.fc_base.specs.declared.fault.Fault.{Fault}
 use Rattle.fc_base.specs.declared.fault.Fault.TheVariants.{NoMemory, WrongSeat, OldBoot}
 use Rattle.cells.specs.declared.answer.Answer.{Answer}
-use Rattle.cells.specs.declared.answer.Said.{Said}
+use Rattle.cells.specs.declared.answer.Reply.{Reply}
 use Rattle.cells.specs.declared.answer.CallerAnswer.{CallerAnswer}
 use Rattle.cells.specs.Seated.{Seated}
 use Rattle.cells.specs.declared.server_cell.task.ServerTask.{ServerTask}
 use Rattle.cells.specs.ServerCells.{ServerLog}
 use Rattle.cells.specs.ServerCalls.{is_right, lacks_memory, told_by, Enters, AppliesBy, Applies}
 use Rattle.workers.specs.Seats.{IsSeatOf, HasFailed, says_final, is_off, is_own, ends_with}
-use Rattle.workers.specs.declared.server.Asked.{Asked}
-use Rattle.workers.specs.declared.server.Asked.TheVariants as asks
+use Rattle.workers.specs.declared.server.NextWrite.{NextWrite}
+use Rattle.workers.specs.declared.server.NextWrite.TheVariants as asks
 use Rattle.workers.specs.Turns.{WorkedIf, HasAsked, IsIssued, is_last_asked, IsTaken, is_taken}
 
 -- ---- one call behind another
@@ -30,18 +30,18 @@ abbrev pub ends_by : Result CallerAnswer Fault → Bool
 ends_by (Ok told) = says_final told.answer
 ends_by (Err fault) = is_off fault
 
-ends_alike : (answer : Result Said Fault) → ends_by (told_by answer) ≡ ends_with (Some answer)
+ends_alike : (answer : Result Reply Fault) → ends_by (told_by answer) ≡ ends_with (Some answer)
 ends_alike (Ok said) = refl
 ends_alike (Err fault) = refl
 
 unmoved : (seat after : Seated) → after ≡ seat → IsSeatOf seat after
 unmoved seat after h = rw h (same_seat seat)
 
-moved : (seat after : Seated) (answer : Result Said Fault)
+moved : (seat after : Seated) (answer : Result Reply Fault)
     → after ≡ record { server = seat.server; number = seat.number; applied = seat.applied + 1; last = Some answer } → IsSeatOf seat after
 moved seat after answer h = rw h (record { server = refl; number = refl; grown = omega arith })
 
-worked_by : (is : Bool) (seat after : Seated) (answer : Result Said Fault) → is ≡ ends_with (Some answer)
+worked_by : (is : Bool) (seat after : Seated) (answer : Result Reply Fault) → is ≡ ends_with (Some answer)
     → after ≡ record { server = seat.server; number = seat.number; applied = seat.applied + 1; last = Some answer } → WorkedIf is seat after
 worked_by false seat after answer over h = moved seat after answer h
 worked_by true seat after answer over h = record {
@@ -59,7 +59,7 @@ pub applied : (old : ServerLog) (seat : Seated) (task : ServerTask) (new : Serve
     → Applies old seat task new after result → WorkedIf (ends_by result) seat after
 applied old seat task new after result h = by_seat (is_right old seat) h
   where
-    by_answer : (lacks : Bool) (answer : Result Said Fault) → result ≡ told_by answer → Enters lacks old seat task new after answer
+    by_answer : (lacks : Bool) (answer : Result Reply Fault) → result ≡ told_by answer → Enters lacks old seat task new after answer
         → WorkedIf (ends_by result) seat after
     by_answer true answer told e = left_as_it_was seat after result NoMemory (told ∙ ap told_by e.1) refl e.0.seat_is
     by_answer false answer told e = worked_by (ends_by result) seat after answer (ap ends_by told ∙ ends_alike answer) e.seat_is
@@ -76,12 +76,12 @@ takes_by (Ok told) = true
 takes_by (Err OldBoot) = true
 takes_by (Err fault) = false
 
-takes_alike : (answer : Result Said Fault) → takes_by (told_by answer) ≡ is_taken (Some answer)
+takes_alike : (answer : Result Reply Fault) → takes_by (told_by answer) ≡ is_taken (Some answer)
 takes_alike (Ok said) = refl
 takes_alike (Err OldBoot) = refl
 takes_alike (Err fault) = refl
 
-taken_by : (seat after : Seated) (answer : Result Said Fault) → is_taken (Some answer) ≡ true
+taken_by : (seat after : Seated) (answer : Result Reply Fault) → is_taken (Some answer) ≡ true
     → after ≡ record { server = seat.server; number = seat.number; applied = seat.applied + 1; last = Some answer } → IsTaken seat after
 taken_by seat after answer sure h = record {
   same = moved seat after answer h;
@@ -94,7 +94,7 @@ pub taken : (old : ServerLog) (seat : Seated) (task : ServerTask) (new : ServerL
     → Applies old seat task new after result → takes_by result ≡ true → IsTaken seat after
 taken old seat task new after result h sure = by_seat (is_right old seat) h
   where
-    by_answer : (lacks : Bool) (answer : Result Said Fault) → result ≡ told_by answer → Enters lacks old seat task new after answer
+    by_answer : (lacks : Bool) (answer : Result Reply Fault) → result ≡ told_by answer → Enters lacks old seat task new after answer
         → IsTaken seat after
     by_answer true answer told e = absurd (let no : false ≡ true = sym (ap takes_by (told ∙ ap told_by e.1)) ∙ sure in cc)
     by_answer false answer told e = taken_by seat after answer (sym (ap takes_by told ∙ takes_alike answer) ∙ sure) e.seat_is
@@ -118,7 +118,7 @@ abbrev pub own_by : Result CallerAnswer Fault → Bool
 own_by (Ok told) = true
 own_by (Err fault) = is_own fault
 
-failed_by : (seat after : Seated) (answer : Result Said Fault) (fault : Fault) → Err fault ≡ told_by answer
+failed_by : (seat after : Seated) (answer : Result Reply Fault) (fault : Fault) → Err fault ≡ told_by answer
     → after ≡ record { server = seat.server; number = seat.number; applied = seat.applied + 1; last = Some answer } → HasFailed seat after fault
 failed_by seat after (Ok said) fault told h = absurd (let no = told in cc)
 failed_by seat after (Err other) fault told h = record {
@@ -137,7 +137,7 @@ pub failed : (old : ServerLog) (seat : Seated) (task : ServerTask) (new : Server
     → Applies old seat task new after (Err fault) → HasFailed seat after fault
 failed old seat task new after fault h = by_seat (is_right old seat) h
   where
-    by_answer : (lacks : Bool) (answer : Result Said Fault) → Err fault ≡ told_by answer → Enters lacks old seat task new after answer
+    by_answer : (lacks : Bool) (answer : Result Reply Fault) → Err fault ≡ told_by answer → Enters lacks old seat task new after answer
         → HasFailed seat after fault
     by_answer true answer told e = of_itself seat after fault (ap own_by (told ∙ ap told_by e.1)) e.0.seat_is
     by_answer false answer told e = failed_by seat after answer fault told e.seat_is
@@ -163,7 +163,7 @@ failed_behind : (a b c : Seated) (fault : Fault) → IsSeatOf a b → HasFailed 
 failed_behind a b c fault h w = record { same = seat_behind a b c h w.same; told = w.told }
 
 -- What was asked from a seat that has applied more meanwhile.
-pub asked_behind : (a b c : Seated) (result : Result Asked Fault) → IsSeatOf a b → HasAsked b c result → HasAsked a c result
+pub asked_behind : (a b c : Seated) (result : Result NextWrite Fault) → IsSeatOf a b → HasAsked b c result → HasAsked a c result
 asked_behind a b c (Ok (asks.Write order)) h w = seat_behind a b c h w
 asked_behind a b c (Ok asks.Later) h w = seat_behind a b c h w
 asked_behind a b c (Ok asks.Never) h w = worked_behind true a b c h w
@@ -172,7 +172,7 @@ asked_behind a b c (Ok (asks.Refused fault)) h w = failed_behind a b c fault h w
 asked_behind a b c (Err fault) h w = failed_behind a b c fault h w
 
 -- An answer of the server, as the worker is told of it.
-pub said_so : (asked : Asked) (answer : Answer) (a b : Seated) → IsIssued asked answer → WorkedIf (is_last_asked asked) a b → HasAsked a b (Ok asked)
+pub said_so : (asked : NextWrite) (answer : Answer) (a b : Seated) → IsIssued asked answer → WorkedIf (is_last_asked asked) a b → HasAsked a b (Ok asked)
 said_so (asks.Write order) answer a b i w = w
 said_so asks.Later answer a b i w = w
 said_so asks.Never answer a b i w = w
@@ -180,7 +180,7 @@ said_so asks.Off answer a b i w = w
 said_so (asks.Refused fault) answer a b i w = absurd i
 
 -- However it was asked, it is the same seat.
-pub seat_asked : (a b : Seated) (result : Result Asked Fault) → HasAsked a b result → IsSeatOf a b
+pub seat_asked : (a b : Seated) (result : Result NextWrite Fault) → HasAsked a b result → IsSeatOf a b
 seat_asked a b (Ok (asks.Write order)) w = w
 seat_asked a b (Ok asks.Later) w = w
 seat_asked a b (Ok asks.Never) w = w.same

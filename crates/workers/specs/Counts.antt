@@ -3,8 +3,8 @@ use Rattle.std.specs.Prelude.{◌≡◌, ◌≤◌, ◌+◌, ℕ, Bool, true, fa
 use Rattle.fc_base.specs.declared.fault.Fault.{Fault}
 use Rattle.fc_base.specs.declared.fault.Fault.TheVariants.{NoMemory, WrongSeat}
 use Rattle.cells.specs.declared.answer.CallerAnswer.{CallerAnswer}
-use Rattle.workers.specs.declared.server.Asked.{Asked}
-use Rattle.workers.specs.declared.server.Asked.TheVariants as asks
+use Rattle.workers.specs.declared.server.NextWrite.{NextWrite}
+use Rattle.workers.specs.declared.server.NextWrite.TheVariants as asks
 
 -- A call that ends with a fault enters one event; but none for want of memory, and one at most from
 -- a seat that isn't the right one.
@@ -24,7 +24,7 @@ TellsOne before now (Ok on) = now ≡ before + 1
 TellsOne before now (Err fault) = FailsAt fault before now
 
 -- And the question for a write, whatever its answer.
-abbrev pub AsksOne : ℕ → ℕ → Asked → Type 0
+abbrev pub AsksOne : ℕ → ℕ → NextWrite → Type 0
 AsksOne before now (asks.Refused fault) = FailsAt fault before now
 AsksOne before now asked = now ≡ before + 1
 
@@ -36,13 +36,13 @@ TellsEach before now (Ok false) = now ≡ before + 1
 TellsEach before now (Err fault) = FailsAt fault before now
 
 -- The answer is a write.
-abbrev pub is_write : Asked → Bool
+abbrev pub is_write : NextWrite → Bool
 is_write (asks.Write order) = true
 is_write _ = false
 
 -- Several writes are asked for by an event each, up to one that gives none; `Later` is such an
 -- answer only where there was a place for a write, as else nothing was asked.
-abbrev pub AsksEach : Bool → ℕ → ℕ → Asked → Type 0
+abbrev pub AsksEach : Bool → ℕ → ℕ → NextWrite → Type 0
 AsksEach has_place before now (asks.Write order) = now ≡ before
 AsksEach true before now asks.Later = now ≡ before + 1
 AsksEach false before now asks.Later = now ≡ before
@@ -51,6 +51,6 @@ AsksEach has_place before now asks.Off = now ≡ before + 1
 AsksEach has_place before now (asks.Refused fault) = FailsAt fault before now
 
 -- Ends are told, and writes asked for behind them.
-abbrev pub TellsAndAsks : Bool → ℕ → ℕ → Result Asked Fault → Type 0
+abbrev pub TellsAndAsks : Bool → ℕ → ℕ → Result NextWrite Fault → Type 0
 TellsAndAsks has_place before now (Ok asked) = AsksEach has_place before now asked
 TellsAndAsks has_place before now (Err fault) = FailsAt fault before now

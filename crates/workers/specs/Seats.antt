@@ -6,7 +6,7 @@ use Rattle.engine.specs.declared.issue.Issue.{Issue}
 use Rattle.engine.specs.declared.issue.Issue.TheVariants.{Finished, Stopped}
 use Rattle.cells.specs.declared.answer.Answer.{Answer}
 use Rattle.cells.specs.declared.answer.Answer.TheVariants.{Issued}
-use Rattle.cells.specs.declared.answer.Said.{Said}
+use Rattle.cells.specs.declared.answer.Reply.{Reply}
 use Rattle.cells.specs.Seated.{Seated}
 
 -- It is the same seat, which may have applied more.
@@ -32,7 +32,7 @@ is_off NodeOff = true
 is_off _ = false
 
 -- The last answer is that of a job that is over, or that the server is off.
-abbrev pub ends_with : Option (Result Said Fault) → Bool
+abbrev pub ends_with : Option (Result Reply Fault) → Bool
 ends_with None = false
 ends_with (Some (Ok said)) = says_final said.answer
 ends_with (Some (Err fault)) = is_off fault

@@ -8,13 +8,13 @@ use Rattle.job_file.specs.declared.job.Job.{Job}
 use Rattle.engine.specs.declared.issue.Issue.TheVariants.{Write}
 use Rattle.cells.specs.declared.answer.Answer.{Answer}
 use Rattle.cells.specs.declared.answer.Answer.TheVariants.{Issued}
-use Rattle.cells.specs.declared.answer.Said.{Said}
+use Rattle.cells.specs.declared.answer.Reply.{Reply}
 use Rattle.server_core.specs.Answers.{run_job, shown_entries}
 use Rattle.server_core.specs.Hearing.{FrameEntry, packets_heard}
 use Rattle.cells.specs.ServerCells.{ServerLog, IsReplay}
 use Rattle.cells.specs.Seated.{Seated}
-use Rattle.workers.specs.declared.server.Asked.{Asked}
-use Rattle.workers.specs.declared.server.Asked.TheVariants as asks
+use Rattle.workers.specs.declared.server.NextWrite.{NextWrite}
+use Rattle.workers.specs.declared.server.NextWrite.TheVariants as asks
 use Rattle.workers.specs.declared.turn.TurnEnd.{TurnEnd}
 use Rattle.workers.specs.declared.turn.TurnEnd.TheVariants as turns
 use Rattle.workers.specs.declared.worker.Round.{Round}
@@ -27,18 +27,18 @@ WorkedIf true seat back = HasWorked seat back
 WorkedIf false seat back = IsSeatOf seat back
 
 -- The job issues no more writes, or the server is off.
-abbrev pub is_last_asked : Asked → Bool
+abbrev pub is_last_asked : NextWrite → Bool
 is_last_asked asks.Never = true
 is_last_asked asks.Off = true
 is_last_asked _ = false
 
 -- The server is on, as far as the answer tells.
-abbrev pub is_on : Asked → Bool
+abbrev pub is_on : NextWrite → Bool
 is_on asks.Off = false
 is_on _ = true
 
 -- The write is the one that the server issued; and no answer is a refusal.
-abbrev pub IsIssued : Asked → Answer → Type 0
+abbrev pub IsIssued : NextWrite → Answer → Type 0
 IsIssued (asks.Write order) answer = answer ≡ Issued (Write order.ticket)
 IsIssued (asks.Refused fault) answer = ⊥
 IsIssued _ answer = Unit {0}
@@ -52,18 +52,18 @@ AreSettings cell job rec =
     ≡ Some rec)
 
 -- A write comes with the settings of its job.
-abbrev pub HasSettings : ServerLog → ℕ → Asked → Type 0
+abbrev pub HasSettings : ServerLog → ℕ → NextWrite → Type 0
 HasSettings cell job (asks.Write order) = IfSome order.rec (AreSettings cell job)
 HasSettings cell job _ = Unit {0}
 
 -- How asking for writes leaves the seat, by the last answer.
-abbrev pub HasAsked : Seated → Seated → Result Asked Fault → Type 0
+abbrev pub HasAsked : Seated → Seated → Result NextWrite Fault → Type 0
 HasAsked seat back (Ok (asks.Refused fault)) = HasFailed seat back fault
 HasAsked seat back (Ok answer) = WorkedIf (is_last_asked answer) seat back
 HasAsked seat back (Err fault) = HasFailed seat back fault
 
 -- The server has taken the end of a write, or it is nothing to its boot.
-abbrev pub is_taken : Option (Result Said Fault) → Bool
+abbrev pub is_taken : Option (Result Reply Fault) → Bool
 is_taken (Some (Ok said)) = true
 is_taken (Some (Err OldBoot)) = true
 is_taken _ = false

@@ -29,7 +29,7 @@ pub(crate) struct Order {
 
 /// What a worker is told that asks for the next write of a job.
 #[derive(Clone, Copy, PartialEq, Eq)]
-pub(crate) enum Asked {
+pub(crate) enum NextWrite {
     /// This write.
     Write(Order),
     /// None yet.
@@ -59,7 +59,7 @@ pub(crate) fn tell_and_ask<R: Wait, N: Notes + Drop>(
     told: &mut usize,
     job: JobNo,
     given: &mut Vec<Order>,
-) -> Result<Asked, Fault>
+) -> Result<NextWrite, Fault>
     requires { told.old ≤ length ended.now }
     ensures asked { HasAsked seat.old seat.new result }
     ensures told { told.new ≤ length ended.now }
@@ -74,7 +74,7 @@ pub(crate) fn tell_and_ask<R: Wait, N: Notes + Drop>(
     }
     for at in *told..ended.len() {
         if !tell(rt, cell, seat, &ended[at])? {
-            return Ok(Asked::Off);
+            return Ok(NextWrite::Off);
         }
         *told = at + 1;
     }
@@ -89,7 +89,7 @@ fn tell_all_and_ask<N: Notes + Drop>(
     told: &mut usize,
     job: JobNo,
     given: &mut Vec<Order>,
-) -> Result<Asked, Fault>
+) -> Result<NextWrite, Fault>
     requires { told.old ≤ length ended.now }
     ensures asked { HasAsked seat.old seat.new result }
     ensures told { told.new ≤ length ended.now }
@@ -102,7 +102,7 @@ fn tell_all_and_ask<N: Notes + Drop>(
     if tell_all(server, seat, ended, told)? {
         Ok(ask_for_some(server, seat, job, given))
     } else {
-        Ok(Asked::Off)
+        Ok(NextWrite::Off)
     }
 }
 
@@ -136,24 +136,24 @@ fn ask_for_some<N: Notes + Drop>(
     seat: &mut Seat,
     job: JobNo,
     given: &mut Vec<Order>,
-) -> Asked
+) -> NextWrite
     ensures asked { HasAsked seat.old seat.new (Ok result) }
     ensures counts { AsksEach (nat_lt (length given.old.items) MOST)
         (seat.old.applied + length given.new.items) (seat.new.applied + length given.old.items) result }
 {
-    let (mut last, mut share) = (Asked::Later, HAND);
+    let (mut last, mut share) = (NextWrite::Later, HAND);
     for count in 0..HAND {
         if count >= share || given.len() >= HAND {
             return last;
         }
         if given.reserve(1).is_err() {
-            return Asked::Refused(Fault::NoMemory);
+            return NextWrite::Refused(Fault::NoMemory);
         }
         match issue(server, seat, job) {
-            Asked::Write(order) => {
+            NextWrite::Write(order) => {
                 given.push_reserved(order);
                 share = share_of(&order);
-                last = Asked::Write(order);
+                last = NextWrite::Write(order);
             }
             other => return other,
         }
@@ -171,7 +171,7 @@ fn share_of(order: &Order) -> usize {
 }
 
 /// Asks a server for the next write of a job.
-fn issue<N: Notes + Drop>(server: &mut ServerCell<N>, seat: &mut Seat, job: JobNo) -> Asked
+fn issue<N: Notes + Drop>(server: &mut ServerCell<N>, seat: &mut Seat, job: JobNo) -> NextWrite
     ensures asks { (answer : Result CallerAnswer Fault)
         × Applies server.old seat.old (IssueTask job) server.new seat.new answer }
     ensures seat { HasAsked seat.old seat.new (Ok result) }
@@ -180,24 +180,24 @@ fn issue<N: Notes + Drop>(server: &mut ServerCell<N>, seat: &mut Seat, job: JobN
 {
     match server.apply(seat, ServerTask::Issue(job)) {
         Ok(told) => said(told, server, job),
-        Err(Fault::NodeOff) => Asked::Off,
-        Err(fault) => Asked::Refused(fault),
+        Err(Fault::NodeOff) => NextWrite::Off,
+        Err(fault) => NextWrite::Refused(fault),
     }
 }
 
 /// What the answer says.
-fn said<N: Notes + Drop>(told: CallerAnswer, server: &ServerCell<N>, job: JobNo) -> Asked
+fn said<N: Notes + Drop>(told: CallerAnswer, server: &ServerCell<N>, job: JobNo) -> NextWrite
     ensures issued { IsIssued result told.answer }
     ensures last { is_last_asked result ≡ says_final told.answer }
     ensures settings { HasSettings server.now job result }
 {
     match told.answer {
-        Answer::Issued(Issue::Write(ticket)) => Asked::Write(Order {
+        Answer::Issued(Issue::Write(ticket)) => NextWrite::Write(Order {
             ticket,
             rec: record_of(server, job),
         }),
-        Answer::Issued(Issue::Finished | Issue::Stopped) => Asked::Never,
-        _ => Asked::Later,
+        Answer::Issued(Issue::Finished | Issue::Stopped) => NextWrite::Never,
+        _ => NextWrite::Later,
     }
 }
 

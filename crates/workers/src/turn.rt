@@ -6,7 +6,7 @@ ghost use Rattle.workers.specs.Turns.{HasAsked, HasTaken};
 use crate::desk::Desk;
 use crate::ended::Ended;
 use crate::gate::{Gate, TURNS};
-use crate::server::{Asked, tell, tell_and_ask};
+use crate::server::{NextWrite, tell, tell_and_ask};
 use cells::{Seat, ServerCell};
 use disk_model::{Disk, Notes};
 use fc_base::{Fault, JobNo};
@@ -41,13 +41,13 @@ pub(crate) fn take<R: Wait, N: Notes + Drop, D: Disk, G: Gate>(
 {
     let asked = ask(rt, cell, seat, job, gate, desk)?;
     match asked {
-        Asked::Off => return Ok(TurnEnd::Off),
-        Asked::Never if desk.given.is_empty() => return Ok(TurnEnd::Never),
-        Asked::Later if desk.given.is_empty() => return Ok(TurnEnd::Later),
-        Asked::Refused(fault) if desk.given.is_empty() => return Err(fault),
+        NextWrite::Off => return Ok(TurnEnd::Off),
+        NextWrite::Never if desk.given.is_empty() => return Ok(TurnEnd::Never),
+        NextWrite::Later if desk.given.is_empty() => return Ok(TurnEnd::Later),
+        NextWrite::Refused(fault) if desk.given.is_empty() => return Err(fault),
         _ => {}
     }
-    if desk.carry_out(rt, files, gate) || matches!(asked, Asked::Write(_)) {
+    if desk.carry_out(rt, files, gate) || matches!(asked, NextWrite::Write(_)) {
         return Ok(TurnEnd::Wrote);
     }
     wait(rt, cell, seat, files, gate, desk)
@@ -62,7 +62,7 @@ fn ask<R: Wait, N: Notes + Drop, G: Gate>(
     job: JobNo,
     gate: &G,
     desk: &mut Desk,
-) -> Result<Asked, Fault>
+) -> Result<NextWrite, Fault>
     ensures { HasAsked seat.old seat.new result }
 {
     let mut told = 0;

@@ -8,10 +8,10 @@ ghost use Rattle.cells.specs.ClientCalls.{logged_by, Applies};
 use super::ClientCell;
 use super::power::perform;
 use super::task::ClientTask;
-use crate::answer::{CallerAnswer, Said};
+use crate::answer::{CallerAnswer, Reply};
 use crate::at_hub::{lacks_memory, told_at};
-use crate::came::Came;
-use crate::logged::Logged;
+use crate::entry::HistoryEntry;
+use crate::input::NodeInput;
 use disk_model::Notes;
 use fc_base::Fault;
 use messages::Frames;
@@ -42,10 +42,10 @@ impl<N: Notes + Drop> ClientCell<N> {
 }
 
 /// The entry of what came from no seat and was answered so, which sends nothing.
-fn entry(alloc: Global, came: Came, answer: &Result<Said, Fault>) -> Logged
+fn entry(alloc: Global, came: NodeInput, answer: &Result<Reply, Fault>) -> HistoryEntry
     ensures { result ≡ logged_by came answer.now }
 {
-    Logged {
+    HistoryEntry {
         by: None,
         came,
         answer: *answer,

@@ -6,7 +6,7 @@ ghost use Rattle.messages.specs.declared.node.Node.TheVariants.{Client};
 ghost use Rattle.client_core.specs.declared.input.Input.TheVariants.{Tick};
 ghost use Rattle.client_core.specs.Hearing.{FrameEntry};
 ghost use Rattle.cells.specs.Rules.{Meets};
-ghost use Rattle.cells.specs.declared.came.Came.TheVariants as kinds;
+ghost use Rattle.cells.specs.declared.input.NodeInput.TheVariants as kinds;
 ghost use Rattle.cells.specs.ClientRules.{ask_of, rules};
 ghost use Rattle.cells.specs.AtHub.{Posts};
 ghost use Rattle.cells.specs.Calls.{HasWhy};
@@ -19,8 +19,8 @@ use super::incoming::Incoming;
 use super::power::{hear, tick};
 use super::sent::{bytes_of, outcome};
 use crate::answer::CallerAnswer;
-use crate::came::Came;
 use crate::entered::{enter, make_room};
+use crate::input::NodeInput;
 use client_core::packets_are_in_range;
 use disk_model::Notes;
 use fc_base::{Fault, MAX_SERVERS};
@@ -83,6 +83,13 @@ impl<N: Notes + Drop> ClientCell<N> {
             return Err(Fault::NoMemory);
         };
         make_room(&self.power, &mut self.history, hub, done.1.len(), bytes)?;
-        enter(&mut self.history, hub, Node::Client, Came::Tick, None, done)
+        enter(
+            &mut self.history,
+            hub,
+            Node::Client,
+            NodeInput::Tick,
+            None,
+            done,
+        )
     }
 }

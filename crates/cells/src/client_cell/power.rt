@@ -6,18 +6,19 @@ ghost use Rattle.client_core.specs.History.{Opening};
 ghost use Rattle.client_core.specs.FrameEnds.{StandsFor, note_in};
 ghost use Rattle.client_core.specs.Hearing.{FrameEntry, is_up};
 ghost use Rattle.node_power.specs.declared.power.Power.TheVariants.{On};
+ghost use Rattle.cells.specs.ClientKind.{client_kind};
 ghost use Rattle.cells.specs.ClientRules.{ask_of};
 ghost use Rattle.cells.specs.Failures.{Counts};
 ghost use Rattle.cells.specs.Moves.{StepEnds, TaskEnds};
 ghost use Rattle.cells.specs.ClientTasks.{came_by, came_in, input_in, input_of, loads_note};
-ghost use Rattle.cells.specs.ClientStands.{reply_and_frames, outs_of, failures_of, ways, Stands};
+ghost use Rattle.cells.specs.ClientStands.{reply_and_frames, outs_of, failures_of, Stands};
 
 use super::incoming::Incoming;
 use super::outs::ClientOuts;
 use super::request::ClientRequest;
 use super::task::ClientTask;
-use crate::answer::{Answer, Said};
-use crate::came::Came;
+use crate::answer::{Answer, Reply};
+use crate::input::NodeInput;
 use client_core::Client;
 use disk_model::Notes;
 use fc_base::{Fault, MAX_SERVERS};
@@ -31,22 +32,22 @@ pub(crate) fn perform<N: Notes + Drop>(
     alloc: Global,
     servers: u32,
     task: &ClientTask,
-) -> Result<Said, Fault>
+) -> Result<Reply, Fault>
     requires some { 1 ≤ servers }
     requires few { servers ≤ MAX_SERVERS }
     ensures ends { (o : Opening) (past : List FrameEntry) → o.servers ≡ servers →
         Stands N.note o past power.old →
-        TaskEnds (ways N.note o) past (ask_of (came_by task.now)) power.new result }
+        TaskEnds (client_kind N.note o) past (ask_of (came_by task.now)) power.new result }
     ensures count { (o : Opening) (past : List FrameEntry) → o.servers ≡ servers →
         Stands N.note o past power.old →
         Counts (loads_note task.now) (failures_of N.note power.old)
         (failures_of N.note power.new) result }
 {
     match task {
-        ClientTask::Cut => Said::of_power(power.cut()),
+        ClientTask::Cut => Reply::of_power(power.cut()),
         ClientTask::Restart => {
             let mirror = false;
-            Said::of_power(power.restart(alloc, ClientSeed { servers, mirror }))
+            Reply::of_power(power.restart(alloc, ClientSeed { servers, mirror }))
         }
     }
 }
@@ -57,7 +58,8 @@ fn take<N: Notes + Drop>(
     request: &ClientRequest,
 ) -> Result<ClientOuts, Fault>
     ensures ends { (o : Opening) (past : List FrameEntry) → Stands N.note o past power.old →
-        StepEnds (ways N.note o) past (input_of request.now) power.new (reply_and_frames result) }
+        StepEnds (client_kind N.note o) past (input_of request.now) power.new
+        (reply_and_frames result) }
     ensures count { (o : Opening) (past : List FrameEntry) → Stands N.note o past power.old →
         Counts false (failures_of N.note power.old) (failures_of N.note power.new)
         (reply_and_frames result) }
@@ -71,7 +73,8 @@ fn deliver<N: Notes + Drop>(
     frame: Frame,
 ) -> Result<ClientOuts, Fault>
     ensures ends { (o : Opening) (past : List FrameEntry) → Stands N.note o past power.old →
-        StepEnds (ways N.note o) past (inputs.Deliver frame) power.new (reply_and_frames result) }
+        StepEnds (client_kind N.note o) past (inputs.Deliver frame) power.new
+        (reply_and_frames result) }
     ensures count { (o : Opening) (past : List FrameEntry) → Stands N.note o past power.old →
         Counts false (failures_of N.note power.old) (failures_of N.note power.new)
         (reply_and_frames result) }
@@ -83,10 +86,11 @@ fn deliver<N: Notes + Drop>(
 pub(crate) fn hear<N: Notes + Drop>(
     power: &mut Power<Client<N>, N>,
     incoming: Incoming,
-) -> (Result<ClientOuts, Fault>, Came)
+) -> (Result<ClientOuts, Fault>, NodeInput)
     ensures came { result.1 ≡ came_in incoming }
     ensures ends { (o : Opening) (past : List FrameEntry) → Stands N.note o past power.old →
-        StepEnds (ways N.note o) past (input_in incoming) power.new (reply_and_frames result.0) }
+        StepEnds (client_kind N.note o) past (input_in incoming) power.new
+        (reply_and_frames result.0) }
     ensures count { (o : Opening) (past : List FrameEntry) → Stands N.note o past power.old →
         Counts false (failures_of N.note power.old) (failures_of N.note power.new)
         (reply_and_frames result.0) }
@@ -103,7 +107,7 @@ pub(crate) fn hear<N: Notes + Drop>(
 /// Asks again for all that isn't answered, and changes nothing. `NodeOff`: it isn't on. `NoMemory`.
 pub(crate) fn tick<N: Notes + Drop>(power: &Power<Client<N>, N>) -> Result<ClientOuts, Fault>
     ensures ends { (o : Opening) (past : List FrameEntry) → Stands N.note o past power.now →
-        StepEnds (ways N.note o) past inputs.Tick power.now (reply_and_frames result) }
+        StepEnds (client_kind N.note o) past inputs.Tick power.now (reply_and_frames result) }
     ensures count { (o : Opening) (past : List FrameEntry) → Stands N.note o past power.now →
         Counts false (failures_of N.note power.now) (failures_of N.note power.now)
         (reply_and_frames result) }
@@ -121,7 +125,7 @@ fn ask<N: Notes + Drop>(
 ) -> Result<ClientOuts, Fault>
     ensures ends { (o : Opening) (past : List FrameEntry) → is_up o past ≡ true →
         StandsFor N.note client.old o past →
-        StepEnds (ways N.note o) past (input_of request.now) (On client.new)
+        StepEnds (client_kind N.note o) past (input_of request.now) (On client.new)
         (reply_and_frames result) }
     ensures count { (o : Opening) (past : List FrameEntry) → StandsFor N.note client.old o past →
         Counts false (note_in N.note client.old).failures (note_in N.note client.new).failures

@@ -3,7 +3,7 @@
 ghost use Rattle.std.specs.Prelude.{◌≡◌};
 ghost use Rattle.cells.specs.ClientTasks.{came_of};
 
-use crate::came::Came;
+use crate::input::NodeInput;
 use fc_base::RunNo;
 use messages::{Act, Text};
 
@@ -22,14 +22,14 @@ pub enum ClientRequest {
 
 impl ClientRequest {
     /// What comes to the client.
-    pub(crate) fn into_came(self) -> Came
+    pub(crate) fn into_came(self) -> NodeInput
         ensures { result ≡ came_of self }
     {
         match self {
-            ClientRequest::Begin(text) => Came::Begin(text),
-            ClientRequest::Trigger(run, act) => Came::Trigger(run, act),
-            ClientRequest::Stop(run) => Came::Stop(run),
-            ClientRequest::Verify(run, text) => Came::Verify(run, text),
+            ClientRequest::Begin(text) => NodeInput::Begin(text),
+            ClientRequest::Trigger(run, act) => NodeInput::Trigger(run, act),
+            ClientRequest::Stop(run) => NodeInput::Stop(run),
+            ClientRequest::Verify(run, text) => NodeInput::Verify(run, text),
         }
     }
 }

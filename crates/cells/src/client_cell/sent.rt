@@ -5,7 +5,7 @@ ghost use Rattle.cells.specs.Moves.{outcome_of};
 ghost use Rattle.cells.specs.ClientStands.{reply_and_frames};
 
 use super::outs::ClientOuts;
-use crate::answer::Said;
+use crate::answer::Reply;
 use fc_base::Fault;
 use messages::{Act, Frames};
 use std::alloc::Global;
@@ -14,13 +14,13 @@ use std::alloc::Global;
 pub(super) fn outcome(
     alloc: Global,
     step: Result<ClientOuts, Fault>,
-) -> (Result<Said, Fault>, Frames)
+) -> (Result<Reply, Fault>, Frames)
     ensures { result ≡ outcome_of (reply_and_frames step) }
 {
     match step {
         Ok(ClientOuts { answer, frames }) => {
             let act = Act::None;
-            (Ok(Said { answer, act }), frames)
+            (Ok(Reply { answer, act }), frames)
         }
         Err(fault) => (Err(fault), Frames::new(alloc)),
     }

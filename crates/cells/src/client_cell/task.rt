@@ -3,7 +3,7 @@
 ghost use Rattle.std.specs.Prelude.{◌≡◌};
 ghost use Rattle.cells.specs.ClientTasks.{came_by};
 
-use crate::came::Came;
+use crate::input::NodeInput;
 
 /// What happens to the client without the network.
 #[derive(Clone, Copy, PartialEq, Eq)]
@@ -16,12 +16,12 @@ pub enum ClientTask {
 
 impl ClientTask {
     /// What comes to the client.
-    pub(crate) fn came(&self) -> Came
+    pub(crate) fn came(&self) -> NodeInput
         ensures { result ≡ came_by self.now }
     {
         match self {
-            ClientTask::Cut => Came::Cut,
-            ClientTask::Restart => Came::Restart,
+            ClientTask::Cut => NodeInput::Cut,
+            ClientTask::Restart => NodeInput::Restart,
         }
     }
 }

@@ -9,10 +9,10 @@ use super::ServerCell;
 use super::power::perform;
 use super::seat::Seat;
 use super::task::ServerTask;
-use crate::answer::{CallerAnswer, Said};
+use crate::answer::{CallerAnswer, Reply};
 use crate::at_hub::{lacks_memory, told_at};
+use crate::entry::Turn;
 use crate::history::History;
-use crate::logged::Turn;
 use disk_model::Notes;
 use fc_base::Fault;
 
@@ -57,7 +57,7 @@ impl<N: Notes + Drop> ServerCell<N> {
 
 /// Enters what came from a seat and was answered so, as the seat's next.
 #[inline(always)]
-fn enter(history: &mut History, seat: &Seat, task: &ServerTask, answer: &Result<Said, Fault>)
+fn enter(history: &mut History, seat: &Seat, task: &ServerTask, answer: &Result<Reply, Fault>)
     requires { 1 ≤ history.old.room }
     ensures items { history.new.items
         ≡ history.old.items ++ entry_of seat.now task.now answer.now ∷ [] }

@@ -15,9 +15,9 @@ ghost use Rattle.cells.specs.ServerStands.{reply_and_frames};
 
 use super::ServerCell;
 use super::power::step;
-use crate::answer::{CallerAnswer, Said};
-use crate::came::Came;
+use crate::answer::{CallerAnswer, Reply};
 use crate::entered::{enter, make_room};
+use crate::input::NodeInput;
 use disk_model::Notes;
 use fc_base::{Fault, MAX_JOBS};
 use hub::{Hub, frames_are_spelled};
@@ -44,7 +44,7 @@ impl<N: Notes + Drop> ServerCell<N> {
     pub(super) fn hear(
         &mut self,
         hub: &mut Hub,
-        came: Came,
+        came: NodeInput,
         taken: Option<u64>,
         input: Input,
     ) -> Result<CallerAnswer, Fault>
@@ -69,11 +69,11 @@ impl<N: Notes + Drop> ServerCell<N> {
 }
 
 /// What a step is answered, and the frames that it sends.
-fn outcome(alloc: Global, step: Result<Outs, Fault>) -> (Result<Said, Fault>, Frames)
+fn outcome(alloc: Global, step: Result<Outs, Fault>) -> (Result<Reply, Fault>, Frames)
     ensures { result ≡ outcome_of (reply_and_frames step) }
 {
     match step {
-        Ok(outs) => (Ok(Said::of(outs.issue, outs.act)), outs.frames),
+        Ok(outs) => (Ok(Reply::of(outs.issue, outs.act)), outs.frames),
         Err(fault) => (Err(fault), Frames::new(alloc)),
     }
 }

@@ -11,8 +11,8 @@ use super::ServerCell;
 use super::report::Report;
 use crate::answer::CallerAnswer;
 use crate::at_hub::frame_came;
-use crate::came::Came;
 use crate::history::History;
+use crate::input::NodeInput;
 use crate::node::Node;
 use disk_model::Notes;
 use fc_base::Fault;
@@ -71,7 +71,7 @@ impl<N: Notes + Drop> Node for ServerCell<N> {
         let Ok(kept) = Box::new(self.alloc, report) else {
             return Err(Fault::NoMemory);
         };
-        let came = Came::CheckDone {
+        let came = NodeInput::CheckDone {
             boot,
             attempt,
             job,

@@ -5,14 +5,15 @@ ghost use Rattle.server_core.specs.declared.input.Input.TheVariants as inputs;
 ghost use Rattle.server_core.specs.Handles.{outs_of_issue, outs_of_end};
 ghost use Rattle.server_core.specs.Hearing.{FrameEntry};
 ghost use Rattle.server_core.specs.History.{Opening};
+ghost use Rattle.cells.specs.ServerKind.{server_kind};
 ghost use Rattle.cells.specs.Failures.{Counts};
 ghost use Rattle.cells.specs.Moves.{StepEnds, TaskEnds};
 ghost use Rattle.cells.specs.ServerRules.{ask_of};
-ghost use Rattle.cells.specs.ServerStands.{failures_of, reply_and_frames, ways, Stands};
+ghost use Rattle.cells.specs.ServerStands.{failures_of, reply_and_frames, Stands};
 ghost use Rattle.cells.specs.ServerTasks.{came_by, loads_note};
 
 use super::task::ServerTask;
-use crate::answer::{Answer, Said};
+use crate::answer::{Answer, Reply};
 use disk_model::Notes;
 use engine::{Issue, Ticket};
 use fc_base::{Fault, JobNo, MAX_SERVERS, ServerNo};
@@ -27,7 +28,7 @@ pub(crate) fn step<N: Notes + Drop>(
     input: Input,
 ) -> Result<Outs, Fault>
     ensures ends { (o : Opening) (past : List FrameEntry) → Stands N.note o past power.old →
-        StepEnds (ways N.note o) past input power.new (reply_and_frames result) }
+        StepEnds (server_kind N.note o) past input power.new (reply_and_frames result) }
     ensures count { (o : Opening) (past : List FrameEntry) → Stands N.note o past power.old →
         Counts false (failures_of N.note power.old) (failures_of N.note power.new)
         (reply_and_frames result) }
@@ -39,7 +40,7 @@ pub(crate) fn step<N: Notes + Drop>(
 #[inline(always)]
 fn issue<N: Notes + Drop>(power: &mut Power<Server<N>, N>, job: JobNo) -> Result<Issue, Fault>
     ensures ends { (o : Opening) (past : List FrameEntry) → Stands N.note o past power.old →
-        StepEnds (ways N.note o) past (inputs.Issue job) power.new
+        StepEnds (server_kind N.note o) past (inputs.Issue job) power.new
         (reply_and_frames (outs_of_issue result)) }
     ensures count { (o : Opening) (past : List FrameEntry) → Stands N.note o past power.old →
         Counts false (failures_of N.note power.old) (failures_of N.note power.new)
@@ -56,7 +57,7 @@ fn end_write<N: Notes + Drop>(
     end: WriteEnd,
 ) -> Result<(), Fault>
     ensures ends { (o : Opening) (past : List FrameEntry) → Stands N.note o past power.old →
-        StepEnds (ways N.note o) past (inputs.WriteDone ticket end) power.new
+        StepEnds (server_kind N.note o) past (inputs.WriteDone ticket end) power.new
         (reply_and_frames (outs_of_end result)) }
     ensures count { (o : Opening) (past : List FrameEntry) → Stands N.note o past power.old →
         Counts false (failures_of N.note power.old) (failures_of N.note power.new)
@@ -72,11 +73,11 @@ pub(crate) fn perform<N: Notes + Drop>(
     alloc: Global,
     me: ServerNo,
     task: &ServerTask,
-) -> Result<Said, Fault>
+) -> Result<Reply, Fault>
     requires { me < MAX_SERVERS }
     ensures ends { (o : Opening) (past : List FrameEntry) → o.me ≡ me →
         Stands N.note o past power.old →
-        TaskEnds (ways N.note o) past (ask_of (came_by task.now)) power.new result }
+        TaskEnds (server_kind N.note o) past (ask_of (came_by task.now)) power.new result }
     ensures count { (o : Opening) (past : List FrameEntry) → o.me ≡ me →
         Stands N.note o past power.old →
         Counts (loads_note task.now) (failures_of N.note power.old)
@@ -86,16 +87,16 @@ pub(crate) fn perform<N: Notes + Drop>(
         ServerTask::Issue(job) => {
             let answer = Answer::Issued(issue(power, *job)?);
             let act = Act::None;
-            Ok(Said { answer, act })
+            Ok(Reply { answer, act })
         }
         ServerTask::WriteDone(ticket, end) => {
             end_write(power, *ticket, *end)?;
-            Ok(Said::plain())
+            Ok(Reply::plain())
         }
-        ServerTask::Cut => Said::of_power(power.cut()),
+        ServerTask::Cut => Reply::of_power(power.cut()),
         ServerTask::Restart => {
             one_note();
-            Said::of_power(power.restart(alloc, me))
+            Reply::of_power(power.restart(alloc, me))
         }
     }
 }

@@ -3,7 +3,7 @@
 ghost use Rattle.std.specs.Prelude.{◌≡◌, ◌<◌, ◌+◌, ◌^◌, Some};
 ghost use Rattle.cells.specs.Seated.{new_seat};
 
-use crate::answer::Said;
+use crate::answer::Reply;
 use fc_base::{Fault, MAX_SEATS, ServerNo};
 use std::marker::Model;
 
@@ -13,7 +13,7 @@ pub struct Seat {
     server: ServerNo,
     number: u32,
     applied: u64,
-    last: Option<Result<Said, Fault>>,
+    last: Option<Result<Reply, Fault>>,
 }
 
 /// By hand, so that the crates above need no proof of it.
@@ -82,7 +82,7 @@ impl Seat {
     }
 
     /// The answer of its last event; `None` before the first.
-    pub fn last(&self) -> Option<Result<Said, Fault>>
+    pub fn last(&self) -> Option<Result<Reply, Fault>>
         ensures { result ≡ self.now.last }
     {
         self.last
@@ -90,7 +90,7 @@ impl Seat {
 
     /// It has applied one event more, with this answer.
     #[inline(always)]
-    pub(crate) fn advance(&mut self, answer: &Result<Said, Fault>)
+    pub(crate) fn advance(&mut self, answer: &Result<Reply, Fault>)
         requires { self.old.applied + 1 < 2 ^ 64 }
         ensures { self.new
             ≡ record self.old { applied = self.old.applied + 1; last = Some answer.now } }

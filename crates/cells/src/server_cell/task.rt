@@ -3,7 +3,7 @@
 ghost use Rattle.std.specs.Prelude.{◌≡◌};
 ghost use Rattle.cells.specs.ServerTasks.{came_by};
 
-use crate::came::Came;
+use crate::input::NodeInput;
 use engine::Ticket;
 use fc_base::JobNo;
 use server_core::WriteEnd;
@@ -23,14 +23,14 @@ pub enum ServerTask {
 
 impl ServerTask {
     /// What comes to the server.
-    pub(crate) fn came(&self) -> Came
+    pub(crate) fn came(&self) -> NodeInput
         ensures { result ≡ came_by self.now }
     {
         match self {
-            ServerTask::Issue(job) => Came::Issue(*job),
-            ServerTask::WriteDone(ticket, end) => Came::WriteDone(*ticket, *end),
-            ServerTask::Cut => Came::Cut,
-            ServerTask::Restart => Came::Restart,
+            ServerTask::Issue(job) => NodeInput::Issue(*job),
+            ServerTask::WriteDone(ticket, end) => NodeInput::WriteDone(*ticket, *end),
+            ServerTask::Cut => NodeInput::Cut,
+            ServerTask::Restart => NodeInput::Restart,
         }
     }
 }

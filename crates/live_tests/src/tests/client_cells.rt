@@ -4,8 +4,8 @@ use disk_model::{FaultNotes, MemNotes};
 use fc_base::{Fault, RunNo};
 use messages::{Act, Text};
 use node_threads::{
-    Answer, CallerAnswer, Came, ClientCell, ClientCommand, ClientRequest, ClientTask, History, Hub,
-    Logged, Node,
+    Answer, CallerAnswer, ClientCell, ClientCommand, ClientRequest, ClientTask, History,
+    HistoryEntry, Hub, Node, NodeInput,
 };
 use std::alloc::{AllocGlobal, Global};
 use std::test::Fail;
@@ -224,7 +224,7 @@ fn begin(alloc: Global) -> Result<ClientRequest, Fault> {
 fn is_entered(step: Step, history: &History, entries: usize) -> bool {
     match (step, history.get(entries)) {
         (Step::Apply(task), Some(entry)) => {
-            history.len() == entries.saturating_add(1) && is_of(entry.as_logged(), task)
+            history.len() == entries.saturating_add(1) && is_of(entry.as_entry(), task)
         }
         (Step::Apply(_), None) => false,
         _ => true,
@@ -232,10 +232,10 @@ fn is_entered(step: Step, history: &History, entries: usize) -> bool {
 }
 
 /// The entry is of this task, which no seat asked and which sent nothing.
-fn is_of(entry: &Logged, task: ClientTask) -> bool {
+fn is_of(entry: &HistoryEntry, task: ClientTask) -> bool {
     let came = match task {
-        ClientTask::Cut => matches!(entry.came, Came::Cut),
-        ClientTask::Restart => matches!(entry.came, Came::Restart),
+        ClientTask::Cut => matches!(entry.came, NodeInput::Cut),
+        ClientTask::Restart => matches!(entry.came, NodeInput::Restart),
     };
     came && entry.by.is_none() && entry.sent.len() == 0
 }

@@ -186,7 +186,7 @@ fn turns(left: &FleetLeft) -> u64 {
     for server in &left.servers {
         let history = server.history();
         for at in 0..history.len() {
-            if history.at(at).as_logged().by.is_some() {
+            if history.at(at).as_entry().by.is_some() {
                 turns = turns.saturating_add(1);
             }
         }

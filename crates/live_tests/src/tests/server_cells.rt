@@ -3,7 +3,7 @@
 use disk_model::{FaultNotes, MemNotes, Notes};
 use engine::Issue;
 use fc_base::{Fault, JobNo, ServerNo};
-use node_threads::{Answer, CallerAnswer, History, Logged, Seat, ServerCell, ServerTask};
+use node_threads::{Answer, CallerAnswer, History, HistoryEntry, Seat, ServerCell, ServerTask};
 use std::alloc::Global;
 
 /// The number of a seat, what is asked from it, and its answer, or the number of its fault.
@@ -87,7 +87,7 @@ fn are_entered(history: &History, rows: &[Row]) -> bool {
             return false;
         };
         match history.get(at) {
-            Some(entry) if is_turn(entry.as_logged(), *seat, *number) => {}
+            Some(entry) if is_turn(entry.as_entry(), *seat, *number) => {}
             _ => return false,
         }
         *number = number.saturating_add(1);
@@ -96,7 +96,7 @@ fn are_entered(history: &History, rows: &[Row]) -> bool {
 }
 
 /// Whether an entry is this seat's turn of this number, which sent no frame.
-fn is_turn(entry: &Logged, seat: usize, number: u64) -> bool {
+fn is_turn(entry: &HistoryEntry, seat: usize, number: u64) -> bool {
     match entry.by {
         Some(turn) => {
             turn.seat as usize == seat && turn.number == number && entry.sent.len() == 0

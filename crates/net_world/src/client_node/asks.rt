@@ -11,14 +11,14 @@ ghost use Rattle.net_world.specs.ClientNodes.{Stands, Asks};
 
 use super::ClientNode;
 use crate::ask::Ask;
-use crate::asked::Asked;
+use crate::client_outs::ClientOuts;
 use crate::told::WorldAnswer;
 use client_core::Client;
 use disk_model::MemNotes;
 use fc_base::Fault;
 
 /// It is asked this, or a frame comes to it. `NodeOff`: it doesn't run. Any other fault is the client's own.
-pub(crate) fn ask(node: &mut ClientNode, ask: Ask<'_>) -> Result<Asked, Fault>
+pub(crate) fn ask(node: &mut ClientNode, ask: Ask<'_>) -> Result<ClientOuts, Fault>
     ensures { (o : Opening) (past : List FrameEntry) → Stands o past node.old →
         Asks o past (input_of ask.entry) node.new result }
 {
@@ -26,7 +26,7 @@ pub(crate) fn ask(node: &mut ClientNode, ask: Ask<'_>) -> Result<Asked, Fault>
 }
 
 /// A client that runs is asked this.
-fn ask_client(client: &mut Client<MemNotes>, ask: Ask<'_>) -> Result<Asked, Fault>
+fn ask_client(client: &mut Client<MemNotes>, ask: Ask<'_>) -> Result<ClientOuts, Fault>
     ensures { (o : Opening) (past : List FrameEntry) → is_up o past ≡ true →
         StandsFor note_of client.old o past →
         Asks o past (input_of ask.entry) (On client.new) result }
@@ -34,15 +34,15 @@ fn ask_client(client: &mut Client<MemNotes>, ask: Ask<'_>) -> Result<Asked, Faul
     match ask {
         Ask::Begin(text) => {
             let (run, frames) = client.begin(text)?;
-            Ok(Asked::of(WorldAnswer::Run(run), frames))
+            Ok(ClientOuts::of(WorldAnswer::Run(run), frames))
         }
         Ask::Verify(run, text) => {
             let (attempt, frames) = client.verify(run, text)?;
-            Ok(Asked::of(WorldAnswer::Attempt(attempt), frames))
+            Ok(ClientOuts::of(WorldAnswer::Attempt(attempt), frames))
         }
-        Ask::Trigger(run, act) => Ok(Asked::of(WorldAnswer::Plain, client.trigger(run, act)?)),
-        Ask::Stop(run) => Ok(Asked::of(WorldAnswer::Plain, client.stop(run)?)),
-        Ask::Tick => Ok(Asked::of(WorldAnswer::Plain, client.tick()?)),
-        Ask::Deliver(frame) => Ok(Asked::of(WorldAnswer::Plain, client.deliver(frame)?)),
+        Ask::Trigger(run, act) => Ok(ClientOuts::of(WorldAnswer::Plain, client.trigger(run, act)?)),
+        Ask::Stop(run) => Ok(ClientOuts::of(WorldAnswer::Plain, client.stop(run)?)),
+        Ask::Tick => Ok(ClientOuts::of(WorldAnswer::Plain, client.tick()?)),
+        Ask::Deliver(frame) => Ok(ClientOuts::of(WorldAnswer::Plain, client.deliver(frame)?)),
     }
 }

@@ -10,8 +10,8 @@ ghost use Rattle.net_world.specs.Stands.{StandsFor};
 
 use super::World;
 use crate::ask::Ask;
-use crate::asked::Asked;
 use crate::client_node;
+use crate::client_outs::ClientOuts;
 use crate::told::Told;
 use fc_base::Fault;
 use messages::Act;
@@ -30,13 +30,13 @@ impl World {
     }
 
     /// The frames that the client sends are added behind so many.
-    pub(super) fn send(&mut self, first: usize, asked: Asked) -> Told
+    pub(super) fn send(&mut self, first: usize, asked: ClientOuts) -> Told
         requires { self.old.sent.last ≡ [] }
         ensures told { result ≡ told_of first asked }
         ensures sent { sent_in self.new.sent ≡ sent_in self.old.sent ++ asked.frames }
         ensures rest { self.new ≡ record self.old { sent = self.new.sent } }
     {
-        let Asked { answer, frames } = asked;
+        let ClientOuts { answer, frames } = asked;
         let sent = frames.len() as u64;
         self.sent.add(frames);
         Told {

@@ -10,7 +10,7 @@ ghost use Rattle.net_world.specs.Happenings.{Deliver, Cut, Restart, CutIn};
 ghost use Rattle.net_world.specs.Stands.{StandsFor};
 
 use super::World;
-use crate::asked::Asked;
+use crate::client_outs::ClientOuts;
 use crate::mirror_node;
 use crate::told::{Told, WorldAnswer};
 use fc_base::Fault;
@@ -33,7 +33,7 @@ impl World {
         };
         let frames = mirror_node::deliver(node, frame)?;
         let answer = WorldAnswer::Plain;
-        Ok(self.send(first, Asked { answer, frames }))
+        Ok(self.send(first, ClientOuts { answer, frames }))
     }
 
     /// It loses its power.

@@ -3,7 +3,7 @@
 use super::site::Server;
 use engine::Ticket;
 use fc_base::Seq;
-use node_threads::{Came, Gate, History, Logged, OpenGate, Seat, ServerTask};
+use node_threads::{Gate, History, HistoryEntry, NodeInput, OpenGate, Seat, ServerTask};
 use server_core::WriteEnd;
 use std::sync::Mutex;
 use std::sync::atomic::{AtomicBool, Ordering};
@@ -113,16 +113,16 @@ fn tell_from(server: &mut Server, seat: &mut Option<Seat>, ticket: &Ticket) {
 /// Whether the history has the end of this write.
 fn has_end(history: &History, ticket: &Ticket) -> bool {
     for at in 0..history.len() {
-        if is_end(history.at(at).as_logged(), ticket) {
+        if is_end(history.at(at).as_entry(), ticket) {
             return true;
         }
     }
     false
 }
 
-fn is_end(entry: &Logged, ticket: &Ticket) -> bool {
+fn is_end(entry: &HistoryEntry, ticket: &Ticket) -> bool {
     match &entry.came {
-        Came::WriteDone(ended, _) => ended == ticket,
+        NodeInput::WriteDone(ended, _) => ended == ticket,
         _ => false,
     }
 }

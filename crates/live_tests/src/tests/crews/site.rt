@@ -9,8 +9,8 @@ use disk_model::{FaultDisk, MemDisk, MemNotes};
 use fc_base::{Fault, JobNo, MAX_TEXT, RunNo, ServerNo};
 use messages::{Act, Text};
 use node_threads::{
-    CallerAnswer, Came, ClientCell, ClientCommand, ClientRequest, History, Hub, Logged, Node, Seat,
-    ServerCell, ServerTask, assemble,
+    CallerAnswer, ClientCell, ClientCommand, ClientRequest, History, HistoryEntry, Hub, Node,
+    NodeInput, Seat, ServerCell, ServerTask, assemble,
 };
 use server_core::WriteEnd;
 use std::alloc::Global;
@@ -217,15 +217,15 @@ fn give_back(seats: &mut Vec<Seat>, seat: Option<Seat>) -> Result<(), Fault> {
 fn count_done(history: &History) -> usize {
     let mut count: usize = 0;
     for at in 0..history.len() {
-        if is_done(history.at(at).as_logged()) {
+        if is_done(history.at(at).as_entry()) {
             count = count.saturating_add(1);
         }
     }
     count
 }
 
-fn is_done(entry: &Logged) -> bool {
-    matches!(entry.came, Came::WriteDone(_, WriteEnd::Done)) && entry.answer.is_ok()
+fn is_done(entry: &HistoryEntry) -> bool {
+    matches!(entry.came, NodeInput::WriteDone(_, WriteEnd::Done)) && entry.answer.is_ok()
 }
 
 /// A client of one server, over a blank note.

@@ -3,7 +3,7 @@
 use fc_base::{Fault, ServerNo};
 use messages::{Node, Text};
 use net_world::{Config, PlainEvent, World, WorldEvent};
-use node_threads::{Came, FleetLeft, Hub, Lent, Place};
+use node_threads::{FleetLeft, Hub, LentEntry, NodeInput, Place};
 use server_core::WriteEnd;
 use std::alloc::Global;
 
@@ -44,12 +44,12 @@ fn happen_at(
         return Err(Fault::NoFrame);
     };
     let server = server_of(place.node);
-    let came = &entry.as_logged().came;
+    let came = &entry.as_entry().came;
     if let Some(landing) = landing(server, came) {
         happen(world, landing)?;
     }
     let event = match came {
-        Came::Frame(_) => PlainEvent::Deliver {
+        NodeInput::Frame(_) => PlainEvent::Deliver {
             frame: taken_at(&left.hub, place)?,
         },
         came => event_of(alloc, place.node, server, came)?,
@@ -65,7 +65,7 @@ fn happen(world: &mut World, event: PlainEvent) -> Result<(), Fault> {
 }
 
 /// The entry of the node's history at its place.
-fn entry<'a>(left: &'a FleetLeft, place: &Place) -> Option<Lent<'a>> {
+fn entry<'a>(left: &'a FleetLeft, place: &Place) -> Option<LentEntry<'a>> {
     let history = if place.node == Node::Client {
         left.client.history()
     } else {
@@ -77,9 +77,9 @@ fn entry<'a>(left: &'a FleetLeft, place: &Place) -> Option<Lent<'a>> {
 }
 
 /// What lands before a write is done: the one sector of its block.
-fn landing(server: ServerNo, came: &Came) -> Option<PlainEvent> {
+fn landing(server: ServerNo, came: &NodeInput) -> Option<PlainEvent> {
     match came {
-        Came::WriteDone(ticket, WriteEnd::Done) => Some(PlainEvent::Land {
+        NodeInput::WriteDone(ticket, WriteEnd::Done) => Some(PlainEvent::Land {
             server,
             job: ticket.key.job,
             write: ticket.seq,
@@ -90,33 +90,38 @@ fn landing(server: ServerNo, came: &Came) -> Option<PlainEvent> {
 }
 
 /// What happens in a world where this comes to a node, which is no frame.
-fn event_of(alloc: Global, node: Node, server: ServerNo, came: &Came) -> Result<PlainEvent, Fault> {
+fn event_of(
+    alloc: Global,
+    node: Node,
+    server: ServerNo,
+    came: &NodeInput,
+) -> Result<PlainEvent, Fault> {
     Ok(match came {
-        Came::Frame(_) => return Err(Fault::NoFrame),
-        Came::Issue(job) => PlainEvent::Issue { server, job: *job },
-        Came::WriteDone(ticket, end) => {
+        NodeInput::Frame(_) => return Err(Fault::NoFrame),
+        NodeInput::Issue(job) => PlainEvent::Issue { server, job: *job },
+        NodeInput::WriteDone(ticket, end) => {
             let (job, write) = (ticket.key.job, ticket.seq);
             match end {
                 WriteEnd::Done => PlainEvent::Done { server, job, write },
                 WriteEnd::Failed => PlainEvent::Fail { server, job, write },
             }
         }
-        Came::CheckDone { job, .. } => PlainEvent::Check { server, job: *job },
-        Came::Begin(text) => PlainEvent::Begin {
+        NodeInput::CheckDone { job, .. } => PlainEvent::Check { server, job: *job },
+        NodeInput::Begin(text) => PlainEvent::Begin {
             text: bytes_of(alloc, text)?,
         },
-        Came::Trigger(run, act) => PlainEvent::Trigger {
+        NodeInput::Trigger(run, act) => PlainEvent::Trigger {
             run: *run,
             act: *act,
         },
-        Came::Stop(run) => PlainEvent::StopRun { run: *run },
-        Came::Verify(run, text) => PlainEvent::Verify {
+        NodeInput::Stop(run) => PlainEvent::StopRun { run: *run },
+        NodeInput::Verify(run, text) => PlainEvent::Verify {
             run: *run,
             text: bytes_of(alloc, text)?,
         },
-        Came::Tick => PlainEvent::Tick,
-        Came::Cut => PlainEvent::Cut { node },
-        Came::Restart => PlainEvent::Restart { node },
+        NodeInput::Tick => PlainEvent::Tick,
+        NodeInput::Cut => PlainEvent::Cut { node },
+        NodeInput::Restart => PlainEvent::Restart { node },
     })
 }
 

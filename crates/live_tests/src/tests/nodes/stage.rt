@@ -205,7 +205,7 @@ fn turns_of<C: Node>(node: &C, seat: u32) -> u64 {
     let mut turns: u64 = 0;
     let history = node.history();
     for at in 0..history.len() {
-        if history.at(at).as_logged().by
+        if history.at(at).as_entry().by
             == Some(Turn {
                 seat,
                 number: turns,

@@ -8,8 +8,8 @@ pub returns-in-Some : goal.returns-in-Some
 returns-in-Some c o past s =
     let h = c.in-Some.ensures o past s in
     let list = packets_heard o past in
-    c.is_blank.ensures o past h.0 ∙ ap (λ l. is_blank (words_noted o l)) (c.looks_at_all.ensures list h.1)
-    ∙ sym (ap (λ up. up && is_blank (words_noted o list)) h.1)
+    c.is_blank.ensures o past h.1 ∙ ap (λ l. is_blank (words_noted o l)) (c.looks_at_all.ensures list h.2)
+    ∙ sym (ap (λ up. up && is_blank (words_noted o list)) h.2)
 
 pub returns-in-None : goal.returns-in-None
 returns-in-None c o past s =

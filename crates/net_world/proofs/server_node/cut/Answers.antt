@@ -1,6 +1,10 @@
-use Rattle.net_world.proofs.ServerNodeLemmas.{weak, cut_stands}
+use Rattle.server_core.specs.Hearing.{Cut}
+use Rattle.net_world.specs.ServerNodes.{server_nodes}
+use Rattle.net_world.proofs.NodeLemmas.{weak, cut_stands}
+use Rattle.net_world.proofs.ServerNodeLemmas.{laws}
 use Rattle.net_world.proofs.server_node.cut.Goals as goal
 
 pub returns : goal.returns
 returns c o past s =
-    cut_stands o past c.args.node.now c.cut-was_on.new.self c.cut-was_on.result s (c.cut-was_on.ensures o past (weak o past c.args.node.now s))
+    let k = server_nodes o in
+    cut_stands k Cut (laws o) past c.args.node.now c.cut-was_on.new.self c.cut-was_on.result s (c.cut-was_on.ensures o past (weak k past c.args.node.now s))

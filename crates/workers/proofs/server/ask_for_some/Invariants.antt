@@ -1,5 +1,5 @@
 use Rattle.std.specs.Prelude.{◌≡◌, ◌+◌, nat_lt, true, Ok, length}
-use Rattle.workers.specs.declared.server.Asked.TheVariants.{Later}
+use Rattle.workers.specs.declared.server.NextWrite.TheVariants.{Later}
 use Rattle.workers.specs.declared.server.TheConstants.{HAND}
 use Rattle.workers.specs.Counts.{is_write}
 use Rattle.workers.specs.Turns.{HasAsked}

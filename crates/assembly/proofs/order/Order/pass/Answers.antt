@@ -26,22 +26,22 @@ loop-at-preserved-then-is_quiet c = (
 pub returns-then-is_marked-clause-stopped : goal.returns-then-is_marked-clause-stopped
 returns-then-is_marked-clause-stopped c = λ h e. (
   refl,
-  stopped_at c.histories_rise.ensures c.args.node.now h (next_of c.args.self.now.next c.args.node.now) c.args.to c.loop-at.at c.as_logged.result.now
+  stopped_at c.histories_rise.ensures c.args.node.now h (next_of c.args.self.now.next c.args.node.now) c.args.to c.loop-at.at c.as_entry.result.now
       c.args.self.now.places c.loop-at.self.places
       c.loop-at-test.true (omega (arith, c.loop-at-test.true, c.requires.within, long_as c.args.history.now.items h e))
-      (read_there c.args.history.now.items h c.loop-at.at c.as_logged.result.now e (c.at-lent.ensures ∙ ap Some (sym c.as_logged.ensures)))
-      (marked_so c.as_logged.result.now c.is_marked.result c.is_marked.ensures c.if-is_marked.true c.loop-at.at)
+      (read_there c.args.history.now.items h c.loop-at.at c.as_entry.result.now e (c.at-lent.ensures ∙ ap Some (sym c.as_entry.ensures)))
+      (marked_so c.as_entry.result.now c.is_marked.result c.is_marked.ensures c.if-is_marked.true c.loop-at.at)
       (c.loop-at.invariant.0 h e),
 )
 
 pub loop-at-preserved : goal.loop-at-preserved
 loop-at-preserved c = (
   λ h e. passed_by c.histories_rise.ensures c.args.node.now c.args.history.now.items h
-      (next_of c.args.self.now.next c.args.node.now) c.loop-at.at c.as_logged.result.now c.is_quiet.result
+      (next_of c.args.self.now.next c.args.node.now) c.loop-at.at c.as_entry.result.now c.is_quiet.result
       c.args.self.now.places c.loop-at.self.places e c.loop-at.invariant.2
-      (c.at-lent.ensures ∙ ap Some (sym c.as_logged.ensures))
+      (c.at-lent.ensures ∙ ap Some (sym c.as_entry.ensures))
       c.is_quiet.ensures c.if-is_quiet.false
-      (unmarked_so c.as_logged.result.now c.is_marked.result c.is_marked.ensures c.if-is_marked.false c.loop-at.at)
+      (unmarked_so c.as_entry.result.now c.is_marked.result c.is_marked.ensures c.if-is_marked.false c.loop-at.at)
       (c.loop-at.invariant.0 h e),
   c.loop-at.invariant.1,
   omega (arith, c.loop-at.invariant.2),

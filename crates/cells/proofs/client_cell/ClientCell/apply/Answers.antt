@@ -1,9 +1,10 @@
 use Rattle.std.proofs.Common.{refl, sym, ◌∙◌, ap, subst, ◌∷◌}
+use Rattle.cells.specs.ClientKind.{client_kind}
 use Rattle.cells.specs.ClientTasks.{came_by, loads_note}
 use Rattle.cells.specs.ClientRules.{ask_of}
 use Rattle.cells.proofs.HubLemmas.{pushed}
 use Rattle.cells.proofs.MoveLemmas.{is_lack, lack_counts, stays, done}
-use Rattle.cells.specs.ClientStands.{failures_of, ways}
+use Rattle.cells.specs.ClientStands.{failures_of}
 use Rattle.cells.specs.ClientCells.{ClientLog, opening_of}
 use Rattle.cells.specs.ClientCalls.{logged_by}
 use Rattle.cells.specs.Failures.{Counts}
@@ -20,7 +21,7 @@ invariant_of-self-then-lacks_memory g c =
     let o = opening_of c.self.inside.servers c.self.inside.opened.value in (
       rw c.reserve.ensures.same
           (same_cell note _ c.self.inside.power c.perform-answer.new.power (failures_of note c.perform-answer.new.power) cell
-          (stays (ways note o) cell.kept.past (ask_of (came_by c.args.task)) c.perform-answer.new.power c.perform-answer.result
+          (stays (client_kind note o) cell.kept.past (ask_of (came_by c.args.task)) c.perform-answer.new.power c.perform-answer.result
           (sym c.lacks_memory.ensures ∙ c.if-lacks_memory.true) (c.perform-answer.ensures.ends o cell.kept.past refl cell.kept.stands))),
       c.self.invariant.1,
     )
@@ -31,7 +32,7 @@ returns-then-lacks_memory-clause-ends g c =
     let cell = c.self.invariant.0 in
     let o = opening_of c.self.inside.servers c.self.inside.opened.value in
     let ends = c.perform-answer.ensures.ends o cell.kept.past refl cell.kept.stands in
-    let lack = is_lack (ways note o) cell.kept.past (ask_of (came_by c.args.task)) c.perform-answer.new.power c.perform-answer.result
+    let lack = is_lack (client_kind note o) cell.kept.past (ask_of (came_by c.args.task)) c.perform-answer.new.power c.perform-answer.result
     (sym c.lacks_memory.ensures ∙ c.if-lacks_memory.true) ends in
     let same = lack_counts (loads_note c.args.task) (failures_of note c.self.inside.power)
     (failures_of note c.perform-answer.new.power) c.perform-answer.result lack (c.perform-answer.ensures.count o cell.kept.past refl cell.kept.stands) in
@@ -42,7 +43,7 @@ invariant_of-self-2 g c =
     let note = g.N.Notes.note in
     let cell = c.self.invariant.0 in
     let o = opening_of c.self.inside.servers c.self.inside.opened.value in
-    let m = done (ways note o) cell.kept.past (ask_of (came_by c.args.task)) c.perform-answer.new.power c.perform-answer.result
+    let m = done (client_kind note o) cell.kept.past (ask_of (came_by c.args.task)) c.perform-answer.new.power c.perform-answer.result
     (sym c.lacks_memory.ensures ∙ c.if-lacks_memory.false) (c.perform-answer.ensures.ends o cell.kept.past refl cell.kept.stands) in (
       rw (c.push.ensures.items, c.reserve.ensures.same, pushed c.self.inside.history.items c.entry.result, c.entry.ensures, c.came-came.ensures)
           (entered note _ c.self.inside.power c.perform-answer.new.power (failures_of note c.perform-answer.new.power)
@@ -55,7 +56,7 @@ returns-clause-replay g c =
     let note = g.N.Notes.note in
     let cell = c.self.invariant.0 in
     let o = opening_of c.self.inside.servers c.self.inside.opened.value in
-    let m = done (ways note o) cell.kept.past (ask_of (came_by c.args.task)) c.perform-answer.new.power c.perform-answer.result
+    let m = done (client_kind note o) cell.kept.past (ask_of (came_by c.args.task)) c.perform-answer.new.power c.perform-answer.result
     (sym c.lacks_memory.ensures ∙ c.if-lacks_memory.false) (c.perform-answer.ensures.ends o cell.kept.past refl cell.kept.stands) in
     rw (c.push.ensures.items, c.reserve.ensures.same, pushed c.self.inside.history.items c.entry.result, c.entry.ensures, c.came-came.ensures)
     (replayed note _ c.self.inside.power c.perform-answer.new.power (failures_of note c.perform-answer.new.power)

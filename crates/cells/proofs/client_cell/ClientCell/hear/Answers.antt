@@ -4,7 +4,7 @@ use Rattle.std.specs.Prelude.{All, Result}
 use Rattle.fc_base.specs.declared.fault.Fault.{Fault}
 use Rattle.hub.specs.Network.{IsSpelled}
 use Rattle.cells.specs.ClientTasks.{came_in, input_in}
-use Rattle.cells.specs.declared.answer.Said.{Said}
+use Rattle.cells.specs.declared.answer.Reply.{Reply}
 use Rattle.messages.specs.declared.node.Node.TheVariants.{Client}
 use Rattle.cells.proofs.HubLemmas.{unready, unready_counts, hear_counts}
 use Rattle.cells.specs.ClientCells.{ClientLog, opening_of}
@@ -53,7 +53,7 @@ enter-requires-clause-spelled g c =
     let cell = c.self.invariant.0 in
     let o = opening_of c.self.inside.servers c.self.inside.opened.value in
     let ends = c.hear-step.ensures.ends o cell.kept.past cell.kept.stands in
-    subst (λ (r : Result Said Fault × List (List ℕ)). All IsSpelled r.1) (sym c.outcome-done.ensures)
+    subst (λ (r : Result Reply Fault × List (List ℕ)). All IsSpelled r.1) (sym c.outcome-done.ensures)
     (sent_spelled g.N.Notes.note _ c.self.inside.power cell
     (input_in c.args.incoming) c.hear-step.new.power c.hear-step.result.0 c.frames_are_spelled.ensures c.packets_are_in_range.ensures ends)
 

@@ -4,8 +4,8 @@ use Rattle.std.specs.Prelude.{All, Result}
 use Rattle.fc_base.specs.declared.fault.Fault.{Fault}
 use Rattle.hub.specs.Network.{IsSpelled}
 use Rattle.client_core.specs.declared.input.Input.TheVariants as inputs
-use Rattle.cells.specs.declared.came.Came.TheVariants as came
-use Rattle.cells.specs.declared.answer.Said.{Said}
+use Rattle.cells.specs.declared.input.NodeInput.TheVariants as came
+use Rattle.cells.specs.declared.answer.Reply.{Reply}
 use Rattle.fc_base.specs.declared.fault.Fault.TheVariants.{NoMemory, NodeOff}
 use Rattle.messages.specs.declared.node.Node.TheVariants.{Client}
 use Rattle.cells.proofs.CallLemmas.{left_out_posts}
@@ -53,7 +53,7 @@ enter-requires-clause-spelled g c =
     let cell = c.self.invariant.0 in
     let o = opening_of c.self.inside.servers c.self.inside.opened.value in
     let ends = c.tick.ensures.ends o cell.kept.past cell.kept.stands in
-    subst (λ (r : Result Said Fault × List (List ℕ)). All IsSpelled r.1) (sym c.outcome-done.ensures)
+    subst (λ (r : Result Reply Fault × List (List ℕ)). All IsSpelled r.1) (sym c.outcome-done.ensures)
     (sent_spelled g.N.Notes.note _ c.self.inside.power cell inputs.Tick c.self.inside.power c.tick.result c.frames_are_spelled.ensures
     c.packets_are_in_range.ensures ends)
 

@@ -1,5 +1,6 @@
 use Rattle.std.proofs.Common.{refl, sym, ◌∙◌, ap, subst, arith, ◌<◌, [], ◌∷◌, ◌++◌}
 use Rattle.std.specs.Prelude.{reverse}
+use Rattle.cells.specs.ServerKind.{server_kind}
 use Rattle.cells.specs.ServerCells.{ServerLog}
 use Rattle.cells.specs.Failures.{Counts}
 use Rattle.cells.specs.ServerCalls.{is_right, entry_of}
@@ -7,7 +8,7 @@ use Rattle.cells.specs.ServerRules.{ask_of}
 use Rattle.cells.proofs.HubLemmas.{pushed}
 use Rattle.cells.proofs.MoveLemmas.{is_lack, lack_counts, stays, done}
 use Rattle.cells.specs.ServerTasks.{came_by, loads_note}
-use Rattle.cells.specs.ServerStands.{failures_of, ways}
+use Rattle.cells.specs.ServerStands.{failures_of}
 use Rattle.cells.proofs.ServerCellLemmas.{opening_with, count_fits, few_before, seat_fits, lacks, applied, same_cell, entered, replayed}
 use Rattle.cells.proofs.server_cell.ServerCell.apply.Goals as goal
 
@@ -22,7 +23,7 @@ invariant_of-self-then-lacks_memory g c =
     let o = opening_with c.self.inside.me c.self.inside.boot c.self.inside.last_run in
     rw c.reserve.ensures.same
     (same_cell note o c.self.inside.power c.perform-answer.new.power (reverse c.self.inside.history.items) c.self.inside.applied cell
-    (stays (ways note o) cell.kept.past (ask_of (came_by c.args.task)) c.perform-answer.new.power c.perform-answer.result
+    (stays (server_kind note o) cell.kept.past (ask_of (came_by c.args.task)) c.perform-answer.new.power c.perform-answer.result
     (sym c.lacks_memory.ensures ∙ c.if-lacks_memory.true) (c.perform-answer.ensures.ends o cell.kept.past refl cell.kept.stands)))
 
 pub returns-then-lacks_memory-clause-ends : goal.returns-then-lacks_memory-clause-ends
@@ -31,7 +32,7 @@ returns-then-lacks_memory-clause-ends g c =
     let cell = c.self.invariant in
     let o = opening_with c.self.inside.me c.self.inside.boot c.self.inside.last_run in
     let ends = c.perform-answer.ensures.ends o cell.kept.past refl cell.kept.stands in
-    let lack = is_lack (ways note o) cell.kept.past (ask_of (came_by c.args.task)) c.perform-answer.new.power c.perform-answer.result
+    let lack = is_lack (server_kind note o) cell.kept.past (ask_of (came_by c.args.task)) c.perform-answer.new.power c.perform-answer.result
     (sym c.lacks_memory.ensures ∙ c.if-lacks_memory.true) ends in
     let same = lack_counts (loads_note c.args.task) (failures_of note c.self.inside.power)
     (failures_of note c.perform-answer.new.power) c.perform-answer.result lack (c.perform-answer.ensures.count o cell.kept.past refl cell.kept.stands) in
@@ -60,7 +61,7 @@ invariant_of-self-2 g c =
     let note = g.N.Notes.note in
     let cell = c.self.invariant in
     let o = opening_with c.self.inside.me c.self.inside.boot c.self.inside.last_run in
-    let m = done (ways note o) cell.kept.past (ask_of (came_by c.args.task)) c.perform-answer.new.power c.perform-answer.result
+    let m = done (server_kind note o) cell.kept.past (ask_of (came_by c.args.task)) c.perform-answer.new.power c.perform-answer.result
     (sym c.lacks_memory.ensures ∙ c.if-lacks_memory.false) (c.perform-answer.ensures.ends o cell.kept.past refl cell.kept.stands) in
     let right = ap (λ (log : ServerLog). is_right log c.args.seat.now) c.self.view_is ∙ sym c.is_right.ensures ∙ c.if-not-is_right.false in
     rw (
@@ -78,7 +79,7 @@ returns-clause-replay g c =
     let note = g.N.Notes.note in
     let cell = c.self.invariant in
     let o = opening_with c.self.inside.me c.self.inside.boot c.self.inside.last_run in
-    let m = done (ways note o) cell.kept.past (ask_of (came_by c.args.task)) c.perform-answer.new.power c.perform-answer.result
+    let m = done (server_kind note o) cell.kept.past (ask_of (came_by c.args.task)) c.perform-answer.new.power c.perform-answer.result
     (sym c.lacks_memory.ensures ∙ c.if-lacks_memory.false) (c.perform-answer.ensures.ends o cell.kept.past refl cell.kept.stands) in
     let right = ap (λ (log : ServerLog). is_right log c.args.seat.now) c.self.view_is ∙ sym c.is_right.ensures ∙ c.if-not-is_right.false in
     rw (c.enter.ensures.items, c.reserve.ensures.same, pushed c.self.inside.history.items (entry_of c.args.seat.now c.args.task c.perform-answer.result))

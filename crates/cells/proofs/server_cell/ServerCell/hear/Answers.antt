@@ -4,7 +4,7 @@ use Rattle.std.proofs.lemmas.Result.{err_from_is_err_and}
 use Rattle.fc_base.specs.declared.fault.Fault.{Fault}
 use Rattle.hub.specs.Network.{IsSpelled}
 use Rattle.messages.specs.declared.node.Node.TheVariants.{Server as ServerNode}
-use Rattle.cells.specs.declared.answer.Said.{Said}
+use Rattle.cells.specs.declared.answer.Reply.{Reply}
 use Rattle.cells.specs.Calls.{HasWhy}
 use Rattle.cells.specs.Rules.{Meets}
 use Rattle.cells.specs.ServerKind.{server_kind}
@@ -62,7 +62,7 @@ enter-requires-clause-spelled g c =
     let cell = c.self.invariant in
     let o = opening_with c.self.inside.me c.self.inside.boot c.self.inside.last_run in
     let ends = c.step.ensures.ends o cell.kept.past cell.kept.stands in
-    subst (λ (r : Result Said Fault × List (List ℕ)). All IsSpelled r.1) (sym c.outcome-done.ensures)
+    subst (λ (r : Result Reply Fault × List (List ℕ)). All IsSpelled r.1) (sym c.outcome-done.ensures)
     (sent_spelled note o cell.kept.past c.args.input c.step.new.power c.step.result c.frames_are_spelled.ensures c.packets_are_in_range.ensures cell.opens
     cell.kept.ranges ends)
 

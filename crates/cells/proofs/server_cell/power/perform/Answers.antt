@@ -2,7 +2,6 @@ use Rattle.std.proofs.lemmas.Result.{err_from_is_err_and}
 use Rattle.server_core.specs.declared.input.Input.TheVariants as inputs
 use Rattle.cells.proofs.MoveLemmas.{unanswered}
 use Rattle.cells.specs.ServerKind.{server_kind, server_is_cut}
-use Rattle.cells.specs.ServerStands.{ways}
 use Rattle.cells.proofs.PowerLemmas.{cut_ends, cut_counts}
 use Rattle.cells.proofs.ServerStarts.{restart_ends, restart_counts}
 use Rattle.cells.proofs.server_cell.power.perform.Goals as goal
@@ -10,7 +9,7 @@ use Rattle.cells.proofs.server_cell.power.perform.Goals as goal
 pub returns-in_err-issue-in-Issue-clause-ends : goal.returns-in_err-issue-in-Issue-clause-ends
 returns-in_err-issue-in-Issue-clause-ends g c o past me s =
     let p = err_from_is_err_and c.from_residual.result c.from_residual.ensures.1 in
-    rw (c.in-Issue.is, p.1, p.2) (unanswered (ways g.N.Notes.note o) past (inputs.Issue c.in-Issue.job) c.in_err-issue-in-Issue.field-0.0 c.issue.new.power
+    rw (c.in-Issue.is, p.1, p.2) (unanswered (server_kind g.N.Notes.note o) past (inputs.Issue c.in-Issue.job) c.in_err-issue-in-Issue.field-0.0 c.issue.new.power
     (c.in_err-issue-in-Issue.ensures.ends o past s))
 
 pub returns-in_err-end_write-in-WriteDone-clause-ends : goal.returns-in_err-end_write-in-WriteDone-clause-ends
@@ -18,7 +17,7 @@ returns-in_err-end_write-in-WriteDone-clause-ends g c o past me s =
     let failed = c.in_err-end_write-in-WriteDone in
     let gone = c.from_residual-in_err-end_write-in-WriteDone in
     let p = err_from_is_err_and gone.result gone.ensures.1 in
-    rw (c.in-WriteDone.is, p.1, p.2) (unanswered (ways g.N.Notes.note o) past
+    rw (c.in-WriteDone.is, p.1, p.2) (unanswered (server_kind g.N.Notes.note o) past
     (inputs.WriteDone c.in-WriteDone.ticket c.in-WriteDone.end) failed.field-0.0 c.end_write.new.power (failed.ensures.ends o past s))
 
 pub returns-in-Cut-clause-ends : goal.returns-in-Cut-clause-ends

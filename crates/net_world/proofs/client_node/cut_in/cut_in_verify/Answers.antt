@@ -10,14 +10,14 @@ use Rattle.net_world.proofs.client_node.cut_in.cut_in_verify.Goals as goal
 pub returns-then-landed : goal.returns-then-landed
 returns-then-landed c o past s =
     let shown = c.in-Some.ensures o past s in
-    let due = sym (c.verify_would_save.ensures o past shown.0) ∙ c.if-not-verify_would_save.false in
+    let due = sym (c.verify_would_save.ensures o past shown.1) ∙ c.if-not-verify_would_save.false in
     subst (λ landed. CutsIn (client_nodes o) past landed (inputs.Verify c.args.run c.args.text.now) c.cut_behind_verify.new.node c.cut_behind_verify.result)
     (sym c.if-landed.true) (c.cut_behind_verify.ensures o past s due)
 
 pub returns : goal.returns
 returns c o past s =
     let shown = c.in-Some.ensures o past s in
-    let due = sym (c.verify_would_save.ensures o past shown.0) ∙ c.if-not-verify_would_save.false in
+    let due = sym (c.verify_would_save.ensures o past shown.1) ∙ c.if-not-verify_would_save.false in
     subst (λ landed. CutsIn (client_nodes o) past landed (inputs.Verify c.args.run c.args.text.now) c.cut.new.node (Ok tt)) (sym c.if-landed.false)
     (cut_old (client_nodes o) Cut past (inputs.Verify c.args.run c.args.text.now) c.cut.new.node
     (saves o past (inputs.Verify c.args.run c.args.text.now) due) (c.cut.ensures o past s))

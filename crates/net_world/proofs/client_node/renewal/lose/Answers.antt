@@ -7,4 +7,4 @@ pub returns-in-Off : goal.returns-in-Off
 returns-in-Off c o past stands =
     let h = subst (Stands o past) c.in-Off.is stands in
     let none = ap (λ m. m.bytes) c.new-in-Off.ensures ∙ c.new.ensures.items in
-    (h.1, (says_blank _ none, refl, inl none))
+    (h.1, ((says_blank _ none, inl none), refl))

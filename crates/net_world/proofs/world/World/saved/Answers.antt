@@ -12,8 +12,8 @@ returns-in-Some c w past stands =
     let o = client_opening w in
     let es = entries w past in
     let h = c.in-Some.ensures o es stands.client_is in
-    c.saved.ensures o es h.0 ∙ ap (λ list. kept_state o list c.args.key) (c.looks_at_all.ensures (packets_heard o es) h.1 ∙ heard_is w past)
-    ∙ sym (on_saved w past c.args.key h.1)
+    c.saved.ensures o es h.1 ∙ ap (λ list. kept_state o list c.args.key) (c.looks_at_all.ensures (packets_heard o es) h.2 ∙ heard_is w past)
+    ∙ sym (on_saved w past c.args.key h.2)
 
 pub returns-in-None : goal.returns-in-None
 returns-in-None c w past stands = sym (off_saved w past c.args.key (c.in-None.ensures (client_opening w) (entries w past) stands.client_is))

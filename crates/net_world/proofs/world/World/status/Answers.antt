@@ -19,9 +19,9 @@ returns-in-Some c w past stands =
     let l = ltb-true s (length c.args.self.now.servers.items) (sym c.has_server.ensures ∙ c.if-not-has_server.false) in
     let at = node_at c.args.self.now.servers.items s c.server.inside.0 c.index.result.now c.server.view_is l c.index.ensures in
     let h = c.in-Some.ensures (opening_of s) (entries past s) (stands.servers_are s c.index.result.now at) in
-    let all = shown c.looks_at_all.ensures w past s h.1 in
-    ap (λ x. Some x) (c.status.ensures (opening_of s) (entries past s) h.0 ∙ ap (status (opening_of s)) all)
-    ∙ sym (on_status w past s (omega (arith, stands.number, l)) h.1)
+    let all = shown c.looks_at_all.ensures w past s h.2 in
+    ap (λ x. Some x) (c.status.ensures (opening_of s) (entries past s) h.1 ∙ ap (status (opening_of s)) all)
+    ∙ sym (on_status w past s (omega (arith, stands.number, l)) h.2)
 
 pub returns-in-None : goal.returns-in-None
 returns-in-None c w past stands =

@@ -1,7 +1,7 @@
 //! What a node's history is made of.
 
-use crate::answer::Said;
-use crate::came::Came;
+use crate::answer::Reply;
+use crate::input::NodeInput;
 use fc_base::Fault;
 use messages::Frames;
 
@@ -14,17 +14,17 @@ pub struct Turn {
 
 /// An entry of a node's history: whose turn it was, where it came from a seat; what came; what was
 /// answered; and the frames that were sent.
-pub struct Logged {
+pub struct HistoryEntry {
     pub by: Option<Turn>,
-    pub came: Came,
-    pub answer: Result<Said, Fault>,
+    pub came: NodeInput,
+    pub answer: Result<Reply, Fault>,
     pub sent: Frames,
 }
 
 /// By hand, so that the crates above need no proof of it.
-impl Drop for Logged {
+impl Drop for HistoryEntry {
     fn drop(self) {
-        let Logged {
+        let HistoryEntry {
             by: _,
             came: _,
             answer: _,

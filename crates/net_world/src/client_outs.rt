@@ -7,16 +7,16 @@ use messages::Frames;
 
 /// What is answered, and the frames that are sent.
 #[derive(Drop)]
-pub struct Asked {
+pub struct ClientOuts {
     pub answer: WorldAnswer,
     pub frames: Frames,
 }
 
-impl Asked {
+impl ClientOuts {
     /// This answer, and these frames.
-    pub(crate) fn of(answer: WorldAnswer, frames: Frames) -> Asked
+    pub(crate) fn of(answer: WorldAnswer, frames: Frames) -> ClientOuts
         ensures { result ≡ record { answer = answer; frames = frames } }
     {
-        Asked { answer, frames }
+        ClientOuts { answer, frames }
     }
 }

@@ -41,7 +41,7 @@ impl FrameBytes {
 /// What comes to a node: to a server what its workers ask and tell, to the client what its caller asks,
 /// and to both frames, cuts and restarts.
 #[derive(Drop)]
-pub enum Came {
+pub enum NodeInput {
     /// A frame is delivered.
     Frame(FrameBytes),
     /// A worker asks for the next write of a job.
