@@ -23,24 +23,37 @@ class Progress:
     def total_done(self):
         return sum(self.done)
 
-    def step(self):
-        """Asks, and says, what is due by now."""
-        now = time.monotonic()
+    def ask(self):
+        self.asked = time.monotonic()
+        for it in self.fleet.servers:
+            it.ask_ends()
+
+    def ends(self):
+        """How many writes of each server are done, and have failed, by what came last."""
         ends = [it.ends_of(self.run) for it in self.fleet.servers]
         self.done = [max(had, it[0]) if it else had for had, it in zip(self.done, ends)]
+        return ends
+
+    def step(self):
+        """Asks, and says, what is due by now."""
+        now, ends = time.monotonic(), self.ends()
         if now - self.asked >= self.every:
-            self.asked = now
-            for it in self.fleet.servers:
-                it.ask_ends()
+            self.ask()
         if now - self.said >= LINES:
             say(f"{self.seconds():.0f} s: " + "; ".join(self.words(at, it, now - self.said) for at, it in enumerate(ends)))
             self.said, self.before = now, list(self.done)
 
-    def words(self, server, ends, seconds):
-        """How far a server is."""
+    def tell_last(self):
+        """Says how far each server came, by what was asked at the trigger: a link keeps its order, so
+        that the answer stands before the server's state."""
+        say(f"the writes of run {self.run}: " + "; ".join(self.words(at, it) for at, it in enumerate(self.ends())))
+
+    def words(self, server, ends, seconds=None):
+        """How far a server is, and how fast in the last of these seconds."""
         if ends is None:
             return f"server {server} doesn't say"
         total = self.totals()
         far = f" of {total}" if total else ""
         failed = f", {ends[1]} failed" if ends[1] else ""
-        return f"server {server} {(self.done[server] - self.before[server]) / seconds:.0f} writes a second, {self.done[server]}{far} done{failed}"
+        speed = f"{(self.done[server] - self.before[server]) / seconds:.0f} writes a second, " if seconds else ""
+        return f"server {server} {speed}{self.done[server]}{far} done{failed}"

@@ -78,8 +78,10 @@ def write(fleet, job_file, trigger, cut=None, wait=60, acts=False):
     progress = Progress(fleet, run, texts.Total(text), trigger.writes is not None)
     trigger.wait(progress)
     written.seconds = progress.seconds()
+    progress.ask()
     fleet.trigger(run, acts)
     kept = fleet.settle("trigger", run, wait)
+    progress.tell_last()
     tell_outcomes(f"the states of run {run}", kept)
     written.states = [it for (of, _, _), it in sorted(states_in(fleet.kept.read()).items()) if of == run]
     is_copied = tell_copies(fleet, written.states, wait)

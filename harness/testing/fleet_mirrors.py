@@ -9,7 +9,7 @@ import subprocess
 import sys
 import time
 
-from serving import FLEET, TOP, Servers, fleet, job_file, reports
+from serving import FLEET, TOP, Servers, earliest, fleet, job_file, reports
 from trying import BLOCK, QUIET, as_often, read, tell, tell_has, write
 
 BAD_LINK = f"exec {shlex.quote(f'{TOP}/tools/bad-link')}"
@@ -29,9 +29,9 @@ def number_in(printed):
 def lost_with_a_mirror():
     """The client's note is lost behind the cut: the check goes by what the mirror kept. Where that is
     lost, too, there is no verdict."""
-    job_file("mirror.fio")
+    job_file("mirror.fio", blocks=64, writes=64)
     servers, kept = Servers("mirror", 2), mirror("mirror.kept")
-    status, printed, said = fleet("write", "mirror.fio", "--note", "mirror.note", "--after", "0.4", *kept, *servers.links())
+    status, printed, said = fleet("write", "mirror.fio", "--note", "mirror.note", "--after-writes", "256", "--after", "60", *kept, *servers.links())
     tell("a fleet with a mirror writes", (status, "the states are kept" in printed), (0, True))
     tell_has("its mirror", said, "the mirror keeps 4 of 4 states")
     number = number_in(printed)
@@ -41,10 +41,10 @@ def lost_with_a_mirror():
     status, printed, _ = fleet("check", "mirror.fio", "--note", "mirror.note", *kept, *servers.links())
     found = reports(printed)
     tell("a check by the mirror's copies", (status, number_in(printed), [it[1:] for it in found.values()]), (0, number, [(0, "whole", [])] * 4))
-    tell("all have blocks that were checked", all(it[0] > 0 for it in found.values()), True)
+    tell("all blocks were checked", [it[0] for it in found.values()], [64] * 4)
     servers.cut()
     data = bytearray(read("mirror-1-0"))
-    block = next(at for at in range(256) if any(data[at * BLOCK : (at + 1) * BLOCK]))
+    block = earliest(data)
     data[block * BLOCK + 9] ^= 1
     write("mirror-1-0", bytes(data))
     os.remove("mirror.note")

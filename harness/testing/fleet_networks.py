@@ -12,7 +12,7 @@ import threading
 
 from fleets import written
 from hosts import Hosts
-from serving import FLEET, SERVER, TOP, Servers, fleet, job_file, reports
+from serving import FLEET, SERVER, TOP, Servers, earliest, fleet, job_file, reports
 from trying import BLOCK, LIAR, QUIET, read, run, tell, write
 
 BAD_LINK = f"{TOP}/tools/bad-link"
@@ -67,7 +67,7 @@ def over_tcp():
     tell("a fleet writes over TCP", (status, "the states are kept" in printed), (0, True))
     servers.cut()
     data = bytearray(read("tcp-2-1"))
-    block = next(at for at in range(128) if any(data[at * BLOCK : (at + 1) * BLOCK]))
+    block = earliest(data)
     data[block * BLOCK + 5] ^= 1
     write("tcp-2-1", bytes(data))
     servers.restart()

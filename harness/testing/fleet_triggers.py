@@ -4,7 +4,7 @@ import re
 import sys
 from types import SimpleNamespace
 
-from serving import TOP, Servers, fleet, job_file
+from serving import TOP, Servers, fleet, fleet_until, job_file
 from trying import LIAR, tell, tell_has
 
 sys.path.insert(0, f"{TOP}/harness/client")
@@ -26,16 +26,18 @@ def triggers():
     stalled = {"LD_PRELOAD": LIAR, "LIE": "stalled:64", "LIE_TARGET": "after-1-0"}
     servers = Servers("after", 0, jobs=1)
     servers.count, servers.running = 2, [None, None]
-    for writes, seconds, why in ((127, 9, "127 writes are done"), (128, 2.5, "after 2.5 seconds")):
+    words, idle = ["after.fio", "--note", "after.note"], "server 0 0 writes a second, 64 of 64 done; server 1 0 writes a second, 63 of 64 done\n"
+    for writes, why in ((127, "127 writes are done"), (128, "pulled is there")):
         servers.start(0)
         servers.start(1, stalled)
-        words = ["write", "after.fio", "--note", "after.note", "--after-writes", str(writes), "--after", str(seconds)]
-        status, printed, said = fleet(*words, *servers.links())
+        own = [*words, "--after-writes", str(writes), *servers.links()]
+        status, printed, said = fleet("write", *own, "--after", "60") if writes < 128 else fleet_until(idle, "fleet.said", *own)
         tell(f"a trigger after {writes} writes", (status, re.findall("fleet: triggered: (.*)", said)), (0, [why]))
         tell(f"the table after {writes} writes", rows(printed), {(0, 0): [64, 64, 0], (1, 0): [64, 63, 1]})
+        tell_has(f"how far they are after {writes} writes", said, ": server 0 64 of 64 done; server 1 63 of 64 done\n")
         servers.cut()
-    lines = re.findall(r"^fleet: (\d) s: server 0 (\d+) writes a second, 64 of 64 done; server 1 (\d+) writes a second, 63 of 64 done$", said, re.M)
-    tell("what is said each second", [(second, int(a) > 0, int(b) > 0) for second, a, b in lines], [("1", True, True), ("2", False, False)])
+    speeds = [(int(a) > 0, int(b) > 0) for a, b in re.findall(r"^fleet: \d+ s: server 0 (\d+) writes a second, \d+ of 64 done; server 1 (\d+) writes a second, \d+ of 64 done$", said, re.M)]
+    tell("what is said each second", (speeds[0], speeds[-1]), ((True, True), (False, False)))
     servers.restart()
     status, printed, _ = fleet("check", "after.fio", "--note", "after.note", "--json", *servers.links())
     told = [json.loads(it) for it in printed.splitlines()]
@@ -67,3 +69,4 @@ def told_words():
     tell("jobs whose last run is another", [answers.ends_of(run) for run in (6, 7, 8)], [(100, 2), (35, 1), (0, 0)])
     progress.step()
     tell("and without fiocut", progress.words(0, answers.ends_of(7), 2), "server 0 18 writes a second, 35 done, 1 failed")
+    tell("and at the end", progress.words(0, answers.ends_of(7)), "server 0 35 done, 1 failed")

@@ -11,7 +11,7 @@ import struct
 import subprocess
 import time
 
-from serving import FLEET, SERVER, TOP, Servers, fleet, job_file, reports
+from serving import FLEET, SERVER, TOP, Servers, earliest, fleet, fleet_until, job_file, reports
 from trying import BLOCK, LIAR, QUIET, as_often, read, run, tell, tell_has, write
 
 
@@ -19,7 +19,7 @@ def whole_story():
     """Three servers with two jobs each are cut behind a trigger, and checked."""
     job_file("fleet.fio")
     servers = Servers("story", 3)
-    status, printed, said = fleet("write", "fleet.fio", "--note", "story.note", "--after", "0.5", *servers.links())
+    status, printed, said = fleet("write", "fleet.fio", "--note", "story.note", "--after", "2", *servers.links())
     tell("a fleet writes", (status, "the states are kept" in printed), (0, True))
     servers.cut()
     servers.restart()
@@ -28,7 +28,7 @@ def whole_story():
     tell("its check", (status, sorted(found), [it[1:] for it in found.values()]), (0, [(s, j) for s in range(3) for j in range(2)], [(0, "whole", [])] * 6))
     tell("all have blocks that were checked", all(it[0] > 0 for it in found.values()), True)
     data = bytearray(read("story-1-0"))
-    block = next(at for at in range(256) if any(data[at * BLOCK : (at + 1) * BLOCK]))
+    block = earliest(data)
     servers.cut()
     data[block * BLOCK + 77] ^= 4
     write("story-1-0", bytes(data))
@@ -55,7 +55,7 @@ def lying_target():
     lie = {"LD_PRELOAD": LIAR, "LIE": "lost:37", "LIE_TARGET": "lies-1-0", "LIE_LOG": "lies.log"}
     servers.start(0)
     servers.start(1, lie)
-    status, _, _ = fleet("write", "lies.fio", "--note", "lies.note", "--after", "2", *servers.links())
+    status, _, _ = fleet("write", "lies.fio", "--note", "lies.note", "--after-writes", "800", "--after", "60", *servers.links())
     servers.cut()
     servers.restart()
     found = reports(fleet("check", "lies.fio", "--note", "lies.note", *servers.links())[1])
@@ -173,7 +173,7 @@ def places_of_jobs():
     servers = Servers("places", 0)
     servers.count, servers.running, servers.places = 1, [None], ["one@0/8192", "one@4096/8192"]
     servers.start(0)
-    fleet("write", "places.fio", "--note", "places.note", "--after", "1", *servers.links())
+    fleet("write", "places.fio", "--note", "places.note", "--after-writes", "128", "--after", "60", *servers.links())
     servers.cut()
     data = bytearray(read("one"))
     front = lambda job, block: struct.unpack(">QIIQQ", data[job * BLOCK + block * 2 * BLOCK :][:32])
@@ -206,9 +206,9 @@ def failing_target():
     servers = Servers("fail", 0, jobs=1)
     servers.count, servers.running = 1, [None]
     servers.start(0, {"LD_PRELOAD": LIAR, "LIE": "failed:20", "LIE_TARGET": "fail-0-0"})
-    status, printed, said = fleet("write", "fail.fio", "--note", "fail.note", "--after", "1.5", "--json", *servers.links())
-    done = json.loads(printed.splitlines()[0])["done"]
-    tell_has("which is told apart", said, f" {done} of 64 done, 1 failed\n")
+    status, printed, said = fleet_until(" failed: ", servers.said(0), "fail.fio", "--note", "fail.note", "--json", *servers.links())
+    state, told = json.loads(printed.splitlines()[0]), re.findall(r"^fleet: the writes of run \d+: server 0 (\d+) of 64 done, 1 failed$", said, re.M)
+    tell("which is told apart", [0 < int(it) <= state["done"] < state["ordered"] < 64 for it in told], [True])
     servers.cut()
     servers.start(0)
     words = ["check", "fail.fio", "--note", "fail.note"]
@@ -216,8 +216,7 @@ def failing_target():
     found = reports(printed).get((0, 0), (0,))
     tell("a write fails", (status, checked, 0 < found[0] < 64, found[1:]), (0, 0, True, (0, "whole", [])))
     servers.cut()
-    data = read("fail-0-0")
-    block = next(at for at in range(5, 64) if any(data[at * BLOCK : (at + 1) * BLOCK]))
+    block = earliest(read("fail-0-0"))
     servers.start(0, {"LD_PRELOAD": LIAR, "LIE": "none:1", "LIE_TARGET": "fail-0-0", "LIE_UNREADABLE": str(block * BLOCK)})
     status, printed, _ = fleet(*words, *servers.links())
     tell("a block that can't be read", (status, re.findall(r"end read (\d+)", printed)), (2, [str(block)]))
@@ -227,7 +226,7 @@ def failing_target():
 def cycles_by_a_book():
     """A series of cycles, by an address book; the second run's target loses writes."""
     job_file("cycle.fio", jobs=1, blocks=64, writes=128)
-    start = f"{shlex.quote(SERVER)} 0 cycle-0-0 --note cycle-0.note >/dev/null 2>&1 </dev/null & echo $! >cycle.pid"
+    start = f"{shlex.quote(SERVER)} 0 cycle-0-0 --note cycle-0.note --cached >/dev/null 2>&1 </dev/null & echo $! >cycle.pid"
     write("on", f"[ -f lie ] && export LD_PRELOAD={LIAR} LIE=lost:7 LIE_TARGET=cycle-0-0 LIE_LOG=cycle.log\n{start}\nunset LD_PRELOAD\nuntil [ -S cycle-0.note.socket ]; do sleep 0.01; done\n")
     write("off", "kill -9 $(cat cycle.pid); rm -f cycle-0.note.socket\n")
     link = f"exec {SERVER} link --note cycle-0.note 2>/dev/null"

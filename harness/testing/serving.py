@@ -2,9 +2,10 @@
 import os
 import re
 import shlex
+import struct
 import subprocess
 
-from trying import BLOCK, OUT, await_file, run, write
+from trying import BLOCK, OUT, await_file, await_text, read, run, write
 
 TOP = os.path.dirname(os.path.dirname(OUT))
 FLEET, SERVER = f"{TOP}/harness/fleet", f"{OUT}/fleet-server"
@@ -73,6 +74,25 @@ class Servers:
 
 def fleet(*words, **more):
     return run(*words, program=FLEET, **more)
+
+
+def fleet_until(part, said_by, *words):
+    """Has a fleet write, and pulls its trigger once this file has that part: its status, what it
+    printed, and what it said, which is in "fleet.said"."""
+    with open("fleet.said", "wb") as said:
+        writing = subprocess.Popen([FLEET, "write", *words, "--trigger-file", "pulled"], stdin=subprocess.DEVNULL, stdout=subprocess.PIPE, stderr=said, text=True)
+    await_text(said_by, part)
+    write("pulled", "")
+    printed = writing.communicate(timeout=100)[0]
+    os.remove("pulled")
+    return writing.returncode, printed, read("fleet.said").decode()
+
+
+def earliest(data):
+    """The block that holds the earliest write which still stands: it is done, as none is ordered that
+    is further ahead of the oldest open one than the window."""
+    numbers = {struct.unpack_from(">Q", data, at + 16)[0]: at // BLOCK for at in range(0, len(data), BLOCK) if any(data[at : at + BLOCK])}
+    return numbers[min(numbers)]
 
 
 def reports(printed):

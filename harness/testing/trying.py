@@ -81,5 +81,12 @@ def await_file(path):
         time.sleep(0.002)
 
 
+def await_text(path, part):
+    """Waits until a file has this part, at most a minute."""
+    until = time.time() + 60
+    while time.time() < until and part not in read(path).decode():
+        time.sleep(0.01)
+
+
 def put(data, block, bytes_, at=0):
     data[block * BLOCK + at : block * BLOCK + at + len(bytes_)] = bytes_
