@@ -5,7 +5,7 @@ ghost use Rattle.fc_base.specs.declared.limits.TheConstants.{MAX_BLOCK_SIZE as B
 ghost use Rattle.server_core.specs.declared.event.WriteEnd.TheVariants.{Done};
 
 use crate::ended::Ended;
-use crate::lock::lock;
+use crate::lock::lock_file;
 use crate::server::Order;
 use disk_model::Disk;
 use fc_base::MAX_BLOCKS;
@@ -13,13 +13,14 @@ use std::sync::{Mutex, Wait};
 use write_order::fill_block;
 
 /// Carries out a write on the file of its job's number, by way of the worker's memory, in which its block is filled
-/// before its file's lock is taken. It fails where its job isn't known, or has no file, and where the disk
-/// refuses it.
+/// before its file's lock is taken; that another thread had that lock is told. It fails where its job isn't
+/// known, or has no file, and where the disk refuses it.
 pub(crate) fn carry_out<R: Wait, D: Disk>(
     rt: &R,
     files: &[Mutex<D>],
     order: &Order,
     memory: &mut [u8],
+    was_held: &mut bool,
 ) -> Ended
     requires { length memory.old ≡ BLOCK_SIZE }
     ensures ticket { result.ticket ≡ order.now.ticket }
@@ -35,5 +36,5 @@ pub(crate) fn carry_out<R: Wait, D: Disk>(
     }
     let bytes = &mut memory[..rec.bs() as usize];
     fill_block(ticket.key, &rec, ticket.seq, ticket.block, bytes);
-    Ended::land(&mut *lock(rt, file), &ticket, &rec, bytes)
+    Ended::land(&mut *lock_file(rt, file, was_held), &ticket, &rec, bytes)
 }

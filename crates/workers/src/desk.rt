@@ -19,6 +19,8 @@ pub(crate) struct Desk {
     memory: Vec<u8>,
     pub(crate) given: Vec<Order>,
     pub(crate) ended: Vec<Ended>,
+    /// Another worker had the lock of a file to which it wrote last.
+    pub(crate) was_held: bool,
     ghost whole: { length memory.items ≡ BLOCK_SIZE },
 }
 
@@ -29,6 +31,7 @@ impl Desk {
             memory: vec![in alloc; 0; MAX_BLOCK_SIZE as usize]?,
             given: Vec::with_capacity(alloc, HAND)?,
             ended: Vec::with_capacity(alloc, HAND)?,
+            was_held: false,
         })
     }
 
@@ -44,12 +47,18 @@ impl Desk {
             ≡ length self.old.given.items + length self.old.ended.items }
     {
         let mut kept = 0;
+        self.was_held = false;
         for at in 0..self.given.len() {
             let order = self.given.as_slice()[at];
             // (where there is no memory to note its end, it waits as one that is refused)
             if self.ended.reserve(1).is_ok() && gate.may_write(&order.ticket) {
-                self.ended
-                    .push_reserved(carry_out(rt, files, &order, &mut self.memory));
+                self.ended.push_reserved(carry_out(
+                    rt,
+                    files,
+                    &order,
+                    &mut self.memory,
+                    &mut self.was_held,
+                ));
             } else {
                 self.given[kept] = order;
                 kept += 1;

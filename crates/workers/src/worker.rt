@@ -109,7 +109,8 @@ fn go_round<R: Wait, N: Notes + Drop, D: Disk, G: Gate>(
     Ok(round)
 }
 
-/// Takes turns of a job, until it has no write for now, or [`STAY`] were taken.
+/// Takes turns of a job, until it has no write for now, or [`STAY`] were taken; or until in as many of them as
+/// the seat's number, and one more, another worker was at its file: so one of the two goes on, and one stays.
 fn stay<R: Wait, N: Notes + Drop, D: Disk, G: Gate>(
     rt: &R,
     cell: &Mutex<ServerCell<N>>,
@@ -121,8 +122,13 @@ fn stay<R: Wait, N: Notes + Drop, D: Disk, G: Gate>(
 ) -> Result<TurnEnd, Fault>
     ensures { HasTaken seat.old seat.new result }
 {
+    let mut patience = seat.number();
     for turn in 0..STAY {
         match take(rt, cell, seat, job, files, gate, desk)? {
+            TurnEnd::Wrote if desk.was_held => match patience.checked_sub(1) {
+                Some(left) => patience = left,
+                None => return Ok(TurnEnd::Wrote),
+            },
             TurnEnd::Wrote => {}
             TurnEnd::Later if turn > 0 => return Ok(TurnEnd::Wrote),
             other => return Ok(other),
