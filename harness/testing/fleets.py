@@ -207,7 +207,7 @@ def failing_target():
     servers.count, servers.running = 1, [None]
     servers.start(0, {"LD_PRELOAD": LIAR, "LIE": "failed:20", "LIE_TARGET": "fail-0-0"})
     status, printed, said = fleet_until(" failed: ", servers.said(0), "fail.fio", "--note", "fail.note", "--json", *servers.links())
-    state, told = json.loads(printed.splitlines()[0]), re.findall(r"^fleet: the writes of run \d+: server 0 (\d+) of 64 done, 1 failed$", said, re.M)
+    state, told = json.loads(printed.splitlines()[0]), re.findall(r"^fleet: the writes of run \d+: server 0 (\d+)(?: of 64)? done, 1 failed$", said, re.M)
     tell("which is told apart", [0 < int(it) <= state["done"] < state["ordered"] < 64 for it in told], [True])
     servers.cut()
     servers.start(0)
