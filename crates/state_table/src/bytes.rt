@@ -61,11 +61,7 @@ pub fn states_in(alloc: Global, count: u32, bytes: &[u8]) -> Result<Option<Kept>
         rest = first.rest;
     }
     kept.keeps_keys_apart();
-    if rest.is_empty() {
-        Ok(Some(kept))
-    } else {
-        Ok(None)
-    }
+    Ok(Some(kept))
 }
 
 /// Whether the bytes are so many states, and nothing behind them. It takes no memory.
