@@ -4,13 +4,17 @@
 #include "notice.h"
 #include "say.h"
 
+#include <pthread.h>
 #include <unistd.h>
 
 /* So many notices are told in one write, which a pipe keeps whole. */
 enum { AT_ONCE = 256 };
 
 void answer(const void *bytes, size_t length) {
+    static pthread_mutex_t lock = PTHREAD_MUTEX_INITIALIZER;
+    pthread_mutex_lock(&lock);
     if (write_all(STDOUT_FILENO, bytes, length)) give_up_by_errno("the link");
+    pthread_mutex_unlock(&lock);
 }
 
 void tell_witness(void *none, const struct ending *endings, size_t count) {

@@ -6,7 +6,8 @@
 
 #include <stddef.h>
 
-/* Says these bytes. Where nobody hears them, the agent gives up. */
+/* Says these bytes, in one piece where several threads do. Where nobody hears them, the agent gives
+ * up. */
 void answer(const void *bytes, size_t length);
 
 /* Says what became of writes, in one piece where they are not too many. */

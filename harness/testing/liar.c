@@ -8,13 +8,15 @@
  * room for it; LIE_FLUSHES has fdatasync empty it. Killed, it loses the rest. LIE_LOG=FILE has a
  * line for each: `KIND BLOCK WRITE`, in the order in which they were told; LIE_SYNCS has it tell
  * each fsync, too: `synced PATH`. LIE_UNREADABLE=BYTE fails each read of the target that has this
- * byte. LIE_TARGET=NAME is the end of the target's path. The kernel's io_uring passes a library by,
+ * byte. LIE_TARGET=NAME is the end of the target's path. LIE_PIECES has standard output take five
+ * bytes at a time, with other threads' turn behind them. The kernel's io_uring passes a library by,
  * so there is none here: the harness writes by threads. */
 #include <dlfcn.h>
 #include <endian.h>
 #include <errno.h>
 #include <limits.h>
 #include <pthread.h>
+#include <sched.h>
 #include <stdarg.h>
 #include <stdint.h>
 #include <stdio.h>
@@ -139,6 +141,15 @@ int fsync(int fd) {
     path_of(fd, path);
     if (noted && getenv("LIE_SYNCS")) fprintf(noted, "synced %s\n", path);
     return real(fd);
+}
+
+ssize_t write(int fd, const void *bytes, size_t length) {
+    static ssize_t (*real)(int, const void *, size_t);
+    if (!real) *(void **)&real = dlsym(RTLD_NEXT, "write");
+    if (fd != STDOUT_FILENO || length < 5 || !getenv("LIE_PIECES")) return real(fd, bytes, length);
+    ssize_t told = real(fd, bytes, 5);
+    sched_yield();
+    return told;
 }
 
 long syscall(long number, ...) {

@@ -81,6 +81,9 @@ def witness_runs():
     status, printed, _ = witness("write", "two.fio", "ws", "--after", "50", *link("wt"))
     tell("taken after 50", (status, " 50 told" in printed), (0, True))
     tell("no fault", witness("check", "two.fio", "ws", *link("wt"))[0], 0)
+    pieces = link("wp", before=f"LD_PRELOAD={shlex.quote(LIAR)} LIE_PIECES=1")
+    status, printed, _ = witness("write", "two.fio", "wps", *pieces)
+    tell("threads tell over a link that takes five bytes at a time", (status, printed), (0, f"run {run_of('wps')}: 128 ordered, 128 told, 0 in flight\n"))
     env = {"LD_PRELOAD": LIAR, "LIE": "failed:100", "LIE_TARGET": "/wf"}
     status, printed, said = witness("write", "long.fio", "wfs", *link("wf"), env=env)
     tell("a write fails at the agent", (status, "at the cut" in printed), (2, False))
