@@ -36,7 +36,10 @@ fn is_opened_for<N: Notes + Drop>(client: &ClientCell<N>, servers: &[ServerCell<
     ensures { Decides result (IsOpened (ran_of client.now servers.now) Client) }
 {
     let count = client.servers();
-    client.is_blank() && count as usize == servers.len() && count <= MAX_SERVERS
+    if count as usize != servers.len() || count > MAX_SERVERS {
+        return false;
+    }
+    client.is_blank()
 }
 
 /// Whether a cell is the server of this number, and was opened over a blank note.

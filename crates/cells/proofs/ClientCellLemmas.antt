@@ -5,7 +5,7 @@ use Rattle.fc_base.specs.declared.fault.Fault.{Fault}
 use Rattle.fc_base.specs.declared.fault.Fault.TheVariants.{NoMemory}
 use Rattle.disk_model.specs.Notes.{Note}
 use Rattle.client_core.specs.declared.client.Client.{Client}
-use Rattle.client_core.specs.declared.noted.Noted.{Noted}
+use Rattle.client_core.specs.declared.note.ClientNote.{ClientNote}
 use Rattle.client_core.specs.History.{Opening}
 use Rattle.client_core.specs.Hearing.{FrameEntry, Restart}
 use Rattle.client_core.specs.FrameEnds.{StandsFor, Opens}
@@ -32,7 +32,7 @@ use Rattle.cells.specs.ClientTasks.{came_by, loads_note}
 abbrev pub first : List FrameEntry
 first = Restart false ∷ []
 
-abbrev pub opening_by : ℕ → Noted → Opening
+abbrev pub opening_by : ℕ → ClientNote → Opening
 opening_by servers said = record { servers = servers; noted = said }
 
 pub opened_once : {T : Type 0} (note : T → Note) (servers : ℕ) (notes : T) (client : Client T) (h : Opens note servers false (note notes) client)

@@ -4,7 +4,7 @@ use Rattle.std.specs.Prelude.{if◌then◌else◌, not}
 use Rattle.fc_base.specs.declared.fault.Fault.{Fault}
 use Rattle.fc_base.specs.declared.fault.Fault.TheVariants.{NoMemory, LoadFault, BadNote, NodeOn}
 use Rattle.disk_model.specs.Notes.{Note}
-use Rattle.client_core.specs.declared.noted.Noted.{Noted}
+use Rattle.client_core.specs.declared.note.ClientNote.{ClientNote}
 use Rattle.client_core.specs.declared.client.Client.{Client}
 use Rattle.client_core.specs.History.{Opening}
 use Rattle.client_core.specs.Note.{Says}
@@ -26,7 +26,7 @@ use Rattle.cells.proofs.PowerLemmas.{was_on, was_on_counts}
 use Rattle.cells.specs.Rules.{Restarts}
 
 -- Without a mirror a bad note says nothing.
-no_note : (bytes : List ℕ) → IsBadNote false bytes → (said : Noted) → Says bytes said → ⊥
+no_note : (bytes : List ℕ) → IsBadNote false bytes → (said : ClientNote) → Says bytes said → ⊥
 no_note bytes (inl bad) said says = bad said says
 no_note bytes (inr empty) said says = cc
 

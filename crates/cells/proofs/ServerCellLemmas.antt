@@ -6,7 +6,7 @@ use Rattle.std.proofs.lemmas.List.{get_or-set_same, get_or-set_other, length-app
 use Rattle.std.proofs.lemmas.Bool.{eqb-true, eq-eqb, and_parts}
 use Rattle.disk_model.specs.declared.left.Left.TheVariants.{Saved}
 use Rattle.disk_model.specs.Notes.{Note}
-use Rattle.server_core.specs.declared.note.Noted.{Noted}
+use Rattle.server_core.specs.declared.note.ServerNote.{ServerNote}
 use Rattle.server_core.specs.declared.server.Server.{Server}
 use Rattle.server_core.specs.declared.status.Status.{Status}
 use Rattle.server_core.specs.History.{Opening}
@@ -45,7 +45,7 @@ opening_with me boot last = record { me = me; boot = boot; last = last }
 abbrev pub first : List FrameEntry
 first = Restart Saved ∷ []
 
-abbrev pub opening_by : ℕ → Noted → Opening
+abbrev pub opening_by : ℕ → ServerNote → Opening
 opening_by me n = record { me = me; boot = n.boot; last = n.last_run }
 
 pub opened_once : {T : Type 0} (note : T → Note) (me : ℕ) (notes : T) (server : Server T) (h : Restarts note me notes server)

@@ -6,12 +6,12 @@ use Rattle.fc_base.specs.declared.fault.Fault.{Fault}
 use Rattle.fc_base.specs.declared.fault.Fault.TheVariants.{NoMemory, LoadFault, SaveFault, BadNote, NumbersSpent, NodeOn}
 use Rattle.disk_model.specs.declared.left.Left.TheVariants as lefts
 use Rattle.disk_model.specs.Notes.{Note}
-use Rattle.server_core.specs.declared.note.Noted.{Noted}
+use Rattle.server_core.specs.declared.note.ServerNote.{ServerNote}
 use Rattle.server_core.specs.declared.server.Server.{Server}
 use Rattle.server_core.specs.History.{Opening}
 use Rattle.server_core.specs.Note.{Says, SaysOneThing, spelling}
 use Rattle.server_core.specs.Words.{boot, has_boot, words_noted}
-use Rattle.server_core.specs.Serves.{NotOpened}
+use Rattle.server_core.specs.Ends.{NotOpened}
 use Rattle.server_core.specs.Hearing.{FrameEntry, Restart, packets_heard, is_up}
 use Rattle.server_core.specs.FrameEnds as ends
 use Rattle.server_core.specs.FrameEnds.{note_in}
@@ -45,18 +45,18 @@ not_off false h = refl
 not_off true h = cc
 
 -- A boot was left where what the note said left one.
-left_one : SaysOneThing → (old : List ℕ) (o : Opening) (past : List FrameEntry) (n : Noted) → Says old n → n.boot < 2 ^ 64 - 1
+left_one : SaysOneThing → (old : List ℕ) (o : Opening) (past : List FrameEntry) (n : ServerNote) → Says old n → n.boot < 2 ^ 64 - 1
     → Says old (words_noted o (packets_heard o past)) → has_boot o (packets_heard o past) ≡ true
 left_one one old o past n read left says =
     let same = one old n (words_noted o (packets_heard o past)) read says in
-    let below = subst (λ (m : Noted). m.boot < 2 ^ 64 - 1) same left in
+    let below = subst (λ (m : ServerNote). m.boot < 2 ^ 64 - 1) same left in
     lt-ltb (boot o (packets_heard o past) + 1) (2 ^ 64) (omega (arith, below))
 
-next_says : SaysOneThing → (old new : List ℕ) (o : Opening) (past : List FrameEntry) (n : Noted) → Says old n → n.boot < 2 ^ 64 - 1
+next_says : SaysOneThing → (old new : List ℕ) (o : Opening) (past : List FrameEntry) (n : ServerNote) → Says old n → n.boot < 2 ^ 64 - 1
     → Says old (words_noted o (packets_heard o past)) → new ≡ spelling (record { boot = n.boot + 1; last_run = n.last_run })
     → Says new (words_noted o (packets_heard o (Restart lefts.LostNew ∷ past)))
 next_says one old new o past n read left says is =
-    subst (λ (m : Noted). Says new (record { boot = m.boot + 1; last_run = m.last_run })) (one old n (words_noted o (packets_heard o past)) read says)
+    subst (λ (m : ServerNote). Says new (record { boot = m.boot + 1; last_run = m.last_run })) (one old n (words_noted o (packets_heard o past)) read says)
     (record { boot_range = omega (arith, left); last_range = read.last_range; spelled = inl is })
 
 -- ---- how it ends
@@ -79,7 +79,7 @@ unstarted note o past notes back NumbersSpent one off says h =
 unstarted note o past notes back NoMemory one off says h = (refl, (subst (λ (n : Note). Says n.bytes (words_noted o (packets_heard o past))) (sym h) says, off))
 unstarted note o past notes back SaveFault one off says h = half h.1
   where
-    half : (n : Noted) × Says (note notes).bytes n × (n.boot < 2 ^ 64 - 1)
+    half : (n : ServerNote) × Says (note notes).bytes n × (n.boot < 2 ^ 64 - 1)
         × (((note back).bytes ≡ (note notes).bytes) ⊎ ((note back).bytes ≡ spelling (record { boot = n.boot + 1; last_run = n.last_run })))
         → TaskEnds (server_kind note o) past Restarts (Off back) (Err SaveFault)
     half (n, read, left, inl is) =

@@ -72,7 +72,7 @@ impl<N: Notes + Drop> Model for ServerCell<N> {
 
 impl<N: Notes + Drop> ServerCell<N> {
     ghost use Rattle.server_core.specs.Note.{Says};
-    ghost use Rattle.server_core.specs.Serves.{NotOpened};
+    ghost use Rattle.server_core.specs.Ends.{NotOpened};
     ghost use Rattle.server_core.specs.FrameEnds.{StandsFor};
     ghost use Rattle.cells.specs.ServerCells.{is_blank, IsReplay};
 

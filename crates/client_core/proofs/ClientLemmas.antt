@@ -8,7 +8,7 @@ use Rattle.client_core.specs.declared.call.Call.TheVariants.{Deliver}
 use Rattle.client_core.specs.declared.packet_client.PacketClient.{PacketClient}
 use Rattle.disk_model.specs.Notes.{Note}
 use Rattle.client_core.specs.Stands.{StandsFor}
-use Rattle.client_core.specs.declared.noted.Noted.{Noted}
+use Rattle.client_core.specs.declared.note.ClientNote.{ClientNote}
 use Rattle.client_core.specs.History.{Opening, Entry}
 use Rattle.client_core.specs.Refusals.{refusal_by}
 use Rattle.client_core.specs.Saves.{Addition, addition_of, addition_by, unless_refused, due_by}
@@ -21,7 +21,7 @@ both : (r : Option Fault) (a : Option Addition) → (is_none r && is_some a) ≡
 both None a = refl
 both (Some f) a = refl
 
-would_by : (on : Bool) (with peers : Peers) (n m : Noted) (p : PacketParts) → (on ≡ true → with ≡ peers) → (on ≡ true → m ≡ n)
+would_by : (on : Bool) (with peers : Peers) (n m : ClientNote) (p : PacketParts) → (on ≡ true → with ≡ peers) → (on ≡ true → m ≡ n)
     → (is_none (refusal_by on with m (Deliver p)) && is_some (addition_by m p.body)) ≡ is_some (due_by on peers n (Deliver p))
 would_by true with peers n m p f e =
     ap (λ x. is_none (refusal_by true x m (Deliver p)) && is_some (addition_by m p.body)) (f refl)
@@ -34,7 +34,7 @@ not_not true = refl
 not_not false = refl
 
 pub stands_on : {T : Type 0} (note : T → Note) (client : PacketClient T) (o : Opening) (past : List Entry) → StandsFor note client o past
-    → not client.down ≡ is_on past
+    → not client.durable.down ≡ is_on past
 stands_on note client o past s = ap not s.on ∙ not_not (is_on past)
 
 pub stands_known : {T : Type 0} (note : T → Note) (client : PacketClient T) (o : Opening) (past : List Entry) → StandsFor note client o past → is_on past ≡ true
@@ -46,7 +46,7 @@ stands_with : {T : Type 0} (note : T → Note) (client : PacketClient T) (o : Op
 stands_with note client o past s on = s.peers ∙ ap (peers o) (looks_at_all past on)
 
 pub stands_would : {T : Type 0} (note : T → Note) (client : PacketClient T) (o : Opening) (past : List Entry) (p : PacketParts) → StandsFor note client o past
-    → (is_none (refusal_by (not client.down) client.peers client.noted (Deliver p)) && is_some (addition_by client.noted p.body))
+    → (is_none (refusal_by (not client.durable.down) client.peers client.noted (Deliver p)) && is_some (addition_by client.noted p.body))
     ≡ would_save o past (Deliver p)
 stands_would note client o past p s =
     ap (λ on. is_none (refusal_by on client.peers client.noted (Deliver p)) && is_some (addition_by client.noted p.body)) (stands_on note client o past s)
@@ -60,8 +60,8 @@ free_adds None a = refl
 free_adds (Some f) a = refl
 
 pub call_would : {T : Type 0} (note : T → Note) (client : PacketClient T) (o : Opening) (past : List Entry) (c : Call) (a : Addition)
-    → ((x : Noted) → addition_of x c ≡ Some a) → StandsFor note client o past
-    → is_none (refusal_by (not client.down) client.peers client.noted c) ≡ would_save o past c
+    → ((x : ClientNote) → addition_of x c ≡ Some a) → StandsFor note client o past
+    → is_none (refusal_by (not client.durable.down) client.peers client.noted c) ≡ would_save o past c
 call_would note client o past c a adds s =
     ap is_none (refusal_is note client o past c s) ∙ free_adds (refusal o past c) a
     ∙ ap (λ x. is_some (unless_refused (refusal o past c) x)) (sym (adds (words_noted o past)))

@@ -17,7 +17,7 @@ use Rattle.disk_model.proofs.StepLemmas.{and_true, is_own_answer, not_lost, lost
 use Rattle.client_core.specs.declared.call.Call.{Call}
 use Rattle.client_core.specs.declared.packet_client.PacketClient.{PacketClient}
 use Rattle.client_core.specs.declared.life.Life.{Life}
-use Rattle.client_core.specs.declared.noted.Noted.{Noted}
+use Rattle.client_core.specs.declared.note.ClientNote.{ClientNote}
 use Rattle.client_core.specs.Note.{IsNoted, Says, SaysWhatIsWritten, spelling}
 use Rattle.client_core.specs.History.{Opening, Entry, Met}
 use Rattle.client_core.specs.Framed.{frame_bytes}
@@ -47,7 +47,7 @@ pub record Knows {T : Type 0} (note : T → Note) (client : PacketClient T) (o :
   pub knows : client.noted ≡ words_noted o past
   pub lives : LifeIs client.life (life o past)
 
-pub knows_now : {T : Type 0} (note : T → Note) (client : PacketClient T) (o : Opening) (past : List Entry) → client.down ≡ false → StandsFor note client o past
+pub knows_now : {T : Type 0} (note : T → Note) (client : PacketClient T) (o : Opening) (past : List Entry) → client.durable.down ≡ false → StandsFor note client o past
     → Knows note client o past
 knows_now note client o past up s =
     let on = is_up (is_on past) (sym up ∙ s.on) in
@@ -60,7 +60,7 @@ knows_now note client o past up s =
 
 -- ---- one entry more
 
-after_none : (new : Bool) (d : Option Addition) (n : Noted) → new ≡ false → noted_after new d n ≡ n
+after_none : (new : Bool) (d : Option Addition) (n : ClientNote) → new ≡ false → noted_after new d n ≡ n
 after_none new None n e = refl
 after_none true (Some a) n e = cc
 after_none false (Some a) n e = refl
@@ -77,7 +77,7 @@ refused_stands note client o past c fault r s = record {
   peers = s.peers ∙ sym (by_on (is_on past) (peers o) (shown_entries past)
       (λ on. refused_peers o past c NoSave fault r ∙ ap (peers o) (sym (looks_at_all past on))));
   few = s.few;
-  durable = subst (λ n. Says (note client.notes).bytes n) (sym same_noted) s.durable;
+  durable = subst (λ n. Says (note client.durable.notes).bytes n) (sym same_noted) s.durable;
   knows = s.knows ∙ sym (by_on (is_on past) (words_noted o) (shown_entries past) (λ on. same_noted ∙ ap (words_noted o) (sym (looks_at_all past on))));
   lives = subst (LifeIs client.life) (sym (by_on (is_on past) (life o) (shown_entries past) (λ on. same_life ∙ ap (life o) (sym (looks_at_all past on)))))
       s.lives;
@@ -106,14 +106,14 @@ pub sends_now : (o : Opening) (past : List Entry) (c : Call) → refusal o past 
 sends_now o past c free =
     ap (λ b. frame_bytes (if b then packets_for (peers o past) (words_noted o past) (life o past) c else [])) (sym (is_answered_now o past c free))
 
-new_noted : (d : Option Addition) (n : Noted) → noted_after (has_new (saved_for d)) d n ≡ noted_after true d n
+new_noted : (d : Option Addition) (n : ClientNote) → noted_after (has_new (saved_for d)) d n ≡ noted_after true d n
 new_noted None n = refl
 new_noted (Some a) n = refl
 
 -- An answered call is added, where what is kept and noted is what it leaves.
 pub answered_stands : {T : Type 0} (note : T → Note) (client : PacketClient T) (o : Opening) (past : List Entry) (c : Call) → refusal o past c ≡ None
-    → is_on past ≡ true → client.down ≡ false → client.peers ≡ peers o (answered_entry o past c ∷ past) → o.servers ≤ MAX_SERVERS
-    → Says (note client.notes).bytes (noted_after true (addition_of (words_noted o past) c) (words_noted o past))
+    → is_on past ≡ true → client.durable.down ≡ false → client.peers ≡ peers o (answered_entry o past c ∷ past) → o.servers ≤ MAX_SERVERS
+    → Says (note client.durable.notes).bytes (noted_after true (addition_of (words_noted o past) c) (words_noted o past))
     → client.noted ≡ noted_after true (addition_of (words_noted o past) c) (words_noted o past)
     → LifeIs client.life (deeds_of (words_noted o past) c ++ life o past)
     → StandsFor note client o (answered_entry o past c ∷ past)
@@ -121,7 +121,7 @@ answered_stands note client o past c free on up with few says knows lives = reco
   on = up ∙ sym (ap not (ap (λ b. b && not (is_lost (saved_for (due o past c)))) on ∙ ap not (not_lost (due o past c))));
   peers = with ∙ sym (ap (peers o) look);
   few = few;
-  durable = subst (Says (note client.notes).bytes) (sym noted_is) says;
+  durable = subst (Says (note client.durable.notes).bytes) (sym noted_is) says;
   knows = knows ∙ sym (ap (words_noted o) look ∙ noted_is);
   lives = subst (LifeIs client.life) (sym (ap (life o) look ∙ life_is)) lives;
 }
@@ -139,11 +139,11 @@ answered_stands note client o past c free on up with few says knows lives = reco
 -- ---- calls that aren't answered
 
 pub refuses : {T : Type 0} (note : T → Note) (client : PacketClient T) (o : Opening) (past : List Entry) (c : Call) (fault : Fault)
-    → refusal_by (not client.down) client.peers client.noted c ≡ Some fault → StandsFor note client o past
+    → refusal_by (not client.durable.down) client.peers client.noted c ≡ Some fault → StandsFor note client o past
     → Faults (steps note o) past c (sort_of fault) fault client client
 refuses note client o past c fault r s =
     let why = sym (refusal_is note client o past c s) ∙ r in
-    subst (λ t. Faults (steps note o) past c t fault client client) (sym (refusal_sort (not client.down) client.peers client.noted c fault r))
+    subst (λ t. Faults (steps note o) past c t fault client client) (sym (refusal_sort (not client.durable.down) client.peers client.noted c fault r))
     (record { why = why; same_note = refl; unchanged = s; stands = refused_stands note client o past c fault why s })
 
 pub with_life : {T : Type 0} (note : T → Note) (client : PacketClient T) (kept : Life) (o : Opening) (past : List Entry) → EachLife client.life (LifeIs kept)
@@ -162,7 +162,7 @@ lacks note client kept o past c same s = record { why = refl; same_note = refl; 
 lost_stands : {T : Type 0} (note : T → Note) (client : PacketClient T) (notes : T) (o : Opening) (past : List Entry) (c : Call) (left : Left)
     → is_on past ≡ true → is_lost left ≡ true → StandsFor note client o past
     → Says (note notes).bytes (noted_after (has_new left) (due o past c) (words_noted o past))
-    → StandsFor note (record client { notes = notes; down = true }) o (Met c left ∷ past)
+    → StandsFor note (record client { durable = record { notes = notes; down = true } }) o (Met c left ∷ past)
 lost_stands note client notes o past c left on lost s says = record {
   on = lost_off (is_on past) left lost;
   peers = s.peers ∙ ap (peers o) (looks_at_all past on ∙ sym look);
@@ -178,9 +178,9 @@ lost_stands note client notes o past c left on lost s says = record {
 
 -- A call whose save isn't answered.
 pub unsaved : {T : Type 0} (note : T → Note) (old new : PacketClient T) (kept : Life) (a : Addition) (fault : Fault) (o : Opening) (past : List Entry)
-    (c : Call) → SaysWhatIsWritten → old.down ≡ false → StandsFor note old o past → refusal o past c ≡ None
+    (c : Call) → SaysWhatIsWritten → old.durable.down ≡ false → StandsFor note old o past → refusal o past c ≡ None
     → addition_of (words_noted o past) c ≡ Some a → IsNoted (with_addition a (words_noted o past)) → EachLife old.life (LifeIs kept) → (t : FaultSort)
-    → Unsaved (λ k. note k.notes) (save_of (with_addition a old.noted) (record old { life = kept }) new) t fault (record old { life = kept }) new
+    → Unsaved (λ k. note k.durable.notes) (save_of (with_addition a old.noted) (record old { life = kept }) new) t fault (record old { life = kept }) new
     → Faults (steps note o) past c t fault old new
 unsaved note old new kept a fault o past c read up s free adds fits same sorts.Memory u = record {
   why = u.0;
@@ -204,9 +204,9 @@ unsaved note old new kept a fault o past c read up s free adds fits same sorts.S
     makes_one : due o past c ≡ Some a
     makes_one = due_now o past c free ∙ adds
 
-    failed : (left : Left) → is_lost left ≡ true → (note new.notes).bytes
-        ≡ bytes_left left (spelling (noted_after (has_new left) (Some a) (words_noted o past))) (note old.notes).bytes
-        → Says (note new.notes).bytes (noted_after (has_new left) (Some a) (words_noted o past)) → Fails (steps note o) past c old new
+    failed : (left : Left) → is_lost left ≡ true → (note new.durable.notes).bytes
+        ≡ bytes_left left (spelling (noted_after (has_new left) (Some a) (words_noted o past))) (note old.durable.notes).bytes
+        → Says (note new.durable.notes).bytes (noted_after (has_new left) (Some a) (words_noted o past)) → Fails (steps note o) past c old new
     failed left lost bytes says = record {
       cause = u.0;
       free = free;
@@ -214,18 +214,18 @@ unsaved note old new kept a fault o past c read up s free adds fits same sorts.S
       makes_one = makes_one;
       left = left;
       lost = lost;
-      bytes_are = subst (λ d. (note new.notes).bytes ≡ bytes_left left (spelling (noted_after (has_new left) d (words_noted o past))) (note old.notes).bytes)
+      bytes_are = subst (λ d. (note new.durable.notes).bytes ≡ bytes_left left (spelling (noted_after (has_new left) d (words_noted o past))) (note old.durable.notes).bytes)
           (sym makes_one) bytes;
       stands = subst (λ x. StandsFor note x o (Met c left ∷ past)) (sym u.2)
-          (lost_stands note (record old { life = kept }) new.notes o past c left k.on lost (with_life note old kept o past same s)
-          (subst (λ d. Says (note new.notes).bytes (noted_after (has_new left) d (words_noted o past))) (sym makes_one) says));
+          (lost_stands note (record old { life = kept }) new.durable.notes o past c left k.on lost (with_life note old kept o past same s)
+          (subst (λ d. Says (note new.durable.notes).bytes (noted_after (has_new left) d (words_noted o past))) (sym makes_one) says));
     }
 
-    by_bytes : ((note new.notes).bytes ≡ (note old.notes).bytes) ⊎ ((note new.notes).bytes ≡ spelling (with_addition a old.noted))
+    by_bytes : ((note new.durable.notes).bytes ≡ (note old.durable.notes).bytes) ⊎ ((note new.durable.notes).bytes ≡ spelling (with_addition a old.noted))
         → Fails (steps note o) past c old new
     by_bytes (inl e) = failed LostOld refl e (subst (λ bytes. Says bytes (words_noted o past)) (sym e) s.durable)
     by_bytes (inr e) =
-        let is : (note new.notes).bytes ≡ spelling (with_addition a (words_noted o past)) = e ∙ ap (λ n. spelling (with_addition a n)) k.knows in
+        let is : (note new.durable.notes).bytes ≡ spelling (with_addition a (words_noted o past)) = e ∙ ap (λ n. spelling (with_addition a n)) k.knows in
         failed LostNew refl is (subst (λ bytes. Says bytes (with_addition a (words_noted o past))) (sym is) (read (with_addition a (words_noted o past)) fits))
 
 -- What a call leaves of the note.
@@ -238,15 +238,15 @@ leaves_plain note notes o past c free adds =
 pub leaves_stored : {T : Type 0} (note : T → Note) (old new : PacketClient T) (kept : Life) (a : Addition) (o : Opening) (past : List Entry) (c : Call)
     → old.noted ≡ words_noted o past → refusal o past c ≡ None → addition_of (words_noted o past) c ≡ Some a
     → (r : Unit {0}) → Stores note a (record old { life = kept }) new (Ok r)
-    → LeavesNote (due o past c) (spelling (words_noted o (answered_entry o past c ∷ past))) (note old.notes) (note new.notes)
+    → LeavesNote (due o past c) (spelling (words_noted o (answered_entry o past c ∷ past))) (note old.durable.notes) (note new.durable.notes)
 leaves_stored note old new kept a o past c knows free adds r stored =
-    subst (λ d. LeavesNote d (spelling (noted_after (has_new (saved_for d)) d (words_noted o past))) (note old.notes) (note new.notes))
+    subst (λ d. LeavesNote d (spelling (noted_after (has_new (saved_for d)) d (words_noted o past))) (note old.durable.notes) (note new.durable.notes))
     (sym (due_now o past c free ∙ adds))
-    (stored.0 ∙ ap (λ n. record (note old.notes) { bytes = spelling (with_addition a n) }) knows)
+    (stored.0 ∙ ap (λ n. record (note old.durable.notes) { bytes = spelling (with_addition a n) }) knows)
 
 -- A call that is answered with a save.
 pub stored_stands : {T : Type 0} (note : T → Note) (old new : PacketClient T) (kept after : Life) (a : Addition) (o : Opening) (past : List Entry) (c : Call)
-    → SaysWhatIsWritten → old.down ≡ false → StandsFor note old o past → refusal o past c ≡ None
+    → SaysWhatIsWritten → old.durable.down ≡ false → StandsFor note old o past → refusal o past c ≡ None
     → addition_of (words_noted o past) c ≡ Some a → IsNoted (with_addition a (words_noted o past)) → (r : Unit {0})
     → Stores note a (record old { life = kept }) new (Ok r)
     → LifeIs after (deeds_of (words_noted o past) c ++ life o past) → granted_by c ≡ []
@@ -257,7 +257,7 @@ stored_stands note old new kept after a o past c read up s free adds fits r stor
     let grown : with_addition a (words_noted o past) ≡ noted_after true (addition_of (words_noted o past) c) (words_noted o past) =
     ap (λ d. noted_after true d (words_noted o past)) (sym adds) in
     answered_stands note (record new { life = after }) o past c free k.on
-    (ap (λ (m : PacketClient _). m.down) stored.1 ∙ up) (ap (λ (m : PacketClient _). m.peers) stored.1
+    (ap (λ (m : PacketClient _). m.durable.down) stored.1 ∙ up) (ap (λ (m : PacketClient _). m.peers) stored.1
     ∙ (k.peers ∙ sym (peers_stay o past c (saved_for (due o past c)) plain))) s.few
     (subst (λ bytes. Says bytes (noted_after true (addition_of (words_noted o past) c) (words_noted o past)))
     (sym (ap (λ (n : Note). n.bytes) stored.0 ∙ ap spelling is))
@@ -265,7 +265,7 @@ stored_stands note old new kept after a o past c read up s free adds fits r stor
     (ap (λ (m : PacketClient _). m.noted) stored.1 ∙ is ∙ grown) lives
 
 -- A call that is answered without a save.
-pub plain_stands : {T : Type 0} (note : T → Note) (old : PacketClient T) (after : Life) (o : Opening) (past : List Entry) (c : Call) → old.down ≡ false
+pub plain_stands : {T : Type 0} (note : T → Note) (old : PacketClient T) (after : Life) (o : Opening) (past : List Entry) (c : Call) → old.durable.down ≡ false
     → StandsFor note old o past → refusal o past c ≡ None → addition_of (words_noted o past) c ≡ None
     → LifeIs after (deeds_of (words_noted o past) c ++ life o past) → (with : Peers) → with ≡ peers o (answered_entry o past c ∷ past)
     → StandsFor note (record old { life = after; peers = with }) o (answered_entry o past c ∷ past)
@@ -273,5 +273,5 @@ plain_stands note old after o past c up s free adds lives with is =
     let k = knows_now note old o past up s in
     let same : words_noted o past ≡ noted_after true (addition_of (words_noted o past) c) (words_noted o past) =
     ap (λ d. noted_after true d (words_noted o past)) (sym adds) in
-    answered_stands note (record old { life = after; peers = with }) o past c free k.on up is s.few (subst (Says (note old.notes).bytes) same s.durable)
+    answered_stands note (record old { life = after; peers = with }) o past c free k.on up is s.few (subst (Says (note old.durable.notes).bytes) same s.durable)
     (k.knows ∙ same) lives

@@ -19,7 +19,7 @@ use Rattle.messages.specs.Laws.{IsPacket, LengthsAreBounded}
 use Rattle.messages.specs.Nodes.{node_number}
 use Rattle.client_core.specs.declared.call.Call.{Call}
 use Rattle.client_core.specs.declared.call.Call.TheVariants.{Begin, Trigger, Stop, Verify, Deliver, Tick}
-use Rattle.client_core.specs.declared.noted.Noted.{Noted}
+use Rattle.client_core.specs.declared.note.ClientNote.{ClientNote}
 use Rattle.client_core.specs.Words.{words_noted, peers, has_mirror, is_answered}
 use Rattle.state_table.specs.Kept.{kept_of}
 use Rattle.verify_state.specs.State.{State}
@@ -63,7 +63,7 @@ copy_one false state x = omega arith
 one_more : (p : PacketParts) (ps : List PacketParts) → length ps ≤ 1 → length (p ∷ ps) ≤ MAX_SERVERS
 one_more p ps h = omega arith
 
-replied : (mirror : Bool) (n : Noted) (deeds : List Deed) (s : ℕ) (body : Body) → length (replies mirror n deeds s body) ≤ MAX_SERVERS
+replied : (mirror : Bool) (n : ClientNote) (deeds : List Deed) (s : ℕ) (body : Body) → length (replies mirror n deeds s body) ≤ MAX_SERVERS
 replied mirror n deeds s (bodies.JobsOk run jobs) = start_one run s (begin_at run s deeds)
 replied mirror n deeds s (bodies.State jobs state) = one_more (to_server (bodies.StateAck state.key.run state.key.job) s)
     (copy_for mirror state (kept_of state.key n.kept)) (copy_one mirror state (kept_of state.key n.kept))

@@ -12,7 +12,7 @@ use Rattle.disk_model.specs.declared.left.Left.{Left}
 use Rattle.disk_model.specs.declared.left.Left.TheVariants.{NoSave}
 use Rattle.disk_model.specs.Left.{saved_for, is_lost, bytes_left}
 use Rattle.disk_model.specs.Notes.{Note}
-use Rattle.disk_model.specs.Steps.{LeavesNote, Answers, Refuses, Faults, Ends, Gives}
+use Rattle.disk_model.specs.Steps.{LeavesNote, Answers, Refuses, Faults, Ends, EndsWithNumber}
 use Rattle.disk_model.proofs.StepLemmas.{on_before, off_lost}
 use Rattle.messages.specs.declared.packet.PacketParts.{PacketParts}
 use Rattle.messages.specs.declared.piece.PieceParts.{PieceParts}
@@ -174,8 +174,8 @@ whole_ends note o past e c old core (Err fault) short brings is same w h =
 
 pub whole_gives : {T : Type 0} (note : T → Note) (o : Opening) (past : List FrameEntry) (e : Input) (c : Call) (used : ℕ) (old : Client T)
     (core : PacketClient T) (result : Result (ℕ × List (List ℕ)) Fault) → FramesAreShort → IsInRange c → sense o past e ≡ Hears c
-    → rows_after o past e NoSave ≡ assembly o past → StandsFor note old o past → Gives (ends.steps note o) (packets_heard o past) c used old.core core result
-    → Gives (steps note o) past e used old (with_core old core) result
+    → rows_after o past e NoSave ≡ assembly o past → StandsFor note old o past → EndsWithNumber (ends.steps note o) (packets_heard o past) c used old.core core result
+    → EndsWithNumber (steps note o) past e used old (with_core old core) result
 whole_gives note o past e c used old core (Ok given) short brings is same w h =
     (h.0, heard_answers note o past e c old (with_core old core) given.1 short brings is h.1 (λ on. w.pieces on ∙ sym same))
 whole_gives note o past e c used old core (Err fault) short brings is same w h =
@@ -188,10 +188,10 @@ pub given_answers : {T : Type 0} (note : T → Note) (old : Client T) (core : Pa
     (p : PacketParts) (result : Result (List (List ℕ)) Fault) → FramesAreShort → IsPacket p → StandsFor note old o past
     → sense o past (Deliver (Piece q)) ≡ Hears (calls.Deliver p) → Ends (ends.steps note o) (packets_heard o past) (calls.Deliver p) old.core core result
     → is_ok result ≡ true
-    → Ends (steps note o) past (Deliver (Piece q)) old (record { alloc = old.alloc; core = core; pieces = without_tag q.tag old.pieces }) result
+    → Ends (steps note o) past (Deliver (Piece q)) old (record { core = core; pieces = without_tag q.tag old.pieces }) result
 given_answers note old core o past q p (Ok sent) short brings w is h ok =
     heard_answers note o past (Deliver (Piece q)) (calls.Deliver p) old
-    (record { alloc = old.alloc; core = core; pieces = without_tag q.tag old.pieces }) sent short brings is h
+    (record { core = core; pieces = without_tag q.tag old.pieces }) sent short brings is h
     (λ on. ap (without_tag q.tag) (w.pieces on) ∙ sym (given_rows (rules o) (heard_at o past) q (calls.Deliver p) NoSave is h.free))
 given_answers note old core o past q p (Err fault) short brings w is h ok = absurd cc
 

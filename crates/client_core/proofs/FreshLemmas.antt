@@ -16,7 +16,7 @@ use Rattle.disk_model.specs.Left.{has_new}
 use Rattle.client_core.specs.declared.call.Call.{Call}
 use Rattle.client_core.specs.declared.call.Call.TheVariants.{Begin, Trigger, Stop, Verify, Deliver, Tick}
 use Rattle.state_table.specs.Kept.{kept_of}
-use Rattle.client_core.specs.declared.noted.Noted.{Noted}
+use Rattle.client_core.specs.declared.note.ClientNote.{ClientNote}
 use Rattle.client_core.specs.History.{Opening, Entry, Met, Cut, Restart, Renew, Lose}
 use Rattle.client_core.specs.Refusals.{refusal_by}
 use Rattle.client_core.specs.Saves.{Addition, unless_kept, addition_by, addition_of, unless_refused, noted_after, is_answer}
@@ -83,37 +83,37 @@ from_none : (last more : ℕ) → last ≡ 0 → last ≤ more
 from_none last more e = omega arith
 
 -- a blank note used no number
-pub none_used : (n : Noted) → is_blank n ≡ true → (n.runs ≡ 0) × (n.attempts ≡ 0)
+pub none_used : (n : ClientNote) → is_blank n ≡ true → (n.runs ≡ 0) × (n.attempts ≡ 0)
 none_used n h =
     let a = and_parts (n.generation == 0) _ h in
     let b = and_parts (n.runs == 0) _ a.1 in
     let c = and_parts (n.attempts == 0) _ b.1 in
     (eqb-true n.runs 0 b.0, eqb-true n.attempts 0 c.0)
 
-run_renewed : (first : ℕ) (b : Bool) (g : ℕ) (n : Noted) (ns : List ℕ) → (b ≡ true → n.runs ≡ 0) → Known first n.runs ns
+run_renewed : (first : ℕ) (b : Bool) (g : ℕ) (n : ClientNote) (ns : List ℕ) → (b ≡ true → n.runs ≡ 0) → Known first n.runs ns
     → Known first (if b then new_note g else n).runs ns
 run_renewed first true g n ns f k = higher first n.runs (g * 2 ^ 32) ns (from_none n.runs (g * 2 ^ 32) (f refl)) k
 run_renewed first false g n ns f k = k
 
-attempt_renewed : (first : ℕ) (b : Bool) (g : ℕ) (n : Noted) (ns : List ℕ) → (b ≡ true → n.attempts ≡ 0) → Known first n.attempts ns
+attempt_renewed : (first : ℕ) (b : Bool) (g : ℕ) (n : ClientNote) (ns : List ℕ) → (b ≡ true → n.attempts ≡ 0) → Known first n.attempts ns
     → Known first (if b then new_note g else n).attempts ns
 attempt_renewed first true g n ns f k = higher first n.attempts (g * 2 ^ 32) ns (from_none n.attempts (g * 2 ^ 32) (f refl)) k
 attempt_renewed first false g n ns f k = k
 
 -- a state changes no number
-state_only : (new : Bool) (n : Noted) (x : Option State) (state : State)
+state_only : (new : Bool) (n : ClientNote) (x : Option State) (state : State)
     → ((noted_after new (unless_kept x state) n).runs ≡ n.runs) × ((noted_after new (unless_kept x state) n).attempts ≡ n.attempts)
 state_only new n (Some s) state = (refl, refl)
 state_only true n None state = (refl, refl)
 state_only false n None state = (refl, refl)
 
-pub body_only : (new : Bool) (n : Noted) (body : Body) → ((noted_after new (addition_by n body) n).runs ≡ n.runs)
+pub body_only : (new : Bool) (n : ClientNote) (body : Body) → ((noted_after new (addition_by n body) n).runs ≡ n.runs)
     × ((noted_after new (addition_by n body) n).attempts ≡ n.attempts)
 body_only new n (bodies.State jobs state) = state_only new n (kept_of state.key n.kept) state
 body_only new n (bodies.Copy state) = state_only new n (kept_of state.key n.kept) state
 body_only new n _ = (refl, refl)
 
-pub run_step : (first : ℕ) (n : Noted) (c : Call) (r : Option Fault) (left : Left) (ds : List Deed) → Known first n.runs (runs_in ds)
+pub run_step : (first : ℕ) (n : ClientNote) (c : Call) (r : Option Fault) (left : Left) (ds : List Deed) → Known first n.runs (runs_in ds)
     → Known first (noted_after (has_new left) (unless_refused r (addition_of n c)) n).runs
     (runs_in (if is_none r && is_answer (unless_refused r (addition_of n c)) left then deeds_of n c ++ ds else ds))
 run_step first n c (Some f) left ds k = k
@@ -147,7 +147,7 @@ known_runs o (Lose ∷ past) h = cc
 pub runs_are_fresh : RunsAreFresh
 runs_are_fresh o past h = (known_runs o past h).fresh
 
-pub attempt_step : (first : ℕ) (n : Noted) (c : Call) (r : Option Fault) (left : Left) (ds : List Deed) → Known first n.attempts (attempts_in ds)
+pub attempt_step : (first : ℕ) (n : ClientNote) (c : Call) (r : Option Fault) (left : Left) (ds : List Deed) → Known first n.attempts (attempts_in ds)
     → Known first (noted_after (has_new left) (unless_refused r (addition_of n c)) n).attempts
     (attempts_in (if is_none r && is_answer (unless_refused r (addition_of n c)) left then deeds_of n c ++ ds else ds))
 attempt_step first n c (Some f) left ds k = k

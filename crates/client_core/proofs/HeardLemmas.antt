@@ -21,7 +21,7 @@ use Rattle.state_table.specs.Kept.{kept_of}
 use Rattle.state_table.specs.Laws.{LastIsFound}
 use Rattle.messages.specs.Bodies.{kind_of}
 use Rattle.messages.specs.Kinds.{is_of_mirror}
-use Rattle.client_core.specs.declared.noted.Noted.{Noted}
+use Rattle.client_core.specs.declared.note.ClientNote.{ClientNote}
 use Rattle.client_core.specs.declared.peers.Peers.{Peers}
 use Rattle.client_core.specs.Refusals.{is_for_client, is_from_server, is_from_mirror, faults_of_body, refusal_by}
 use Rattle.client_core.specs.Saves.{unless_kept, noted_after, is_answer}
@@ -34,7 +34,7 @@ no_fault true true (f ∷ more) h = cc
 no_fault true false more h = cc
 no_fault false ours more h = cc
 
-pub taken_in : (on : Bool) (peers : Peers) (n : Noted) (p : PacketParts) → refusal_by on peers n (Deliver p) ≡ None
+pub taken_in : (on : Bool) (peers : Peers) (n : ClientNote) (p : PacketParts) → refusal_by on peers n (Deliver p) ≡ None
     → (on ≡ true) × (is_for_client peers p ≡ true) × (faults_of_body n p.body ≡ [])
 taken_in on peers n p h = no_fault on (is_for_client peers p) (faults_of_body n p.body) h
 
@@ -136,7 +136,7 @@ none_or None b h = refl
 none_or (Some f) b h = cc
 
 -- after a state that was answered its key has a state
-pub has_one : LastIsFound → (n : Noted) (left : Left) (x : Option State) (state : State) → kept_of state.key n.kept ≡ x
+pub has_one : LastIsFound → (n : ClientNote) (left : Left) (x : Option State) (state : State) → kept_of state.key n.kept ≡ x
     → is_answer (unless_kept x state) left ≡ true
     → (s : State) × (kept_of state.key (noted_after (has_new left) (unless_kept x state) n).kept ≡ Some s)
 has_one last n left (Some k) state h a = (k, h)

@@ -18,7 +18,7 @@ use Rattle.client_core.specs.declared.call.Call.{Call}
 use Rattle.client_core.specs.declared.call.Call.TheVariants.{Begin, Trigger, Stop, Verify, Deliver, Tick}
 use Rattle.state_table.specs.Kept.{kept_of}
 use Rattle.state_table.specs.Laws.{FoundStays, FoundOrLast}
-use Rattle.client_core.specs.declared.noted.Noted.{Noted}
+use Rattle.client_core.specs.declared.note.ClientNote.{ClientNote}
 use Rattle.client_core.specs.declared.peers.Peers.{Peers}
 use Rattle.client_core.specs.History.{Opening, Entry, Met, Cut, Restart, Renew, Lose}
 use Rattle.client_core.specs.Refusals.{is_for_client, refusal_by}
@@ -31,23 +31,23 @@ use Rattle.client_core.specs.Laws.{from_server, from_mirror, FirstKeptStays, Kep
 use Rattle.fc_base.proofs.ListLemmas.{one}
 use Rattle.client_core.proofs.HeardLemmas.{from_own, from_its_mirror, own_state, taken_in}
 
-added_stays : FoundStays → (key : Key) (a : Addition) (n : Noted) (s : State) → kept_of key n.kept ≡ Some s → kept_of key (with_addition a n).kept ≡ Some s
+added_stays : FoundStays → (key : Key) (a : Addition) (n : ClientNote) (s : State) → kept_of key n.kept ≡ Some s → kept_of key (with_addition a n).kept ≡ Some s
 added_stays stays key NextRun n s h = h
 added_stays stays key NextAttempt n s h = h
 added_stays stays key (Keep state) n s h = stays key n.kept (state ∷ []) s h
 
-noted_stays : FoundStays → (key : Key) (new : Bool) (d : Option Addition) (n : Noted) (s : State) → kept_of key n.kept ≡ Some s
+noted_stays : FoundStays → (key : Key) (new : Bool) (d : Option Addition) (n : ClientNote) (s : State) → kept_of key n.kept ≡ Some s
     → kept_of key (noted_after new d n).kept ≡ Some s
 noted_stays stays key new None n s h = h
 noted_stays stays key true (Some a) n s h = added_stays stays key a n s h
 noted_stays stays key false (Some a) n s h = h
 
 -- a client is renewed over a blank note only
-pub blank_then : (new : Bool) (g : ℕ) (n : Noted) → (new && may_renew g n) ≡ true → is_blank n ≡ true
+pub blank_then : (new : Bool) (g : ℕ) (n : ClientNote) → (new && may_renew g n) ≡ true → is_blank n ≡ true
 blank_then new g n h = (and_parts (is_generation g) (is_blank n) ((and_parts new (may_renew g n) h).1)).1
 
 -- a blank note keeps no state
-blank_keeps_none : (key : Key) (n : Noted) (s : State) → is_blank n ≡ true → kept_of key n.kept ≡ Some s → ⊥
+blank_keeps_none : (key : Key) (n : ClientNote) (s : State) → is_blank n ≡ true → kept_of key n.kept ≡ Some s → ⊥
 blank_keeps_none key n s h k =
     let a = and_parts (n.generation == 0) _ h in
     let b = and_parts (n.runs == 0) _ a.1 in
@@ -58,12 +58,12 @@ blank_keeps_none key n s h k =
     none [] e k = cc
     none (x ∷ rest) e k = let z : length (x ∷ rest) ≡ 0 = eqb-true (length (x ∷ rest)) 0 e in omega arith
 
-renewed_stays : (key : Key) (b : Bool) (g : ℕ) (n : Noted) (s : State) → (b ≡ true → is_blank n ≡ true) → kept_of key n.kept ≡ Some s
+renewed_stays : (key : Key) (b : Bool) (g : ℕ) (n : ClientNote) (s : State) → (b ≡ true → is_blank n ≡ true) → kept_of key n.kept ≡ Some s
     → kept_of key (if b then new_note g else n).kept ≡ Some s
 renewed_stays key true g n s f h = absurd (blank_keeps_none key n s (f refl) h)
 renewed_stays key false g n s f h = h
 
-renewed_had : (key : Key) (b : Bool) (g : ℕ) (n : Noted) (s : State) → kept_of key (if b then new_note g else n).kept ≡ Some s → kept_of key n.kept ≡ Some s
+renewed_had : (key : Key) (b : Bool) (g : ℕ) (n : ClientNote) (s : State) → kept_of key (if b then new_note g else n).kept ≡ Some s → kept_of key n.kept ≡ Some s
 renewed_had key true g n s h = cc
 renewed_had key false g n s h = h
 
@@ -88,22 +88,22 @@ abbrev pub Brought : List PacketParts → Key → State → Type 0
 Brought packets key s = ((jobs : ℕ) × Contains packets (from_server (bodies.State jobs s) key.server)) ⊎ Contains packets (from_mirror (bodies.Copy s))
 
 -- where a state in the table came from
-abbrev CameFrom : Noted → List PacketParts → Key → State → Type 0
+abbrev CameFrom : ClientNote → List PacketParts → Key → State → Type 0
 CameFrom n packets key s = (kept_of key n.kept ≡ Some s) ⊎ Brought packets key s
 
-number_only : (new : Bool) (r : Option Fault) (n : Noted) (packets : List PacketParts) (key : Key) (s : State)
+number_only : (new : Bool) (r : Option Fault) (n : ClientNote) (packets : List PacketParts) (key : Key) (s : State)
     → kept_of key (noted_after new (unless_refused r (Some NextRun)) n).kept ≡ Some s → CameFrom n packets key s
 number_only new (Some f) n packets key s h = inl h
 number_only true None n packets key s h = inl h
 number_only false None n packets key s h = inl h
 
-attempt_only : (new : Bool) (r : Option Fault) (n : Noted) (packets : List PacketParts) (key : Key) (s : State)
+attempt_only : (new : Bool) (r : Option Fault) (n : ClientNote) (packets : List PacketParts) (key : Key) (s : State)
     → kept_of key (noted_after new (unless_refused r (Some NextAttempt)) n).kept ≡ Some s → CameFrom n packets key s
 attempt_only new (Some f) n packets key s h = inl h
 attempt_only true None n packets key s h = inl h
 attempt_only false None n packets key s h = inl h
 
-nothing : (new : Bool) (r : Option Fault) (n : Noted) (packets : List PacketParts) (key : Key) (s : State)
+nothing : (new : Bool) (r : Option Fault) (n : ClientNote) (packets : List PacketParts) (key : Key) (s : State)
     → kept_of key (noted_after new (unless_refused r None) n).kept ≡ Some s → CameFrom n packets key s
 nothing new (Some f) n packets key s h = inl h
 nothing new None n packets key s h = inl h
@@ -119,14 +119,14 @@ state_brought peers from to jobs state s key ours e has =
     λ i. from_server (bodies.State jobs (e i)) (own i) in
     inl (jobs, one (record { from = from; to = to; body = bodies.State jobs state }) (from_server (bodies.State jobs s) key.server) (p ∙ q))
 
-pushed : (peers : Peers) (n : Noted) (from to : Node) (jobs : ℕ) (state s : State) (key : Key)
+pushed : (peers : Peers) (n : ClientNote) (from to : Node) (jobs : ℕ) (state s : State) (key : Key)
     → is_for_client peers (record { from = from; to = to; body = bodies.State jobs state }) ≡ true
     → (kept_of key n.kept ≡ Some s) ⊎ ((state ≡ s) × (state.key ≡ key))
     → CameFrom n (record { from = from; to = to; body = bodies.State jobs state } ∷ []) key s
 pushed peers n from to jobs state s key ours (inl e) = inl e
 pushed peers n from to jobs state s key ours (inr e) = inr (state_brought peers from to jobs state s key ours e.0 e.1)
 
-state_came : FoundOrLast → (peers : Peers) (n : Noted) (from to : Node) (jobs : ℕ) (state s : State) (key : Key) (new : Bool) (before : Option State)
+state_came : FoundOrLast → (peers : Peers) (n : ClientNote) (from to : Node) (jobs : ℕ) (state s : State) (key : Key) (new : Bool) (before : Option State)
     → is_for_client peers (record { from = from; to = to; body = bodies.State jobs state }) ≡ true
     → kept_of key (noted_after new (unless_kept before state) n).kept ≡ Some s
     → CameFrom n (record { from = from; to = to; body = bodies.State jobs state } ∷ []) key s
@@ -142,13 +142,13 @@ copy_brought peers from to state s key ours e =
     let q : from_mirror (bodies.Copy state) ≡ from_mirror (bodies.Copy s) = λ i. from_mirror (bodies.Copy (e i)) in
     inr (one (record { from = from; to = to; body = bodies.Copy state }) (from_mirror (bodies.Copy s)) (p ∙ q))
 
-copied : (peers : Peers) (n : Noted) (from to : Node) (state s : State) (key : Key)
+copied : (peers : Peers) (n : ClientNote) (from to : Node) (state s : State) (key : Key)
     → is_for_client peers (record { from = from; to = to; body = bodies.Copy state }) ≡ true
     → (kept_of key n.kept ≡ Some s) ⊎ ((state ≡ s) × (state.key ≡ key)) → CameFrom n (record { from = from; to = to; body = bodies.Copy state } ∷ []) key s
 copied peers n from to state s key ours (inl e) = inl e
 copied peers n from to state s key ours (inr e) = inr (copy_brought peers from to state s key ours e.0)
 
-copy_came : FoundOrLast → (peers : Peers) (n : Noted) (from to : Node) (state s : State) (key : Key) (new : Bool) (before : Option State)
+copy_came : FoundOrLast → (peers : Peers) (n : ClientNote) (from to : Node) (state s : State) (key : Key) (new : Bool) (before : Option State)
     → is_for_client peers (record { from = from; to = to; body = bodies.Copy state }) ≡ true
     → kept_of key (noted_after new (unless_kept before state) n).kept ≡ Some s
     → CameFrom n (record { from = from; to = to; body = bodies.Copy state } ∷ []) key s
@@ -156,7 +156,7 @@ copy_came only peers n from to state s key new (Some before) ours h = inl h
 copy_came only peers n from to state s key true None ours h = copied peers n from to state s key ours (only key n.kept state s h)
 copy_came only peers n from to state s key false None ours h = inl h
 
-delivered : FoundOrLast → (peers : Peers) (n : Noted) (from to : Node) (body : Body) (s : State) (key : Key) (new : Bool) (r : Option Fault)
+delivered : FoundOrLast → (peers : Peers) (n : ClientNote) (from to : Node) (body : Body) (s : State) (key : Key) (new : Bool) (r : Option Fault)
     → (r ≡ None → is_for_client peers (record { from = from; to = to; body = body }) ≡ true)
     → kept_of key (noted_after new (unless_refused r (addition_by n body)) n).kept ≡ Some s
     → CameFrom n (record { from = from; to = to; body = body } ∷ []) key s
@@ -167,7 +167,7 @@ delivered only peers n from to (bodies.Copy state) s key new None ours h =
     copy_came only peers n from to state s key new (kept_of state.key n.kept) (ours refl) h
 delivered only peers n from to _ s key new None ours h = inl h
 
-called : FoundOrLast → (peers : Peers) (on : Bool) (n : Noted) (c : Call) (left : Left) (key : Key) (s : State)
+called : FoundOrLast → (peers : Peers) (on : Bool) (n : ClientNote) (c : Call) (left : Left) (key : Key) (s : State)
     → kept_of key (noted_after (has_new left) (due_by on peers n c) n).kept ≡ Some s → CameFrom n (packet_in (Met c left)) key s
 called only peers on n (Begin text) left key s h = number_only (has_new left) (refusal_by on peers n (Begin text)) n [] key s h
 called only peers on n (Trigger run act) left key s h = nothing (has_new left) (refusal_by on peers n (Trigger run act)) n [] key s h

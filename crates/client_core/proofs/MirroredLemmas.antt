@@ -16,7 +16,7 @@ use Rattle.disk_model.specs.declared.left.Left.TheVariants.{NoSave, Saved, LostN
 use Rattle.disk_model.specs.Left.{has_new, is_lost, is_saved}
 use Rattle.client_core.specs.declared.call.Call.{Call}
 use Rattle.client_core.specs.declared.call.Call.TheVariants.{Begin, Trigger, Stop, Verify, Deliver, Tick}
-use Rattle.client_core.specs.declared.noted.Noted.{Noted}
+use Rattle.client_core.specs.declared.note.ClientNote.{ClientNote}
 use Rattle.client_core.specs.declared.peers.Peers.{Peers}
 use Rattle.client_core.specs.History.{Opening, Entry, Met, Cut, Restart, Renew, Lose}
 use Rattle.client_core.specs.Note.{is_blank, new_note}
@@ -55,7 +55,7 @@ either : (gs : List ℕ) (f : List Deed → List ℕ) (b : Bool) (g used : ℕ) 
 either gs f true g used x y h k = h
 either gs f false g used x y h k = k
 
-run_step : (gs : List ℕ) (on : Bool) (peers : Peers) (n : Noted) (c : Call) (r : Option Fault) (left : Left) (ds : List Deed) → r ≡ refusal_by on peers n c
+run_step : (gs : List ℕ) (on : Bool) (peers : Peers) (n : ClientNote) (c : Call) (r : Option Fault) (left : Left) (ds : List Deed) → r ≡ refusal_by on peers n c
     → (on ≡ true → 1 ≤ n.generation) → Apart gs n.generation n.runs (runs_in ds)
     → Apart gs n.generation (noted_after (has_new left) (unless_refused r (addition_of n c)) n).runs
     (runs_in (if is_none r && is_answer (unless_refused r (addition_of n c)) left then deeds_of n c ++ ds else ds))
@@ -81,7 +81,7 @@ run_step gs on peers n (Deliver p) None left ds e g k =
     (either gs runs_in b n.generation n.runs (Hears (node_number p.from) p.body ∷ ds) ds k k)
 run_step gs on peers n Tick None left ds e g k = either gs runs_in (is_answer {D = Addition} None left) n.generation n.runs ds ds k k
 
-attempt_step : (gs : List ℕ) (on : Bool) (peers : Peers) (n : Noted) (c : Call) (r : Option Fault) (left : Left) (ds : List Deed) → r ≡ refusal_by on peers n c
+attempt_step : (gs : List ℕ) (on : Bool) (peers : Peers) (n : ClientNote) (c : Call) (r : Option Fault) (left : Left) (ds : List Deed) → r ≡ refusal_by on peers n c
     → (on ≡ true → 1 ≤ n.generation) → Apart gs n.generation n.attempts (attempts_in ds)
     → Apart gs n.generation (noted_after (has_new left) (unless_refused r (addition_of n c)) n).attempts
     (attempts_in (if is_none r && is_answer (unless_refused r (addition_of n c)) left then deeds_of n c ++ ds else ds))
@@ -124,31 +124,31 @@ above_none g h = omega arith
 some_or_none : (g : ℕ) → (g == 0) ≡ false → 1 ≤ g
 some_or_none g h = grind (arith, nat_tests)
 
-off_blank : (on new : Bool) (ps : Peers) (n : Noted) (c : Call) → (on ≡ true → ⊥) → is_blank n ≡ true → is_blank (noted_after new (due_by on ps n c) n) ≡ true
+off_blank : (on new : Bool) (ps : Peers) (n : ClientNote) (c : Call) → (on ≡ true → ⊥) → is_blank n ≡ true → is_blank (noted_after new (due_by on ps n c) n) ≡ true
 off_blank true new ps n c f h = absurd (f refl)
 off_blank false new ps n c f h = h
 
-renewed_runs : (gs : List ℕ) (x : ℕ) (b : Bool) (n : Noted) (ns : List ℕ) → has gs x ≡ false → Apart gs n.generation n.runs ns
+renewed_runs : (gs : List ℕ) (x : ℕ) (b : Bool) (n : ClientNote) (ns : List ℕ) → has gs x ≡ false → Apart gs n.generation n.runs ns
     → Apart (x ∷ gs) (if b then new_note x else n).generation (if b then new_note x else n).runs ns
 renewed_runs gs x true n ns h k = renew gs x n.generation n.runs ns h k
 renewed_runs gs x false n ns h k = unsaved gs x n.generation n.runs ns k
 
-renewed_attempts : (gs : List ℕ) (x : ℕ) (b : Bool) (n : Noted) (ns : List ℕ) → has gs x ≡ false → Apart gs n.generation n.attempts ns
+renewed_attempts : (gs : List ℕ) (x : ℕ) (b : Bool) (n : ClientNote) (ns : List ℕ) → has gs x ≡ false → Apart gs n.generation n.attempts ns
     → Apart (x ∷ gs) (if b then new_note x else n).generation (if b then new_note x else n).attempts ns
 renewed_attempts gs x true n ns h k = renew gs x n.generation n.attempts ns h k
 renewed_attempts gs x false n ns h k = unsaved gs x n.generation n.attempts ns k
 
-renewed_on : (x : ℕ) (b : Bool) (n : Noted) → 1 ≤ x → (b ≡ false → 1 ≤ n.generation) → 1 ≤ (if b then new_note x else n).generation
+renewed_on : (x : ℕ) (b : Bool) (n : ClientNote) → 1 ≤ x → (b ≡ false → 1 ≤ n.generation) → 1 ≤ (if b then new_note x else n).generation
 renewed_on x true n h f = h
 renewed_on x false n h f = f refl
 
-renewed_blank : (x : ℕ) (b : Bool) (n : Noted) → 1 ≤ x → (n.generation ≡ 0 → is_blank n ≡ true) → (if b then new_note x else n).generation ≡ 0
+renewed_blank : (x : ℕ) (b : Bool) (n : ClientNote) → 1 ≤ x → (n.generation ≡ 0 → is_blank n ≡ true) → (if b then new_note x else n).generation ≡ 0
     → is_blank (if b then new_note x else n) ≡ true
 renewed_blank x true n h f e = absurd (not_none x h e)
 renewed_blank x false n h f e = f e
 
 -- where a renewal with a good number answers and changes nothing, the note is of a generation
-not_blank : (x : ℕ) (left : Left) (n : Noted) → is_saved left ≡ true → is_generation x ≡ true → (n.generation ≡ 0 → is_blank n ≡ true)
+not_blank : (x : ℕ) (left : Left) (n : ClientNote) → is_saved left ≡ true → is_generation x ≡ true → (n.generation ≡ 0 → is_blank n ≡ true)
     → (has_new left && may_renew x n) ≡ false → 1 ≤ n.generation
 not_blank x Saved n s g f h = elim (cases_Bool (n.generation == 0)) [
   | inl z ↦ absurd (both (is_generation x) (is_blank n) g (f (eqb-true n.generation 0 z)) h)

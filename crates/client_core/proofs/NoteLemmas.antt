@@ -16,7 +16,7 @@ use Rattle.state_table.specs.Reading.{states_at, ReadsStates}
 use Rattle.state_table.proofs.CountedLemmas.{AreCounted, spelled_counted, same_states, too_many_states, no_states_read, counted_spelled, written, put_counted}
 use Rattle.verify_state.specs.Reading.{field}
 use Rattle.verify_state.proofs.FieldLemmas.{IsBytes, bytes_drop, piece64}
-use Rattle.client_core.specs.declared.noted.Noted.{Noted}
+use Rattle.client_core.specs.declared.note.ClientNote.{ClientNote}
 use Rattle.client_core.specs.Note.{blank, numbers_of, note_of, old_note_of, spelling, IsNoted, IsNote, Numbers, Spells}
 use Rattle.client_core.specs.Note.{Says, ReadsNumbers, Reads, TellsStates, HasStates, SaysOneThing, SaysWhatIsWritten}
 use Rattle.std.proofs.lemmas.Bool.Decides.{nat_tests}
@@ -35,13 +35,13 @@ abbrev pub after_attempts : List ℕ → List ℕ
 after_attempts bytes = drop 8 (after_runs bytes)
 
 -- what the numbers and states of a note have to be
-pub record AreRead (bytes : List ℕ) (n : Noted) : Type 0 where
+pub record AreRead (bytes : List ℕ) (n : ClientNote) : Type 0 where
   pub long : 20 ≤ length bytes
   pub runs : number_in w64 bytes ≡ n.runs
   pub attempts : number_in w64 (after_runs bytes) ≡ n.attempts
   pub kept : AreCounted (after_attempts bytes) n.kept
 
-spelled_read : SpelledAreRead → (n : Noted) (parts : List (List ℕ)) → IsNoted n → SayStates parts n.kept → AreRead (numbers_of n.runs n.attempts parts) n
+spelled_read : SpelledAreRead → (n : ClientNote) (parts : List (List ℕ)) → IsNoted n → SayStates parts n.kept → AreRead (numbers_of n.runs n.attempts parts) n
 unfolding numbers_of bytes_of number_in
 spelled_read reads n parts k h = record {
   long = omega arith;
@@ -50,10 +50,10 @@ spelled_read reads n parts k h = record {
   kept = spelled_counted reads parts n.kept h k.count;
 }
 
-numbers_read : SpelledAreRead → (bytes : List ℕ) (n : Noted) → IsNoted n → Numbers bytes n → AreRead bytes n
+numbers_read : SpelledAreRead → (bytes : List ℕ) (n : ClientNote) → IsNoted n → Numbers bytes n → AreRead bytes n
 numbers_read reads bytes n k a = subst (λ l. AreRead l n) (sym a.spelled) (spelled_read reads n a.parts k a.states)
 
-same_noted : (bytes : List ℕ) (n m : Noted) → n.generation ≡ m.generation → AreRead bytes n → AreRead bytes m → n ≡ m
+same_noted : (bytes : List ℕ) (n m : ClientNote) → n.generation ≡ m.generation → AreRead bytes n → AreRead bytes m → n ≡ m
 same_noted bytes n m g a b =
     let r : n.runs ≡ m.runs = sym a.runs ∙ b.runs in
     let t : n.attempts ≡ m.attempts = sym a.attempts ∙ b.attempts in
@@ -63,19 +63,19 @@ same_noted bytes n m g a b =
 -- ---- the magic and the generation
 
 -- the bytes are a note of this layout, which says its generation
-pub record IsNew (bytes : List ℕ) (n : Noted) : Type 0 where
+pub record IsNew (bytes : List ℕ) (n : ClientNote) : Type 0 where
   pub mark : take 4 bytes ≡ codes "FCC2"
   pub long : 8 ≤ length (drop 4 bytes)
   pub generation : number_in w64 (drop 4 bytes) ≡ n.generation
   pub numbers : Numbers (drop 8 (drop 4 bytes)) n
 
 -- the bytes are an old note, which is of none
-pub record IsOld (bytes : List ℕ) (n : Noted) : Type 0 where
+pub record IsOld (bytes : List ℕ) (n : ClientNote) : Type 0 where
   pub mark : take 4 bytes ≡ codes "FCC1"
   pub generation : n.generation ≡ 0
   pub numbers : Numbers (drop 4 bytes) n
 
-new_parts : (n : Noted) (parts : List (List ℕ)) → IsNoted n → SayStates parts n.kept → IsNew (note_of n.generation n.runs n.attempts parts) n
+new_parts : (n : ClientNote) (parts : List (List ℕ)) → IsNoted n → SayStates parts n.kept → IsNew (note_of n.generation n.runs n.attempts parts) n
 unfolding note_of bytes_of number_in
 new_parts n parts k h =
     let low : n.generation ≤ MAX_GENERATION = k.generation in
@@ -87,12 +87,12 @@ new_parts n parts k h =
       numbers = record { parts = parts; spelled = refl; states = h };
     }
 
-old_parts : (n : Noted) (parts : List (List ℕ)) → n.generation ≡ 0 → SayStates parts n.kept → IsOld (old_note_of n.runs n.attempts parts) n
+old_parts : (n : ClientNote) (parts : List (List ℕ)) → n.generation ≡ 0 → SayStates parts n.kept → IsOld (old_note_of n.runs n.attempts parts) n
 unfolding old_note_of
 old_parts n parts g h = record { mark = refl; generation = g; numbers = record { parts = parts; spelled = refl; states = h } }
 
 -- bytes that aren't empty, and say a note
-pub says_parts : (bytes : List ℕ) (n : Noted) → Says bytes n → (bytes ≡ [] → ⊥) → IsNew bytes n ⊎ IsOld bytes n
+pub says_parts : (bytes : List ℕ) (n : ClientNote) → Says bytes n → (bytes ≡ [] → ⊥) → IsNew bytes n ⊎ IsOld bytes n
 says_parts bytes n s some = by s.spelled
   where
     by_note : (a : Spells bytes n) → IsNote bytes n a.parts → IsNew bytes n ⊎ IsOld bytes n
@@ -104,22 +104,22 @@ says_parts bytes n s some = by s.spelled
     by (inr a) = absurd (some a.0)
 
 -- no note but the blank one is empty
-not_empty : (n : Noted) (parts : List (List ℕ)) → IsNote [] n parts → ⊥
+not_empty : (n : ClientNote) (parts : List (List ℕ)) → IsNote [] n parts → ⊥
 unfolding note_of old_note_of bytes_of
 not_empty n parts (inl e) = cc
 not_empty n parts (inr e) = let x = e.1 in cc
 
-blank_by : (bytes : List ℕ) (n : Noted) → bytes ≡ [] → Spells bytes n ⊎ ((bytes ≡ []) × (n ≡ blank)) → n ≡ blank
+blank_by : (bytes : List ℕ) (n : ClientNote) → bytes ≡ [] → Spells bytes n ⊎ ((bytes ≡ []) × (n ≡ blank)) → n ≡ blank
 blank_by bytes n e (inl a) = absurd (not_empty n a.parts (subst (λ l. IsNote l n a.parts) e a.spelled))
 blank_by bytes n e (inr a) = a.1
 
-pub says_blank : (n : Noted) → Says [] n → n ≡ blank
+pub says_blank : (n : ClientNote) → Says [] n → n ≡ blank
 says_blank n s = blank_by [] n refl s.spelled
 
 two_marks : (bytes : List ℕ) → take 4 bytes ≡ codes "FCC2" → take 4 bytes ≡ codes "FCC1" → ⊥
 two_marks bytes a b = let e : 50 ≡ 49 = ap (λ l. get_or l 3 0) (sym a ∙ b) in let f : true ≡ false = ap (λ n. 50 == n) e in cc
 
-same_by : SpelledAreRead → (bytes : List ℕ) (n m : Noted) → IsNoted n → IsNoted m → IsNew bytes n ⊎ IsOld bytes n → IsNew bytes m ⊎ IsOld bytes m → n ≡ m
+same_by : SpelledAreRead → (bytes : List ℕ) (n m : ClientNote) → IsNoted n → IsNoted m → IsNew bytes n ⊎ IsOld bytes n → IsNew bytes m ⊎ IsOld bytes m → n ≡ m
 same_by reads bytes n m k l (inl a) (inl b) =
     same_noted _ n m (sym a.generation ∙ b.generation) (numbers_read reads _ n k a.numbers) (numbers_read reads _ m l b.numbers)
 same_by reads bytes n m k l (inr a) (inr b) =
@@ -169,7 +169,7 @@ numbers_say reads spelled bytes generation runs attempts count kept h long low r
     )
 
 -- an old note
-pub old_says : (bytes : List ℕ) (n : Noted) → take 4 bytes ≡ codes "FCC1" → n.generation ≡ 0 → IsNoted n → Numbers (drop 4 bytes) n → Says bytes n
+pub old_says : (bytes : List ℕ) (n : ClientNote) → take 4 bytes ≡ codes "FCC1" → n.generation ≡ 0 → IsNoted n → Numbers (drop 4 bytes) n → Says bytes n
 unfolding old_note_of
 old_says bytes n mark g k numbers =
     let whole : bytes ≡ codes "FCC1" ++ numbers_of n.runs n.attempts numbers.parts =
@@ -177,7 +177,7 @@ old_says bytes n mark g k numbers =
     record { note = k; spelled = inl (record { parts = numbers.parts; spelled = inr (g, whole); states = numbers.states }) }
 
 -- a note of this layout
-pub new_says : (bytes : List ℕ) (generation : ℕ) (n : Noted) → IsBytes bytes → take 4 bytes ≡ codes "FCC2" → 8 ≤ length (drop 4 bytes)
+pub new_says : (bytes : List ℕ) (generation : ℕ) (n : ClientNote) → IsBytes bytes → take 4 bytes ≡ codes "FCC2" → 8 ≤ length (drop 4 bytes)
     → generation ≡ number_in w64 (drop 4 bytes) → n.generation ≡ generation → IsNoted n → Numbers (drop 8 (drop 4 bytes)) n → Says bytes n
 unfolding note_of bytes_of number_in field
 new_says bytes generation n h mark long g same k numbers =
@@ -189,7 +189,7 @@ new_says bytes generation n h mark long g same k numbers =
     record { note = k; spelled = inl (record { parts = numbers.parts; spelled = inl whole; states = numbers.states }) }
 
 -- what is put together is the spelling
-pub encoded : (n : Noted) (count : ℕ) (states : List State) (a b c d e f g : List ℕ) → count ≡ length n.kept → states ≡ n.kept → a ≡ [] → b ≡ a ++ codes "FCC2"
+pub encoded : (n : ClientNote) (count : ℕ) (states : List State) (a b c d e f g : List ℕ) → count ≡ length n.kept → states ≡ n.kept → a ≡ [] → b ≡ a ++ codes "FCC2"
     → c ≡ b ++ bytes_of w64 n.generation → d ≡ c ++ bytes_of w64 n.runs → e ≡ d ++ bytes_of w64 n.attempts
     → f ≡ e ++ bytes_of w32 count → g ≡ f ++ flat_map (λ s. counted_bytes (state_bytes s)) states → g ≡ spelling n
 unfolding note_of numbers_of bytes_of number_in
@@ -215,30 +215,30 @@ pub is_equal : (bytes mark : List ℕ) → bytes_eq bytes mark ≡ true → byte
 is_equal bytes mark h = (bytes_eq-Decides bytes mark).0 h
 
 -- what is no old note is one of this layout
-pub is_new : (bytes : List ℕ) (n : Noted) → (bytes ≡ [] → ⊥) → bytes_eq (take 4 bytes) (codes "FCC1") ≡ false → Says bytes n → IsNew bytes n
+pub is_new : (bytes : List ℕ) (n : ClientNote) → (bytes ≡ [] → ⊥) → bytes_eq (take 4 bytes) (codes "FCC1") ≡ false → Says bytes n → IsNew bytes n
 is_new bytes n some h s = elim (says_parts bytes n s some) [
   | inl a ↦ a
   | inr a ↦ absurd (is_marked bytes (codes "FCC1") a.mark h)
 ]
 
-pub is_old : (bytes : List ℕ) (n : Noted) → (bytes ≡ [] → ⊥) → take 4 bytes ≡ codes "FCC1" → Says bytes n → IsOld bytes n
+pub is_old : (bytes : List ℕ) (n : ClientNote) → (bytes ≡ [] → ⊥) → take 4 bytes ≡ codes "FCC1" → Says bytes n → IsOld bytes n
 is_old bytes n some mark s = elim (says_parts bytes n s some) [
   | inl a ↦ absurd (two_marks bytes a.mark mark)
   | inr a ↦ a
 ]
 
-pub no_magic : (bytes : List ℕ) (n : Noted) → (bytes ≡ [] → ⊥) → bytes_eq (take 4 bytes) (codes "FCC1") ≡ false → bytes_eq (take 4 bytes) (codes "FCC2") ≡ false
+pub no_magic : (bytes : List ℕ) (n : ClientNote) → (bytes ≡ [] → ⊥) → bytes_eq (take 4 bytes) (codes "FCC1") ≡ false → bytes_eq (take 4 bytes) (codes "FCC2") ≡ false
     → Says bytes n → ⊥
 no_magic bytes n some old new s = is_marked bytes (codes "FCC2") (is_new bytes n some old s).mark new
 
-pub too_short : SpelledAreRead → (bytes : List ℕ) (n : Noted) → length bytes < 20 → IsNoted n → Numbers bytes n → ⊥
+pub too_short : SpelledAreRead → (bytes : List ℕ) (n : ClientNote) → length bytes < 20 → IsNoted n → Numbers bytes n → ⊥
 too_short reads bytes n h k a = let l : 20 ≤ length bytes = (numbers_read reads bytes n k a).long in absurd (omega arith)
 
-pub too_many : SpelledAreRead → (bytes : List ℕ) (n : Noted) (count : ℕ) → count ≡ number_in w32 (after_attempts bytes) → KEPT_LIMIT < count → IsNoted n
+pub too_many : SpelledAreRead → (bytes : List ℕ) (n : ClientNote) (count : ℕ) → count ≡ number_in w32 (after_attempts bytes) → KEPT_LIMIT < count → IsNoted n
     → Numbers bytes n → ⊥
 too_many reads bytes n count c h k a = too_many_states (after_attempts bytes) n.kept count c h (numbers_read reads bytes n k a).kept k.count
 
-pub no_states : SpelledAreRead → (bytes : List ℕ) (n : Noted) (count : ℕ) → count ≡ number_in w32 (after_attempts bytes)
+pub no_states : SpelledAreRead → (bytes : List ℕ) (n : ClientNote) (count : ℕ) → count ≡ number_in w32 (after_attempts bytes)
     → ReadsStates count (drop 4 (after_attempts bytes)) None → IsNoted n → Numbers bytes n → ⊥
 no_states reads bytes n count c h k a = no_states_read (after_attempts bytes) n.kept count c h (numbers_read reads bytes n k a).kept k.keys
 
@@ -253,21 +253,21 @@ pub begins_states : {A E : Type 0} (r : Result A E) (bytes rest : List ℕ) → 
 begins_states (Ok x) bytes rest mark is h = tt
 begins_states (Err e) bytes rest mark is h = inl (mark, subst TellsStates (is ∙ drop-drop 8 4 bytes) h)
 
-pub reads_old : (bytes rest : List ℕ) → (bytes ≡ [] → ⊥) → take 4 bytes ≡ codes "FCC1" → rest ≡ drop 4 bytes → (x : Option Noted) → ReadsNumbers 0 rest x
+pub reads_old : (bytes rest : List ℕ) → (bytes ≡ [] → ⊥) → take 4 bytes ≡ codes "FCC1" → rest ≡ drop 4 bytes → (x : Option ClientNote) → ReadsNumbers 0 rest x
     → Reads bytes x
 reads_old bytes rest some mark is (Some n) h = old_says bytes n mark h.0 h.1 (subst (λ l. Numbers l n) is h.2)
 reads_old bytes rest some mark is None h = λ n s. h n s.note (subst (λ l. Numbers l n) (sym is) (is_old bytes n some mark s).numbers)
 
 pub reads_new : (bytes rest : List ℕ) (generation : ℕ) → (bytes ≡ [] → ⊥) → IsBytes bytes → bytes_eq (take 4 bytes) (codes "FCC1") ≡ false
     → take 4 bytes ≡ codes "FCC2" → 8 ≤ length (drop 4 bytes) → generation ≡ number_in w64 (drop 4 bytes) → rest ≡ drop 8 (drop 4 bytes)
-    → (x : Option Noted) → ReadsNumbers generation rest x → Reads bytes x
+    → (x : Option ClientNote) → ReadsNumbers generation rest x → Reads bytes x
 reads_new bytes rest generation some h other mark long g is (Some n) r = new_says bytes generation n h mark long g r.0 r.1 (subst (λ l. Numbers l n) is r.2)
 reads_new bytes rest generation some h other mark long g is None r = λ n s. r n s.note (subst (λ l. Numbers l n) (sym is) (is_new bytes n some other s).numbers)
 
-pub short_note : (bytes : List ℕ) (n : Noted) → (bytes ≡ [] → ⊥) → bytes_eq (take 4 bytes) (codes "FCC1") ≡ false → length (drop 4 bytes) < 8 → Says bytes n → ⊥
+pub short_note : (bytes : List ℕ) (n : ClientNote) → (bytes ≡ [] → ⊥) → bytes_eq (take 4 bytes) (codes "FCC1") ≡ false → length (drop 4 bytes) < 8 → Says bytes n → ⊥
 short_note bytes n some other short s = let l : 8 ≤ length (drop 4 bytes) = (is_new bytes n some other s).long in absurd (omega arith)
 
-pub past_generation : (bytes : List ℕ) (n : Noted) (generation : ℕ) → (bytes ≡ [] → ⊥) → bytes_eq (take 4 bytes) (codes "FCC1") ≡ false
+pub past_generation : (bytes : List ℕ) (n : ClientNote) (generation : ℕ) → (bytes ≡ [] → ⊥) → bytes_eq (take 4 bytes) (codes "FCC1") ≡ false
     → generation ≡ number_in w64 (drop 4 bytes) → MAX_GENERATION < generation → Says bytes n → ⊥
 past_generation bytes n generation some other g past s =
     let e : generation ≡ n.generation = g ∙ (is_new bytes n some other s).generation in

@@ -18,7 +18,7 @@ use Rattle.client_core.specs.declared.call.Call.TheVariants.{Begin, Trigger, Sto
 use Rattle.fc_base.specs.declared.limits.TheConstants.{MAX_GENERATION}
 use Rattle.state_table.specs.Kept.{kept_of}
 use Rattle.state_table.specs.Laws.{KeysStayApart}
-use Rattle.client_core.specs.declared.noted.Noted.{Noted}
+use Rattle.client_core.specs.declared.note.ClientNote.{ClientNote}
 use Rattle.client_core.specs.declared.peers.Peers.{Peers}
 use Rattle.client_core.specs.Note.{IsNoted, blank, is_blank, new_note}
 use Rattle.client_core.specs.History.{Entry, Met, Cut, Restart, Renew, Lose}
@@ -45,7 +45,7 @@ of_renewed g h =
 of_blank : IsNoted blank
 of_blank = record { generation = omega arith; runs = omega arith; attempts = omega arith; count = omega arith; states = tt; keys = refl }
 
-kept_by_renewal : (b : Bool) (g : ℕ) (n : Noted) → (b ≡ true → is_generation g ≡ true) → IsNoted n → IsNoted (if b then new_note g else n)
+kept_by_renewal : (b : Bool) (g : ℕ) (n : ClientNote) → (b ≡ true → is_generation g ≡ true) → IsNoted n → IsNoted (if b then new_note g else n)
 kept_by_renewal true g n f k = of_renewed g (f refl)
 kept_by_renewal false g n f k = k
 
@@ -63,15 +63,15 @@ verify_faults true true false d h = cc
 verify_faults true false c d h = cc
 verify_faults false b c d h = cc
 
-pub one_run : (new : Bool) (n : Noted) → n.runs + 1 < 2 ^ 64 → IsNoted n → IsNoted (noted_after new (Some NextRun) n)
+pub one_run : (new : Bool) (n : ClientNote) → n.runs + 1 < 2 ^ 64 → IsNoted n → IsNoted (noted_after new (Some NextRun) n)
 one_run true n h k = record { generation = k.generation; runs = h; attempts = k.attempts; count = k.count; states = k.states; keys = k.keys }
 one_run false n h k = k
 
-pub one_attempt : (new : Bool) (n : Noted) → n.attempts + 1 < 2 ^ 64 → IsNoted n → IsNoted (noted_after new (Some NextAttempt) n)
+pub one_attempt : (new : Bool) (n : ClientNote) → n.attempts + 1 < 2 ^ 64 → IsNoted n → IsNoted (noted_after new (Some NextAttempt) n)
 one_attempt true n h k = record { generation = k.generation; runs = k.runs; attempts = h; count = k.count; states = k.states; keys = k.keys }
 one_attempt false n h k = k
 
-one_state : KeysStayApart → (new : Bool) (n : Noted) (x : Option State) (s : State) → kept_of s.key n.kept ≡ x → faults_of_state n.kept s ≡ [] → IsState s
+one_state : KeysStayApart → (new : Bool) (n : ClientNote) (x : Option State) (s : State) → kept_of s.key n.kept ≡ x → faults_of_state n.kept s ≡ [] → IsState s
     → IsNoted n → IsNoted (noted_after new (unless_kept x s) n)
 one_state apart new n (Some kept) s e free h k = k
 one_state apart true n None s e free h k = record {
@@ -84,13 +84,13 @@ one_state apart true n None s e free h k = record {
 }
 one_state apart false n None s e free h k = k
 
-pub body_step : KeysStayApart → (new : Bool) (n : Noted) (body : Body) → faults_of_body n body ≡ [] → KeepsState body → IsNoted n
+pub body_step : KeysStayApart → (new : Bool) (n : ClientNote) (body : Body) → faults_of_body n body ≡ [] → KeepsState body → IsNoted n
     → IsNoted (noted_after new (addition_by n body) n)
 body_step apart new n (bodies.State jobs s) e h k = one_state apart new n (kept_of s.key n.kept) s refl e h k
 body_step apart new n (bodies.Copy s) e h k = one_state apart new n (kept_of s.key n.kept) s refl e h k
 body_step apart new n _ e h k = k
 
-step : KeysStayApart → (on : Bool) (peers : Peers) (n : Noted) (c : Call) (left : Left) (r : Option Fault) → r ≡ refusal_by on peers n c
+step : KeysStayApart → (on : Bool) (peers : Peers) (n : ClientNote) (c : Call) (left : Left) (r : Option Fault) → r ≡ refusal_by on peers n c
     → AllByRecursion IsPacket (packet_in (Met c left)) → IsNoted n → IsNoted (noted_after (has_new left) (unless_refused r (addition_of n c)) n)
 step apart on peers n c left (Some f) e h k = k
 step apart on peers n (Begin text) left None e h k =
@@ -103,7 +103,7 @@ step apart on peers n (Verify run text) left None e h k =
 step apart on peers n (Deliver p) left None e h k = body_step apart (has_new left) n p.body ((taken_in on peers n p (sym e)).2) h.0.state k
 step apart on peers n Tick left None e h k = k
 
-ranged : (new : Bool) (g : ℕ) (n : Noted) → (new && may_renew g n) ≡ true → is_generation g ≡ true
+ranged : (new : Bool) (g : ℕ) (n : ClientNote) → (new && may_renew g n) ≡ true → is_generation g ≡ true
 ranged new g n h = (and_parts (is_generation g) (is_blank n) ((and_parts new (may_renew g n) h).1)).0
 
 pub in_entry : (e : Entry) (past : List Entry) → AllByRecursion IsPacket (packet_in e ++ packets_come past)

@@ -14,7 +14,7 @@ use Rattle.messages.specs.declared.node.Node.TheVariants as nodes
 use Rattle.messages.specs.Nodes.{node_number, is_client, is_mirror}
 use Rattle.client_core.specs.declared.call.Call.{Call}
 use Rattle.client_core.specs.declared.call.Call.TheVariants.{Deliver}
-use Rattle.client_core.specs.declared.noted.Noted.{Noted}
+use Rattle.client_core.specs.declared.note.ClientNote.{ClientNote}
 use Rattle.client_core.specs.declared.peers.Peers.{Peers}
 use Rattle.client_core.specs.History.{Opening, Entry, Met}
 use Rattle.client_core.specs.Refusals.{is_for_client, is_from_server, is_from_mirror, refusal_by}
@@ -22,7 +22,7 @@ use Rattle.client_core.specs.Saves.{Addition, NextRun, NextAttempt, Keep, noted_
 use Rattle.client_core.specs.Words.{is_on, has_mirror, granted_in, granted_by, granted_generations, after_grant, words_noted, due, refusal, peers}
 
 -- an addition leaves the generation
-pub generation_stays : (new : Bool) (d : Option Addition) (n : Noted) → (noted_after new d n).generation ≡ n.generation
+pub generation_stays : (new : Bool) (d : Option Addition) (n : ClientNote) → (noted_after new d n).generation ≡ n.generation
 generation_stays new None n = refl
 generation_stays true (Some NextRun) n = refl
 generation_stays true (Some NextAttempt) n = refl
@@ -51,7 +51,7 @@ peers_stay o past c left e = by_parts o past c left (grants_if (is_on past && ha
 
 -- ---- a refused call
 
-grant_of : (peers : Peers) (n : Noted) (from to : Node) (body : Body) (fault : Fault) → peers.mirror ≡ true
+grant_of : (peers : Peers) (n : ClientNote) (from to : Node) (body : Body) (fault : Fault) → peers.mirror ≡ true
     → refusal_by true peers n (Deliver (record { from = from; to = to; body = body })) ≡ Some fault
     → (if is_client to && is_mirror from then granted_in body else []) ≡ []
 unfolding is_for_client is_from_server is_from_mirror
@@ -70,7 +70,7 @@ grant_of peers n nodes.Client to body fault m h = no_sender (is_client to)
 grant_of peers n nodes.Mirror nodes.Mirror body fault m h = refl
 grant_of peers n nodes.Mirror (nodes.Server t) body fault m h = refl
 
-no_grant : (peers : Peers) (n : Noted) (c : Call) (fault : Fault) → peers.mirror ≡ true → refusal_by true peers n c ≡ Some fault → granted_by c ≡ []
+no_grant : (peers : Peers) (n : ClientNote) (c : Call) (fault : Fault) → peers.mirror ≡ true → refusal_by true peers n c ≡ Some fault → granted_by c ≡ []
 no_grant peers n (Deliver p) fault m h = grant_of peers n p.from p.to p.body fault m h
 no_grant peers n _ fault m h = refl
 

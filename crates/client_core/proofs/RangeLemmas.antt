@@ -20,7 +20,7 @@ use Rattle.client_core.specs.declared.call.Call.{Call}
 use Rattle.client_core.specs.declared.call.Call.TheVariants.{Begin, Trigger, Stop, Verify, Deliver, Tick}
 use Rattle.fc_base.specs.declared.limits.TheConstants.{MAX_GENERATION, MAX_JOBS, MAX_SERVERS}
 use Rattle.state_table.specs.Kept.{kept_of}
-use Rattle.client_core.specs.declared.noted.Noted.{Noted}
+use Rattle.client_core.specs.declared.note.ClientNote.{ClientNote}
 use Rattle.client_core.specs.declared.peers.Peers.{Peers}
 use Rattle.client_core.specs.Note.{IsNoted}
 use Rattle.client_core.specs.History.{Opening, Entry, Met, Cut, Restart, Renew, Lose}
@@ -45,7 +45,7 @@ run_within r last a b c =
     let y : nat_lt r (2 ^ 64) ≡ true = grind (arith, nat_tests) in
     rw (x, y) refl
 
-pub begun_in_range : (n : Noted) (run : ℕ) → is_begun n run ≡ true → n.runs < 2 ^ 64 → is_run run ≡ true
+pub begun_in_range : (n : ClientNote) (run : ℕ) → is_begun n run ≡ true → n.runs < 2 ^ 64 → is_run run ≡ true
 unfolding is_begun
 begun_in_range n run h l =
     let p = and_parts (nat_le 1 run) (nat_le run n.runs) h in
@@ -71,7 +71,7 @@ InRange (Stops r) = Unit {0}
 InRange (Verifies r a text) = (is_run r ≡ true) × (is_run a ≡ true) × (is_text text ≡ true)
 InRange (Hears s body) = Unit {0}
 
-deeds_in_range : (on : Bool) (servers : Peers) (n : Noted) (c : Call) → refusal_by on servers n c ≡ None → IsNoted n → AllByRecursion InRange (deeds_of n c)
+deeds_in_range : (on : Bool) (servers : Peers) (n : ClientNote) (c : Call) → refusal_by on servers n c ≡ None → IsNoted n → AllByRecursion InRange (deeds_of n c)
 deeds_in_range on servers n (Begin text) h k =
     let p = begin_faults on (is_text text) (has_next servers n.generation n.runs) h in ((next_in_range servers n.generation n.runs p.1, p.0), tt)
 deeds_in_range on servers n (Trigger run act) h k = (tt, tt)

@@ -15,7 +15,7 @@ use Rattle.client_core.specs.declared.call.Call.{Call}
 use Rattle.client_core.specs.declared.call.Call.TheVariants.{Deliver}
 use Rattle.state_table.specs.Kept.{kept_of}
 use Rattle.state_table.specs.Laws.{FoundHasItsKey, LastIsFound}
-use Rattle.client_core.specs.declared.noted.Noted.{Noted}
+use Rattle.client_core.specs.declared.note.ClientNote.{ClientNote}
 use Rattle.client_core.specs.History.{Opening, Entry, Met, Cut, Restart, Renew, Lose}
 use Rattle.client_core.specs.Saves.{unless_kept, unless_refused, noted_after, is_answer}
 use Rattle.client_core.specs.Words.{is_on, words_noted, peers, kept_state, refusal, is_answered}
@@ -27,7 +27,7 @@ use Rattle.client_core.proofs.HeardLemmas.{has_one, own_state, taken_in}
 use Rattle.fc_base.proofs.ListLemmas.{first_of, none_in}
 use Rattle.client_core.proofs.ReasonLemmas.{IsSaid, SendsTo, Why, WhyMirror, sent_why}
 
-client_kind : (n : Noted) (deeds : List Deed) (c : Call) (s : ℕ) (body : Body) → Why n deeds c s body → is_for_server (kind_of body) ≡ true
+client_kind : (n : ClientNote) (deeds : List Deed) (c : Call) (s : ℕ) (body : Body) → Why n deeds c s body → is_for_server (kind_of body) ≡ true
 client_kind n deeds c s (bodies.Jobs run text) w = refl
 client_kind n deeds c s (bodies.Start run) w = refl
 client_kind n deeds c s (bodies.Trigger run act) w = refl
@@ -38,7 +38,7 @@ client_kind n deeds c s (bodies.Saved attempt state) w = refl
 client_kind n deeds c s (bodies.NoSaved run attempt job) w = refl
 client_kind n deeds c s _ w = absurd w
 
-mirror_kind : (n : Noted) (c : Call) (body : Body) → WhyMirror n c body → is_for_mirror (kind_of body) ≡ true
+mirror_kind : (n : ClientNote) (c : Call) (body : Body) → WhyMirror n c body → is_for_mirror (kind_of body) ≡ true
 mirror_kind n c (bodies.Copy state) w = refl
 mirror_kind n c (bodies.Fetch generation) w = refl
 mirror_kind n c _ w = absurd w
@@ -94,7 +94,7 @@ copies_are_of_states o past (Renew g left) p state h e = absurd (none_in p h)
 copies_are_of_states o past Lose p state h e = absurd (none_in p h)
 
 -- a state that was answered is kept under its server's key
-answered_one : LastIsFound → (n : Noted) (left : Left) (state : State) (r : Option Fault)
+answered_one : LastIsFound → (n : ClientNote) (left : Left) (state : State) (r : Option Fault)
     → (is_none r && is_answer (unless_refused r (unless_kept (kept_of state.key n.kept) state)) left) ≡ true
     → (s : State) × (kept_of state.key (noted_after (has_new left) (unless_refused r (unless_kept (kept_of state.key n.kept) state)) n).kept ≡ Some s)
 answered_one last n left state None a = has_one last n left (kept_of state.key n.kept) state refl a
@@ -114,7 +114,7 @@ kept_by last o past c left jobs s state e a r =
           (words_noted o past) left state (refusal o past (Deliver p)) answers),
     )
 
-abbrev AckedFor : Noted → Entry → ℕ → ℕ → ℕ → Type 0
+abbrev AckedFor : ClientNote → Entry → ℕ → ℕ → ℕ → Type 0
 AckedFor after entry run server job =
     ((state : State) × (kept_of (record { run = run; server = server; job = job }) after.kept ≡ Some state))
     ⊎ ((jobs : ℕ) × Contains (packet_in entry) (from_server (bodies.NoState run job jobs) server))

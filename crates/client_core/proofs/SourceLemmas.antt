@@ -13,7 +13,7 @@ use Rattle.disk_model.specs.Left.{has_new}
 use Rattle.client_core.specs.declared.call.Call.{Call}
 use Rattle.client_core.specs.declared.call.Call.TheVariants.{Begin, Trigger, Stop, Verify, Deliver, Tick}
 use Rattle.state_table.specs.Kept.{kept_of}
-use Rattle.client_core.specs.declared.noted.Noted.{Noted}
+use Rattle.client_core.specs.declared.note.ClientNote.{ClientNote}
 use Rattle.client_core.specs.declared.peers.Peers.{Peers}
 use Rattle.client_core.specs.History.{Opening, Entry, Met, Cut, Restart, Renew, Lose}
 use Rattle.client_core.specs.Refusals.{is_for_client, refusal_by}
@@ -27,44 +27,44 @@ use Rattle.client_core.proofs.HeardLemmas.{taken_in}
 use Rattle.client_core.proofs.KeptLemmas.{Brought, state_brought, copy_brought, brought_later, brought_now}
 
 -- A state was in the note, or the packets brought it.
-abbrev IsFrom : Noted → List PacketParts → State → Type 0
+abbrev IsFrom : ClientNote → List PacketParts → State → Type 0
 IsFrom n packets s = Contains n.kept s ⊎ Brought packets s.key s
 
-run_keeps : (new : Bool) (r : Option Fault) (n : Noted) (s : State) → Contains (noted_after new (unless_refused r (Some NextRun)) n).kept s → Contains n.kept s
+run_keeps : (new : Bool) (r : Option Fault) (n : ClientNote) (s : State) → Contains (noted_after new (unless_refused r (Some NextRun)) n).kept s → Contains n.kept s
 run_keeps new (Some f) n s h = h
 run_keeps true None n s h = h
 run_keeps false None n s h = h
 
-attempt_keeps : (new : Bool) (r : Option Fault) (n : Noted) (s : State) → Contains (noted_after new (unless_refused r (Some NextAttempt)) n).kept s
+attempt_keeps : (new : Bool) (r : Option Fault) (n : ClientNote) (s : State) → Contains (noted_after new (unless_refused r (Some NextAttempt)) n).kept s
     → Contains n.kept s
 attempt_keeps new (Some f) n s h = h
 attempt_keeps true None n s h = h
 attempt_keeps false None n s h = h
 
-none_keeps : (new : Bool) (r : Option Fault) (n : Noted) (s : State) → Contains (noted_after new (unless_refused r None) n).kept s → Contains n.kept s
+none_keeps : (new : Bool) (r : Option Fault) (n : ClientNote) (s : State) → Contains (noted_after new (unless_refused r None) n).kept s → Contains n.kept s
 none_keeps new (Some f) n s h = h
 none_keeps new None n s h = h
 
 -- A state is in the note after a state was to be kept: it was there, or is that state.
-was_or_is : (n : Noted) (new : Bool) (state s : State) (before : Option State) → Contains (noted_after new (unless_kept before state) n).kept s
+was_or_is : (n : ClientNote) (new : Bool) (state s : State) (before : Option State) → Contains (noted_after new (unless_kept before state) n).kept s
     → Contains n.kept s ⊎ (state ≡ s)
 was_or_is n new state s (Some before) h = inl h
 was_or_is n true state s None h = Contains-push_cases n.kept state s h
 was_or_is n false state s None h = inl h
 
-by_state : (peers : Peers) (n : Noted) (from to : Node) (jobs : ℕ) (state s : State)
+by_state : (peers : Peers) (n : ClientNote) (from to : Node) (jobs : ℕ) (state s : State)
     → is_for_client peers (record { from = from; to = to; body = bodies.State jobs state }) ≡ true
     → Contains n.kept s ⊎ (state ≡ s) → IsFrom n (record { from = from; to = to; body = bodies.State jobs state } ∷ []) s
 by_state peers n from to jobs state s ours (inl h) = inl h
 by_state peers n from to jobs state s ours (inr e) = inr (state_brought peers from to jobs state s s.key ours e (ap (λ (x : State). x.key) e))
 
-by_copy : (peers : Peers) (n : Noted) (from to : Node) (state s : State)
+by_copy : (peers : Peers) (n : ClientNote) (from to : Node) (state s : State)
     → is_for_client peers (record { from = from; to = to; body = bodies.Copy state }) ≡ true
     → Contains n.kept s ⊎ (state ≡ s) → IsFrom n (record { from = from; to = to; body = bodies.Copy state } ∷ []) s
 by_copy peers n from to state s ours (inl h) = inl h
 by_copy peers n from to state s ours (inr e) = inr (copy_brought peers from to state s s.key ours e)
 
-by_packet : (peers : Peers) (n : Noted) (from to : Node) (body : Body) (s : State) (new : Bool) (r : Option Fault)
+by_packet : (peers : Peers) (n : ClientNote) (from to : Node) (body : Body) (s : State) (new : Bool) (r : Option Fault)
     → (r ≡ None → is_for_client peers (record { from = from; to = to; body = body }) ≡ true)
     → Contains (noted_after new (unless_refused r (addition_by n body)) n).kept s → IsFrom n (record { from = from; to = to; body = body } ∷ []) s
 by_packet peers n from to body s new (Some f) ours h = inl h
@@ -74,7 +74,7 @@ by_packet peers n from to (bodies.Copy state) s new None ours h =
     by_copy peers n from to state s (ours refl) (was_or_is n new state s (kept_of state.key n.kept) h)
 by_packet peers n from to _ s new None ours h = inl h
 
-by_call : (peers : Peers) (on : Bool) (n : Noted) (c : Call) (left : Left) (s : State) → Contains (noted_after (has_new left) (due_by on peers n c) n).kept s
+by_call : (peers : Peers) (on : Bool) (n : ClientNote) (c : Call) (left : Left) (s : State) → Contains (noted_after (has_new left) (due_by on peers n c) n).kept s
     → IsFrom n (packet_in (Met c left)) s
 by_call peers on n (Begin text) left s h = inl (run_keeps (has_new left) (refusal_by on peers n (Begin text)) n s h)
 by_call peers on n (Trigger run act) left s h = inl (none_keeps (has_new left) (refusal_by on peers n (Trigger run act)) n s h)
@@ -84,7 +84,7 @@ by_call peers on n (Deliver p) left s h =
     by_packet peers n p.from p.to p.body s (has_new left) (refusal_by on peers n (Deliver p)) (λ e. (taken_in on peers n p e).1) h
 by_call peers on n Tick left s h = inl (none_keeps (has_new left) (refusal_by on peers n Tick) n s h)
 
-renewal_keeps : (b : Bool) (g : ℕ) (n : Noted) (s : State) → Contains (if b then new_note g else n).kept s → Contains n.kept s
+renewal_keeps : (b : Bool) (g : ℕ) (n : ClientNote) (s : State) → Contains (if b then new_note g else n).kept s → Contains n.kept s
 renewal_keeps true g n s h = absurd (none_in s h)
 renewal_keeps false g n s h = h
 

@@ -12,7 +12,7 @@ use Rattle.messages.specs.declared.body.Body.TheVariants as bodies
 use Rattle.disk_model.specs.declared.left.Left.{Left}
 use Rattle.client_core.specs.declared.call.Call.{Call}
 use Rattle.client_core.specs.declared.call.Call.TheVariants.{Begin, Verify}
-use Rattle.client_core.specs.declared.noted.Noted.{Noted}
+use Rattle.client_core.specs.declared.note.ClientNote.{ClientNote}
 use Rattle.client_core.specs.History.{Opening, Entry, Met, Cut, Restart, Renew, Lose}
 use Rattle.client_core.specs.Words.{words_noted, is_answered}
 use Rattle.client_core.specs.Life.{Deed, Begins, Verifies, deeds_of, life, deeds_done, text_of, run_of, check_of}
@@ -49,7 +49,7 @@ done_stays o (Restart mirror) past d h = h
 done_stays o (Renew g left) past d h = h
 done_stays o Lose past d h = h
 
-now_done : (b : Bool) (c x : Call) (n : Noted) (d : Deed) (before : List Deed) → b ≡ true → c ≡ x → Contains (deeds_of n x) d
+now_done : (b : Bool) (c x : Call) (n : ClientNote) (d : Deed) (before : List Deed) → b ≡ true → c ≡ x → Contains (deeds_of n x) d
     → Contains (if b then deeds_of n c ++ before else before) d
 now_done true c x n d before t e h = Contains-append_left (deeds_of n c) before d (subst (λ y. Contains (deeds_of n y) d) (sym e) h)
 now_done false c x n d before t e h = cc

@@ -24,7 +24,7 @@ use Rattle.client_core.specs.declared.call.Call.{Call}
 use Rattle.client_core.specs.declared.call.Call.TheVariants.{Begin, Trigger, Stop, Verify, Deliver, Tick}
 use Rattle.state_table.specs.Kept.{kept_of}
 use Rattle.state_table.specs.Laws.{LastIsFound}
-use Rattle.client_core.specs.declared.noted.Noted.{Noted}
+use Rattle.client_core.specs.declared.note.ClientNote.{ClientNote}
 use Rattle.client_core.specs.declared.peers.Peers.{Peers}
 use Rattle.client_core.specs.History.{Opening, Entry, Met, Cut, Restart, Renew, Lose}
 use Rattle.client_core.specs.Refusals.{is_for_client, refusal_by}
@@ -41,31 +41,31 @@ use Rattle.client_core.proofs.HeardLemmas.{from_own, has_one, own_state, taken_i
 use Rattle.fc_base.proofs.ListLemmas.{all_weaker, one}
 
 -- what is known of what was told
-abbrev Told : Noted → List PacketParts → ℕ → ℕ → Telling → Type 0
+abbrev Told : ClientNote → List PacketParts → ℕ → ℕ → Telling → Type 0
 Told n packets run server t = HasAnswer n packets run server t.job × TellsJobs packets run server t.jobs
 
-abbrev Known : Noted → List PacketParts → ℕ → ℕ → Request → Type 0
+abbrev Known : ClientNote → List PacketParts → ℕ → ℕ → Request → Type 0
 Known n packets run server requests.Unasked = Unit {0}
 Known n packets run server (requests.Open ts) = AllByRecursion (Told n packets run server) ts
 Known n packets run server requests.Served = EndsWell n packets run server
 Known n packets run server (requests.Denied reason) = Unit {0}
 
 -- more is kept and more has come
-record Grows (n m : Noted) (packets more : List PacketParts) : Type 0 where
+record Grows (n m : ClientNote) (packets more : List PacketParts) : Type 0 where
   kept : (key : Key) (s : State) → kept_of key n.kept ≡ Some s → kept_of key m.kept ≡ Some s
   came : (p : PacketParts) → Contains packets p → Contains more p
 
-answer_grows : (n m : Noted) (packets more : List PacketParts) (run server job : ℕ) → Grows n m packets more → HasAnswer n packets run server job
+answer_grows : (n m : ClientNote) (packets more : List PacketParts) (run server job : ℕ) → Grows n m packets more → HasAnswer n packets run server job
     → HasAnswer m more run server job
 answer_grows n m packets more run server job g (inl a) = inl (a.0, g.kept (record { run = run; server = server; job = job }) a.0 a.1)
 answer_grows n m packets more run server job g (inr a) = inr (a.0, g.came (from_server (bodies.NoState run job a.0) server) a.1)
 
-jobs_grow : (n m : Noted) (packets more : List PacketParts) (run server jobs : ℕ) → Grows n m packets more → TellsJobs packets run server jobs
+jobs_grow : (n m : ClientNote) (packets more : List PacketParts) (run server jobs : ℕ) → Grows n m packets more → TellsJobs packets run server jobs
     → TellsJobs more run server jobs
 jobs_grow n m packets more run server jobs g (inl a) = inl (a.0, a.1, g.came (from_server (bodies.State jobs a.0) server) a.2)
 jobs_grow n m packets more run server jobs g (inr a) = inr (a.0, g.came (from_server (bodies.NoState run a.0 jobs) server) a.1)
 
-known_grows : (n m : Noted) (packets more : List PacketParts) (run server : ℕ) (q : Request) → Grows n m packets more → Known n packets run server q
+known_grows : (n m : ClientNote) (packets more : List PacketParts) (run server : ℕ) (q : Request) → Grows n m packets more → Known n packets run server q
     → Known m more run server q
 known_grows n m packets more run server requests.Unasked g k = tt
 known_grows n m packets more run server (requests.Open ts) g k =
@@ -79,7 +79,7 @@ known_grows n m packets more run server requests.Served g k = record {
 known_grows n m packets more run server (requests.Denied reason) g k = tt
 
 -- the first telling told the number of jobs
-first_told : (n : Noted) (packets : List PacketParts) (run server : ℕ) (t : Telling) (ts : List Telling) → AllByRecursion (Told n packets run server) (t ∷ ts)
+first_told : (n : ClientNote) (packets : List PacketParts) (run server : ℕ) (t : Telling) (ts : List Telling) → AllByRecursion (Told n packets run server) (t ∷ ts)
     → TellsJobs packets run server (jobs_told (t ∷ ts))
 first_told n packets run server t [] a = a.0.1
 first_told n packets run server t (u ∷ ts) a = first_told n packets run server u ts a.1
@@ -106,7 +106,7 @@ each_below f (suc n) j h l =
     go (inl m) g last = g m
     go (inr e) g last = rw e last
 
-found_told : (n : Noted) (packets : List PacketParts) (run server : ℕ) (ts : List Telling) (job : ℕ) → AllByRecursion (Told n packets run server) ts
+found_told : (n : ClientNote) (packets : List PacketParts) (run server : ℕ) (ts : List Telling) (job : ℕ) → AllByRecursion (Told n packets run server) ts
     → tells_of ts job ≡ true → HasAnswer n packets run server job
 found_told n packets run server [] job a h = cc
 found_told n packets run server (t ∷ ts) job a h = here (t.job == job) refl h (λ g. found_told n packets run server ts job a.1 g)
@@ -117,7 +117,7 @@ found_told n packets run server (t ∷ ts) job a h = here (t.job == job) refl h 
     here false e h f = f h
 
 -- an open request that is told of one more job
-ends : (n : Noted) (packets : List PacketParts) (run server : ℕ) (t : Telling) (ts : List Telling) (all misfit : Bool) → tells_all (t ∷ ts) ≡ all
+ends : (n : ClientNote) (packets : List PacketParts) (run server : ℕ) (t : Telling) (ts : List Telling) (all misfit : Bool) → tells_all (t ∷ ts) ≡ all
     → AllByRecursion (Told n packets run server) (t ∷ ts)
     → Known n packets run server (if all then (if misfit then requests.Denied reasons.Misfit else requests.Served) else requests.Open (t ∷ ts))
 ends n packets run server t ts true true e a = tt
@@ -128,14 +128,14 @@ ends n packets run server t ts true false e a = record {
 }
 ends n packets run server t ts false misfit e a = a
 
-told_one : (n : Noted) (packets : List PacketParts) (run server : ℕ) (t : Telling) (q : Request) → Told n packets run server t → Known n packets run server q
+told_one : (n : ClientNote) (packets : List PacketParts) (run server : ℕ) (t : Telling) (q : Request) → Told n packets run server t → Known n packets run server q
     → Known n packets run server (when_one_tells t q)
 told_one n packets run server t (requests.Open ts) h k = ends n packets run server t ts (tells_all (t ∷ ts)) (has_misfit (t ∷ ts)) refl (h, k)
 told_one n packets run server t requests.Unasked h k = tt
 told_one n packets run server t requests.Served h k = k
 told_one n packets run server t (requests.Denied reason) h k = tt
 
-refused_one : (n : Noted) (packets : List PacketParts) (run server : ℕ) (reason : Reason) (q : Request) → Known n packets run server q
+refused_one : (n : ClientNote) (packets : List PacketParts) (run server : ℕ) (reason : Reason) (q : Request) → Known n packets run server q
     → Known n packets run server (when_refused reason q)
 refused_one n packets run server reasons.Busy q k = k
 refused_one n packets run server reasons.Misfit q k = k
@@ -144,17 +144,17 @@ refused_one n packets run server reason requests.Unasked k = k
 refused_one n packets run server reason requests.Served k = k
 refused_one n packets run server reason (requests.Denied r) k = k
 
-denied : (n : Noted) (packets : List PacketParts) (run server : ℕ) (asked : Asked) (reason : Reason) (q : Request) → Known n packets run server q
+denied : (n : ClientNote) (packets : List PacketParts) (run server : ℕ) (asked : Asked) (reason : Reason) (q : Request) → Known n packets run server q
     → Known n packets run server (trigger_refused asked reason q)
 denied n packets run server asks.Trigger reason q k = refused_one n packets run server reason q k
 denied n packets run server _ reason q k = k
 
-either : (n : Noted) (packets : List PacketParts) (run server : ℕ) (b : Bool) (q r : Request) → (b ≡ true → Known n packets run server q)
+either : (n : ClientNote) (packets : List PacketParts) (run server : ℕ) (b : Bool) (q r : Request) → (b ≡ true → Known n packets run server q)
     → Known n packets run server r → Known n packets run server (if b then q else r)
 either n packets run server true q r f k = f refl
 either n packets run server false q r f k = k
 
-heard : LastIsFound → (servers : Peers) (n : Noted) (run server : ℕ) (from to : Node) (body : Body) (left : Left) (before : List PacketParts) (q : Request)
+heard : LastIsFound → (servers : Peers) (n : ClientNote) (run server : ℕ) (from to : Node) (body : Body) (left : Left) (before : List PacketParts) (q : Request)
     → is_for_client servers (record { from = from; to = to; body = body }) ≡ true → is_answer (addition_by n body) left ≡ true → node_number from ≡ server
     → Known (noted_after (has_new left) (addition_by n body) n) (record { from = from; to = to; body = body } ∷ before) run server q
     → Known (noted_after (has_new left) (addition_by n body) n) (record { from = from; to = to; body = body } ∷ before) run server (trigger_heard run body q)
@@ -198,7 +198,7 @@ heard last servers n run server from to (bodies.Refused r) left before q ours a 
     either n more run server (r.run == run) (trigger_refused r.asked r.reason q) q (λ e. denied n more run server r.asked r.reason q k) k
 heard last servers n run server from to _ left before q ours a here k = k
 
-called : LastIsFound → (on : Bool) (servers : Peers) (n : Noted) (c : Call) (left : Left) (before : List PacketParts) (run server : ℕ) (deeds : List Deed)
+called : LastIsFound → (on : Bool) (servers : Peers) (n : ClientNote) (c : Call) (left : Left) (before : List PacketParts) (run server : ℕ) (deeds : List Deed)
     (r : Option Fault) → r ≡ refusal_by on servers n c
     → Known (noted_after (has_new left) (unless_refused r (addition_of n c)) n) (packet_in (Met c left) ++ before) run server (trigger_at run server deeds)
     → Known (noted_after (has_new left) (unless_refused r (addition_of n c)) n) (packet_in (Met c left) ++ before) run server

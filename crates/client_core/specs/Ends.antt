@@ -7,7 +7,7 @@ use Rattle.disk_model.specs.Saving.{Save, Saves}
 use Rattle.disk_model.specs.Steps.{Steps}
 use Rattle.client_core.specs.declared.call.Call.{Call}
 use Rattle.client_core.specs.declared.packet_client.PacketClient.{PacketClient}
-use Rattle.client_core.specs.declared.noted.Noted.{Noted}
+use Rattle.client_core.specs.declared.note.ClientNote.{ClientNote}
 use Rattle.client_core.specs.Note.{spelling}
 use Rattle.client_core.specs.History.{Opening, Entry, Met}
 use Rattle.client_core.specs.Framed.{frame_bytes}
@@ -25,7 +25,7 @@ answered_entry o past c = Met c (saved_for (due o past c))
 abbrev pub steps : {T : Type 0} → (T → Note) → Opening →
     Steps (PacketClient T) Call Entry Addition (List (List ℕ))
 steps note o = record {
-  note = λ client. note client.notes;
+  note = λ client. note client.durable.notes;
   StandsFor = λ past client. StandsFor note client o past;
   refusal = refusal o;
   due = due o;
@@ -36,22 +36,27 @@ steps note o = record {
 }
 
 -- The save of what is noted so, and what it leaves of a client.
-abbrev pub save_of : {T : Type 0} → Noted → PacketClient T → PacketClient T → Save (PacketClient T)
+abbrev pub save_of : {T : Type 0} → ClientNote → PacketClient T → PacketClient T →
+    Save (PacketClient T)
 save_of noted old new = record {
   bytes = spelling noted;
-  saved = record old { notes = new.notes; noted = noted };
-  same = record old { notes = new.notes };
-  down = record old { notes = new.notes; down = true };
+  saved = record old {
+    durable = record { notes = new.durable.notes; down = old.durable.down };
+    noted = noted;
+  };
+  same = record old { durable = record { notes = new.durable.notes; down = old.durable.down } };
+  down = record old { durable = record { notes = new.durable.notes; down = true } };
 }
 
 -- How the save of an addition ends.
 abbrev pub Stores : {T : Type 0} → (T → Note) → Addition → PacketClient T → PacketClient T →
     Result (Unit {0}) Fault → Type 0
 Stores note a old new result =
-    Saves (λ client. note client.notes) (save_of (with_addition a old.noted) old new) old new result
+    Saves (λ client. note client.durable.notes) (save_of (with_addition a old.noted) old new)
+    old new result
 
 -- How the save of what is noted ends.
 abbrev pub Writes : {T : Type 0} → (T → Note) → PacketClient T → PacketClient T →
     Result (Unit {0}) Fault → Type 0
 Writes note old new result =
-    Saves (λ client. note client.notes) (save_of old.noted old new) old new result
+    Saves (λ client. note client.durable.notes) (save_of old.noted old new) old new result

@@ -12,7 +12,7 @@ use Rattle.messages.specs.Ranges.{is_generation}
 use Rattle.client_core.specs.declared.client.Client.{Client}
 use Rattle.client_core.specs.declared.input.Input.{Input}
 use Rattle.client_core.specs.declared.input.Input.TheVariants.{Tick}
-use Rattle.client_core.specs.declared.noted.Noted.{Noted}
+use Rattle.client_core.specs.declared.note.ClientNote.{ClientNote}
 use Rattle.client_core.specs.History.{Opening}
 use Rattle.client_core.specs.Note.{Says, new_note, spelling}
 use Rattle.client_core.specs.Words as words
@@ -25,7 +25,7 @@ use Rattle.client_core.specs.FrameAnswers.{sense, frames, refusal, due, answered
 
 -- What a client's note says, by what is said of its notes.
 abbrev pub note_in : {T : Type 0} → (T → Note) → Client T → Note
-note_in note client = note client.core.notes
+note_in note client = note client.core.durable.notes
 
 -- A client stands for a list of frames where its core stands for the packets that are heard in it,
 -- and, while it is on, keeps what has come together of pieces.
@@ -71,7 +71,7 @@ pub record Opens {T : Type 0} (note : T → Note) (servers : ℕ) (mirror : Bool
     (client : Client T) : Type 0 where
   pub same : note_in note client ≡ old
   pub some : mirror ≡ true → old.bytes ≢ []
-  pub said : Noted
+  pub said : ClientNote
   pub says : Says old.bytes said
   pub stands :
       (o : Opening) (past : List FrameEntry) → o.servers ≡ servers →

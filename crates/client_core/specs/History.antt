@@ -2,12 +2,12 @@
 use Rattle.std.specs.Prelude.{ℕ, Bool}
 use Rattle.disk_model.specs.declared.left.Left.{Left}
 use Rattle.client_core.specs.declared.call.Call.{Call}
-use Rattle.client_core.specs.declared.noted.Noted.{Noted}
+use Rattle.client_core.specs.declared.note.ClientNote.{ClientNote}
 
 -- How many servers a client drives, and what its note says at the opening.
 pub record Opening : Type 0 where
   pub servers : ℕ
-  pub noted : Noted
+  pub noted : ClientNote
 
 -- A call with what its save left in the note; a cut; a restart, which makes no save, with a mirror
 -- or without one; a renewal with this generation, which has a mirror, with what its save left; the

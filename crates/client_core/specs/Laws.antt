@@ -17,7 +17,7 @@ use Rattle.messages.specs.Laws.{IsPacket}
 use Rattle.client_core.specs.declared.call.Call.TheVariants.{Tick}
 use Rattle.client_core.specs.declared.received.Received.{Received}
 use Rattle.state_table.specs.Kept.{kept_of}
-use Rattle.client_core.specs.declared.noted.Noted.{Noted}
+use Rattle.client_core.specs.declared.note.ClientNote.{ClientNote}
 use Rattle.client_core.specs.Note.{IsNoted, blank, is_blank}
 use Rattle.client_core.specs.History.{Opening, Entry, Met, Restart, Renew, Lose}
 use Rattle.client_core.specs.Words.{is_on, has_mirror, words_noted, kept_state, shown_entries}
@@ -210,7 +210,7 @@ NotesKeepRanges =
     → IsNoted (words_noted o past)
 
 -- A state of the job is kept, or the server has said that there is none.
-abbrev pub HasAnswer : Noted → List PacketParts → ℕ → ℕ → ℕ → Type 0
+abbrev pub HasAnswer : ClientNote → List PacketParts → ℕ → ℕ → ℕ → Type 0
 HasAnswer n packets run server job =
     ((state : State)
     × (kept_of (record { run = run; server = server; job = job }) n.kept ≡ Some state))
@@ -224,7 +224,7 @@ TellsJobs packets run server jobs =
     ⊎ ((job : ℕ) × Contains packets (from_server (bodies.NoState run job jobs) server))
 
 -- Each job that the run has at a server has an answer.
-pub record EndsWell (n : Noted) (packets : List PacketParts) (run server : ℕ) : Type 0 where
+pub record EndsWell (n : ClientNote) (packets : List PacketParts) (run server : ℕ) : Type 0 where
   pub jobs : ℕ
   pub told : TellsJobs packets run server jobs
   pub each : (job : ℕ) → job < jobs → HasAnswer n packets run server job

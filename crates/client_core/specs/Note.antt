@@ -10,19 +10,19 @@ use Rattle.verify_state.specs.Spelling.{spelling as state_bytes}
 use Rattle.state_table.specs.Counted.{counted_states, SayStates}
 use Rattle.state_table.specs.Kept.{has_distinct_keys}
 use Rattle.state_table.specs.Reading.{HoldStates}
-use Rattle.client_core.specs.declared.noted.Noted.{Noted}
+use Rattle.client_core.specs.declared.note.ClientNote.{ClientNote}
 
 -- What a blank note says.
-abbrev pub blank : Noted
+abbrev pub blank : ClientNote
 blank = record { generation = 0; runs = 0; attempts = 0; kept = [] }
 
 -- What a note says that begins anew: the numbers of each generation are above those of the ones
 -- before.
-abbrev pub new_note : ℕ → Noted
+abbrev pub new_note : ℕ → ClientNote
 new_note g = record { generation = g; runs = g * 2 ^ 32; attempts = g * 2 ^ 32; kept = [] }
 
 -- The note says that.
-abbrev pub is_blank : Noted → Bool
+abbrev pub is_blank : ClientNote → Bool
 is_blank n =
     (n.generation == 0) && ((n.runs == 0) && ((n.attempts == 0) && (length n.kept == 0)))
 
@@ -42,12 +42,12 @@ unfoldable pub old_note_of : ℕ → ℕ → List (List ℕ) → List ℕ
 old_note_of runs attempts states = codes "FCC1" ++ numbers_of runs attempts states
 
 -- How a note is written: with each state in its one spelling.
-abbrev pub spelling : Noted → List ℕ
+abbrev pub spelling : ClientNote → List ℕ
 spelling n = note_of n.generation n.runs n.attempts (map state_bytes n.kept)
 
 -- What every note keeps: a generation of four bytes, numbers of eight, and at most 1,024 states,
 -- all of different keys.
-pub record IsNoted (n : Noted) : Type 0 where
+pub record IsNoted (n : ClientNote) : Type 0 where
   pub generation : n.generation ≤ MAX_GENERATION
   pub runs : n.runs < 2 ^ 64
   pub attempts : n.attempts < 2 ^ 64
@@ -56,37 +56,37 @@ pub record IsNoted (n : Noted) : Type 0 where
   pub keys : IsTrue (has_distinct_keys n.kept)
 
 -- The bytes are a note that says this, with these bytes of states. An old one says generation 0.
-abbrev pub IsNote : List ℕ → Noted → List (List ℕ) → Type 0
+abbrev pub IsNote : List ℕ → ClientNote → List (List ℕ) → Type 0
 IsNote bytes n parts =
     (bytes ≡ note_of n.generation n.runs n.attempts parts)
     ⊎ ((n.generation ≡ 0) × (bytes ≡ old_note_of n.runs n.attempts parts))
 
 -- The bytes are a note, and their states are these.
-pub record Spells (bytes : List ℕ) (n : Noted) : Type 0 where
+pub record Spells (bytes : List ℕ) (n : ClientNote) : Type 0 where
   pub parts : List (List ℕ)
   pub spelled : IsNote bytes n parts
   pub states : SayStates parts n.kept
 
 -- The bytes say this note. No bytes at all are a blank one.
-pub record Says (bytes : List ℕ) (n : Noted) : Type 0 where
+pub record Says (bytes : List ℕ) (n : ClientNote) : Type 0 where
   pub note : IsNoted n
   pub spelled : Spells bytes n ⊎ ((bytes ≡ []) × (n ≡ blank))
 
 -- The bytes are what stands behind a note's generation, where the note says this.
-pub record Numbers (bytes : List ℕ) (n : Noted) : Type 0 where
+pub record Numbers (bytes : List ℕ) (n : ClientNote) : Type 0 where
   pub parts : List (List ℕ)
   pub spelled : bytes ≡ numbers_of n.runs n.attempts parts
   pub states : SayStates parts n.kept
 
 -- A reader gives what the bytes say behind a generation, and nothing where they say nothing.
-abbrev pub ReadsNumbers : ℕ → List ℕ → Option Noted → Type 0
+abbrev pub ReadsNumbers : ℕ → List ℕ → Option ClientNote → Type 0
 ReadsNumbers generation bytes (Some n) = (n.generation ≡ generation) × IsNoted n × Numbers bytes n
-ReadsNumbers generation bytes None = (n : Noted) → IsNoted n → Numbers bytes n → ⊥
+ReadsNumbers generation bytes None = (n : ClientNote) → IsNoted n → Numbers bytes n → ⊥
 
 -- A reader gives what the bytes say, and nothing where they say nothing.
-abbrev pub Reads : List ℕ → Option Noted → Type 0
+abbrev pub Reads : List ℕ → Option ClientNote → Type 0
 Reads bytes (Some n) = Says bytes n
-Reads bytes None = (n : Noted) → Says bytes n → ⊥
+Reads bytes None = (n : ClientNote) → Says bytes n → ⊥
 
 -- What stands behind a note's generation tells of 1 to 1,024 states, and holds so many sound ones.
 pub record TellsStates (bytes : List ℕ) : Type 0 where
@@ -101,8 +101,8 @@ HasStates bytes =
 
 -- Bytes say one thing at most.
 abbrev pub SaysOneThing : Type 0
-SaysOneThing = (bytes : List ℕ) (n m : Noted) → Says bytes n → Says bytes m → n ≡ m
+SaysOneThing = (bytes : List ℕ) (n m : ClientNote) → Says bytes n → Says bytes m → n ≡ m
 
 -- What is written says what it was written of.
 abbrev pub SaysWhatIsWritten : Type 0
-SaysWhatIsWritten = (n : Noted) → IsNoted n → Says (spelling n) n
+SaysWhatIsWritten = (n : ClientNote) → IsNoted n → Says (spelling n) n

@@ -17,7 +17,7 @@ use Rattle.messages.specs.Nodes.{node_number}
 use Rattle.client_core.specs.declared.call.Call.{Call}
 use Rattle.client_core.specs.declared.call.Call.TheVariants.{Begin, Trigger, Stop, Verify, Deliver, Tick}
 use Rattle.state_table.specs.Kept.{kept_of}
-use Rattle.client_core.specs.declared.noted.Noted.{Noted}
+use Rattle.client_core.specs.declared.note.ClientNote.{ClientNote}
 use Rattle.client_core.specs.declared.peers.Peers.{Peers}
 use Rattle.client_core.specs.History.{Opening, Entry, Met, Cut, Restart, Renew, Lose}
 use Rattle.client_core.specs.Words.{words_noted, peers, is_answered}
@@ -67,7 +67,7 @@ copy_for true state None = to_mirror (bodies.Copy state) ∷ []
 copy_for _ state _ = []
 
 -- What is replied to a server, by what was kept and done before. Nothing is replied to the mirror.
-abbrev pub replies : Bool → Noted → List Deed → ℕ → Body → List PacketParts
+abbrev pub replies : Bool → ClientNote → List Deed → ℕ → Body → List PacketParts
 replies mirror n deeds server (bodies.JobsOk run jobs) =
     start_for run server (begin_at run server deeds)
 replies mirror n deeds server (bodies.State jobs state) =
@@ -147,13 +147,13 @@ abbrev pub copies_again : Bool → List State → List Deed → List PacketParts
 copies_again mirror states deeds = if mirror then flat_map (copy_again deeds) states else []
 
 -- The grant, the requests and the copies.
-abbrev pub all_again : Peers → Noted → List Deed → List PacketParts
+abbrev pub all_again : Peers → ClientNote → List Deed → List PacketParts
 all_again peers n deeds =
     fetch_again peers n.generation
     ++ (requests_again peers.servers deeds ++ copies_again peers.mirror n.kept deeds)
 
 -- What an answered call sends, by what was noted and done before it.
-abbrev pub packets_for : Peers → Noted → List Deed → Call → List PacketParts
+abbrev pub packets_for : Peers → ClientNote → List Deed → Call → List PacketParts
 packets_for peers n deeds (Begin text) = to_all peers.servers (bodies.Jobs (n.runs + 1) text)
 packets_for peers n deeds (Trigger run act) = to_all peers.servers (bodies.Trigger run act)
 packets_for peers n deeds (Stop run) = to_all peers.servers (bodies.Stop run)

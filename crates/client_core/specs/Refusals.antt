@@ -15,7 +15,7 @@ use Rattle.messages.specs.Ranges.{is_text}
 use Rattle.client_core.specs.declared.call.Call.{Call}
 use Rattle.client_core.specs.declared.call.Call.TheVariants.{Begin, Trigger, Stop, Verify, Deliver, Tick}
 pub use Rattle.state_table.specs.Refusals.{differs, lacks_room, faults_of_state}
-use Rattle.client_core.specs.declared.noted.Noted.{Noted}
+use Rattle.client_core.specs.declared.note.ClientNote.{ClientNote}
 use Rattle.client_core.specs.declared.peers.Peers.{Peers}
 
 -- The node is one of so many servers.
@@ -46,7 +46,7 @@ is_for_client peers p =
     is_client p.to && (is_from_server peers.servers p || is_from_mirror peers.mirror p)
 
 -- The run was begun: runs count from 1.
-unfoldable pub is_begun : Noted → ℕ → Bool
+unfoldable pub is_begun : ClientNote → ℕ → Bool
 is_begun n run = nat_le 1 run && nat_le run n.runs
 
 -- With a mirror, or in a generation, the number is below those of the next generation.
@@ -67,13 +67,13 @@ has_next peers generation used =
     && is_free_to_number peers.granted generation)
 
 -- Why what a server or the mirror says is refused.
-abbrev pub faults_of_body : Noted → Body → List Fault
+abbrev pub faults_of_body : ClientNote → Body → List Fault
 faults_of_body n (bodies.State jobs state) = faults_of_state n.kept state
 faults_of_body n (bodies.Copy state) = faults_of_state n.kept state
 faults_of_body n _ = []
 
 -- Why a call is refused by a client that is on, in the order in which it is told.
-abbrev pub faults_of : Peers → Noted → Call → List Fault
+abbrev pub faults_of : Peers → ClientNote → Call → List Fault
 faults_of peers n (Begin text) =
     when (not (is_text text)) JobTooLong
     ++ when (not (has_next peers n.generation n.runs)) NumbersSpent
@@ -88,5 +88,5 @@ faults_of peers n (Deliver p) =
 faults_of peers n Tick = []
 
 -- The first reason: a client that is off or down refuses every call.
-abbrev pub refusal_by : Bool → Peers → Noted → Call → Option Fault
+abbrev pub refusal_by : Bool → Peers → ClientNote → Call → Option Fault
 refusal_by on peers n c = slice_get (when (not on) Down ++ faults_of peers n c) 0

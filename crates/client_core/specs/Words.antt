@@ -16,7 +16,7 @@ use Rattle.client_core.specs.declared.call.Call.TheVariants.{Deliver}
 use Rattle.client_core.specs.declared.peers.Peers.{Peers}
 use Rattle.client_core.specs.Note.{blank, is_blank, new_note}
 use Rattle.state_table.specs.Kept.{kept_of}
-use Rattle.client_core.specs.declared.noted.Noted.{Noted}
+use Rattle.client_core.specs.declared.note.ClientNote.{ClientNote}
 use Rattle.client_core.specs.History.{Opening, Entry, Met, Cut, Restart, Renew, Lose}
 use Rattle.client_core.specs.Refusals.{refusal_by}
 use Rattle.client_core.specs.Saves.{Addition, due_by, noted_after, is_answer}
@@ -75,16 +75,16 @@ after_grant generation (bodies.Granted g) peers =
 after_grant generation _ peers = peers
 
 -- A client is renewed only with a number that a generation has, and where its note says nothing.
-abbrev pub may_renew : ℕ → Noted → Bool
+abbrev pub may_renew : ℕ → ClientNote → Bool
 may_renew g n = is_generation g && is_blank n
 
 -- The note says the generation where the new bytes are there.
-abbrev pub renewed_after : Bool → ℕ → Noted → Noted
+abbrev pub renewed_after : Bool → ℕ → ClientNote → ClientNote
 renewed_after new g n = if new && may_renew g n then new_note g else n
 
 -- What the note says: what it said at the opening, and what was added by each save that left the
 -- new bytes; the generation of a renewal; and nothing once it is lost.
-abbrev pub words_noted : Opening → List Entry → Noted
+abbrev pub words_noted : Opening → List Entry → ClientNote
 words_noted o [] = o.noted
 words_noted o (Met c left ∷ past) =
     noted_after (has_new left)

@@ -1,12 +1,14 @@
 //! A client over its durable note.
 
-ghost use Rattle.std.specs.Prelude.{◌≡◌, ◌≤◌, List};
+ghost use Rattle.std.specs.Prelude.{◌≡◌, ◌==◌, ◌≤◌, List, length};
 ghost use Rattle.std.specs.Option.{option_copied};
 ghost use Rattle.fc_base.specs.declared.limits.TheConstants.{MAX_SERVERS};
 
 mod ask;
 mod deliver;
 
+use crate::generation::NotedGeneration;
+use crate::note::{ClientNote, notes_are_read_back, one_note};
 use crate::outcome::{Outcome, RequestKind};
 use crate::packet_client::PacketClient;
 use crate::received::Received;
@@ -19,7 +21,6 @@ use verify_state::VerifyState;
 /// A client.
 #[derive(Drop)]
 pub struct Client<N> {
-    alloc: Global,
     core: PacketClient<N>,
     pieces: Assembly,
 }
@@ -47,13 +48,23 @@ impl<N: Notes> Client<N> {
         requires few { servers ≤ MAX_SERVERS }
         ensures { Restarts N.note servers mirror (N.note notes) result }
     {
-        let core = PacketClient::restart(alloc, servers, mirror, notes)?;
-        let pieces = Assembly::new(alloc);
-        Ok(Client {
-            alloc,
-            core,
-            pieces,
-        })
+        one_note();
+        let mut notes = notes;
+        let bytes = match notes.load() {
+            Ok(bytes) => bytes,
+            Err(fault) => return Err((notes, fault)),
+        };
+        if mirror && is_lost(&bytes) {
+            return Err((notes, Fault::BadNote));
+        }
+        match ClientNote::decode(alloc, &bytes) {
+            Ok(Some(noted)) => Ok(Client {
+                core: PacketClient::new(alloc, servers, mirror, notes, noted),
+                pieces: Assembly::new(alloc),
+            }),
+            Ok(None) => Err((notes, Fault::BadNote)),
+            Err(_) => Err((notes, Fault::NoMemory)),
+        }
     }
 
     /// Opens a client with a mirror, whose note was lost, in this generation, which is saved before it is
@@ -70,13 +81,29 @@ impl<N: Notes> Client<N> {
         requires few { servers ≤ MAX_SERVERS }
         ensures { Renews N.note servers generation (N.note notes) result }
     {
-        let core = PacketClient::renew(alloc, servers, notes, generation)?;
-        let pieces = Assembly::new(alloc);
-        Ok(Client {
-            alloc,
-            core,
-            pieces,
-        })
+        notes_are_read_back();
+        let Some(generation) = NotedGeneration::of_renewal(generation) else {
+            return Err((notes, Fault::BadGeneration));
+        };
+        let mut notes = notes;
+        let bytes = match notes.load() {
+            Ok(bytes) => bytes,
+            Err(fault) => return Err((notes, fault)),
+        };
+        if !is_lost(&bytes) {
+            return Err((notes, Fault::BadNote));
+        }
+        let noted = ClientNote::renewed(alloc, generation);
+        let Ok(bytes) = noted.encode(alloc) else {
+            return Err((notes, Fault::NoMemory));
+        };
+        match notes.save(&bytes) {
+            Ok(()) => Ok(Client {
+                core: PacketClient::new(alloc, servers, true, notes, noted),
+                pieces: Assembly::new(alloc),
+            }),
+            Err(fault) => Err((notes, fault)),
+        }
     }
 
     /// The notes of a client that is taken off.
@@ -85,12 +112,9 @@ impl<N: Notes> Client<N> {
         ensures says { (o : Opening) (past : List FrameEntry) → StandsFor N.note self o past →
             Says (N.note result).bytes (words_noted o (packets_heard o past)) }
     {
-        let Client {
-            alloc: _,
-            core,
-            pieces: _,
-        } = self;
-        core.off()
+        let Client { core, pieces: _ } = self;
+        let PacketClient { durable, .. } = core;
+        durable.into_notes()
     }
 
     /// The note that it keeps, as it is durable. Behind a failed save it is what that left.
@@ -99,7 +123,7 @@ impl<N: Notes> Client<N> {
         ensures says { (o : Opening) (past : List FrameEntry) → StandsFor N.note self.now o past →
             Says (N.note result.now).bytes (words_noted o (packets_heard o past)) }
     {
-        self.core.notes()
+        self.core.durable.notes()
     }
 
     /// Whether it is on: a client whose save failed is down until it is restarted.
@@ -107,7 +131,7 @@ impl<N: Notes> Client<N> {
         ensures { (o : Opening) (past : List FrameEntry) → StandsFor N.note self.now o past →
             result ≡ is_on (packets_heard o past) }
     {
-        self.core.on()
+        !self.core.durable.is_down()
     }
 
     /// The number up to which runs are used: without a generation, how many were begun. Where a save has
@@ -116,7 +140,7 @@ impl<N: Notes> Client<N> {
         ensures { (o : Opening) (past : List FrameEntry) → StandsFor N.note self.now o past →
             result ≡ (words_noted o (shown_entries (packets_heard o past))).runs }
     {
-        self.core.runs_used()
+        self.core.noted.runs
     }
 
     /// The number up to which attempts to verify are used, likewise. Where a save has failed, up to it.
@@ -124,7 +148,7 @@ impl<N: Notes> Client<N> {
         ensures { (o : Opening) (past : List FrameEntry) → StandsFor N.note self.now o past →
             result ≡ (words_noted o (shown_entries (packets_heard o past))).attempts }
     {
-        self.core.attempts_used()
+        self.core.noted.attempts
     }
 
     /// Whether its note says what a blank one says: nothing was begun, and no state is kept. Where a save
@@ -133,7 +157,7 @@ impl<N: Notes> Client<N> {
         ensures { (o : Opening) (past : List FrameEntry) → StandsFor N.note self.now o past →
             result ≡ is_blank (words_noted o (shown_entries (packets_heard o past))) }
     {
-        self.core.is_blank()
+        self.core.noted.is_blank()
     }
 
     /// The kept state of a key. Where a save has failed, up to it.
@@ -141,7 +165,7 @@ impl<N: Notes> Client<N> {
         ensures { (o : Opening) (past : List FrameEntry) → StandsFor N.note self.now o past →
             option_copied result ≡ kept_state o (shown_entries (packets_heard o past)) key }
     {
-        self.core.saved(key)
+        self.core.noted.kept.get(key)
     }
 
     /// The reports of this life, in order of arrival: of each attempt, server and job the first that
@@ -150,7 +174,7 @@ impl<N: Notes> Client<N> {
         ensures { (o : Opening) (past : List FrameEntry) → StandsFor N.note self.now o past →
             result.now ≡ reports (life o (shown_entries (packets_heard o past))) }
     {
-        self.core.reports()
+        self.core.life.reports.as_slice()
     }
 
     /// How a request of this life stands at a server, by the number of its run or attempt. Where a save
@@ -159,7 +183,12 @@ impl<N: Notes> Client<N> {
         ensures { (o : Opening) (past : List FrameEntry) → StandsFor N.note self.now o past →
             result ≡ outcome o (shown_entries (packets_heard o past)) kind number server }
     {
-        self.core.outcome(kind, number, server)
+        let servers = self.core.peers.servers.count();
+        if server.0 < servers {
+            self.core.life.outcome(kind, number, server.0)
+        } else {
+            Outcome::None
+        }
     }
 
     /// Whether the trigger of a run has ended at every server: a local trigger waits for it. Where a save
@@ -168,6 +197,14 @@ impl<N: Notes> Client<N> {
         ensures { (o : Opening) (past : List FrameEntry) → StandsFor N.note self.now o past →
             result ≡ is_settled o (shown_entries (packets_heard o past)) run }
     {
-        self.core.settled(run)
+        let servers = self.core.peers.servers.count();
+        self.core.life.settled(run, servers)
     }
+}
+
+/// Whether these are the bytes of a lost note.
+fn is_lost(bytes: &[u8]) -> bool
+    ensures { result ≡ (length bytes.now == 0) }
+{
+    bytes.is_empty()
 }

@@ -24,7 +24,7 @@ mod input;
 mod law;
 mod life;
 mod mirrored;
-mod noted;
+mod note;
 mod outcome;
 mod packet_client;
 mod peers;
@@ -46,6 +46,6 @@ pub use law::{
     numbers_are_given_once, one_text, packets_are_few, packets_are_in_range, packets_go_to_peers,
     reports_came, saved_is_kept, tick_only_looks, triggers_end_well,
 };
-pub use noted::{Noted, notes_are_read_back, one_note};
+pub use note::{ClientNote, notes_are_read_back, one_note};
 pub use outcome::{Outcome, RequestKind};
 pub use received::Received;

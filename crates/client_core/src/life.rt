@@ -1,9 +1,9 @@
 //! What a client keeps of what it has done since it was restarted.
 
-ghost use Rattle.std.specs.Prelude.{◌≡◌, ◌<◌, ◌∷◌, [], false, IsTrue, IsSome, OnOk, OnErr, List};
+ghost use Rattle.std.specs.Prelude.{◌<◌, ◌∷◌, [], IsTrue, IsSome, OnOk, List};
 ghost use Rattle.std.specs.Ordering.{nat_cmp};
 ghost use Rattle.std.specs.BTreeMap.{get};
-ghost use Rattle.messages.specs.Ranges.{is_body, is_run};
+ghost use Rattle.messages.specs.Ranges.{is_run};
 
 mod hear;
 mod look;
@@ -12,7 +12,7 @@ use crate::attempt_asked::AttemptAsked;
 use crate::reports::Reports;
 use crate::run_asked::RunAsked;
 use fc_base::{Attempt, Key, RunNo};
-use messages::{Act, Body, Text};
+use messages::{Act, Text};
 use std::alloc::{AllocError, Global};
 use std::collections::{BTreeMap, HashSet};
 
@@ -39,7 +39,7 @@ impl Drop for Life {
 }
 
 impl Life {
-    ghost use Rattle.client_core.specs.Life.{Deed, Begins, Triggers, Stops, Verifies, Hears};
+    ghost use Rattle.client_core.specs.Life.{Deed, Begins, Triggers, Stops, Verifies};
     ghost use Rattle.client_core.specs.Lives.{AttemptIs, LifeIs, EachLife};
 
     /// That of a client which was just restarted. It takes no memory.

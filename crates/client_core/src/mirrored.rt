@@ -1,17 +1,14 @@
 //! What goes to the servers and to the mirror again.
 
-ghost use Rattle.std.specs.Prelude.{◌≡◌, ◌≤◌, ◌++◌, List, IsTrue, OnOk, IfOk};
-ghost use Rattle.std.specs.List.{flat_map};
-ghost use Rattle.messages.specs.Ranges.{is_generation};
+ghost use Rattle.std.specs.Prelude.{◌≡◌, ◌++◌, OnOk, IfOk};
 ghost use Rattle.client_core.specs.Framed.{frame_bytes};
-ghost use Rattle.client_core.specs.Life.{Deed};
 ghost use Rattle.client_core.specs.Lives.{EachLife};
 ghost use Rattle.client_core.specs.Packets.{fetch_again, copy_again, copies_again, all_again};
 
 use crate::frames::{say_copy, say_to_mirror};
 use crate::generation::NotedGeneration;
 use crate::life::Life;
-use crate::noted::Noted;
+use crate::note::ClientNote;
 use crate::peers::Peers;
 use fc_base::Generation;
 use messages::{Body, Frames};
@@ -22,7 +19,7 @@ use verify_state::VerifyState;
 pub(crate) fn all_again(
     alloc: Global,
     peers: &Peers,
-    noted: &Noted,
+    noted: &ClientNote,
     life: &Life,
 ) -> Result<Frames, AllocError>
     ensures { EachLife life.now (λ deeds. IfOk result (λ frames. frames

@@ -1,13 +1,14 @@
 //! Which packets a client takes, and which of them it saves.
 
-ghost use Rattle.std.specs.Prelude.{◌≡◌, ◌+◌, ◌<◌, ◌≤◌, ◌^◌, IsTrue, MatchOption, None, Some, is_some, slice_get, true};
+ghost use Rattle.std.specs.Prelude.{◌≡◌, ◌+◌, ◌<◌, ◌^◌, IsTrue, MatchOption};
+ghost use Rattle.std.specs.Prelude.{None, Some, is_some, slice_get, true};
 ghost use Rattle.messages.specs.Nodes.{node_number};
 ghost use Rattle.messages.specs.Ranges.{is_run, is_text};
 ghost use Rattle.client_core.specs.Refusals.{is_server_of, is_own, is_from_server, is_from_mirror, is_for_client, is_begun, is_of_generation, is_free_to_number, has_next, faults_of_body};
 ghost use Rattle.client_core.specs.Saves.{Keep, addition_by};
 
 use crate::generation::NotedGeneration;
-use crate::noted::{GENERATION_NUMBERS, Noted};
+use crate::note::{ClientNote, GENERATION_NUMBERS};
 use crate::peers::Peers;
 use fc_base::{Fault, MAX_TEXT, RunNo};
 use messages::{Body, Node, Packet};
@@ -91,7 +92,7 @@ fn is_free_to_number(granted: bool, generation: NotedGeneration) -> bool
 
 /// Whether the run was begun.
 #[tactic(auto, unfolding(crate::specs::Refusals::is_begun))]
-pub(crate) fn is_begun(noted: &Noted, run: RunNo) -> bool
+pub(crate) fn is_begun(noted: &ClientNote, run: RunNo) -> bool
     ensures begun { result ≡ is_begun noted.now run }
     ensures range { result ≡ true → IsTrue (is_run run) }
 {
@@ -108,7 +109,7 @@ pub(crate) fn is_text(text: &[u8]) -> bool
 
 /// Why what a server or the mirror says is refused: another state of the key is kept, or there is no room
 /// for one more.
-pub(crate) fn fault_of(noted: &Noted, body: &Body) -> Option<Fault>
+pub(crate) fn fault_of(noted: &ClientNote, body: &Body) -> Option<Fault>
     ensures { result ≡ slice_get (faults_of_body noted.now body.now) 0 }
 {
     let (Body::State { state, .. } | Body::Copy { state }) = body else {
@@ -122,7 +123,7 @@ pub(crate) fn fault_of(noted: &Noted, body: &Body) -> Option<Fault>
 }
 
 /// Whether what a server or the mirror says is a state of a key of which none is kept.
-pub(crate) fn adds(noted: &Noted, body: &Body) -> bool
+pub(crate) fn adds(noted: &ClientNote, body: &Body) -> bool
     ensures { result ≡ is_some (addition_by noted.now body.now) }
 {
     match body {
@@ -132,7 +133,7 @@ pub(crate) fn adds(noted: &Noted, body: &Body) -> bool
 }
 
 /// The state that is to be kept: what a server or the mirror says is a state of a key of which none is.
-pub(crate) fn new_state(noted: &Noted, body: &Body) -> Option<VerifyState>
+pub(crate) fn new_state(noted: &ClientNote, body: &Body) -> Option<VerifyState>
     ensures { MatchOption result (addition_by noted.now body.now ≡ None)
         (λ s. addition_by noted.now body.now ≡ Some (Keep s)) }
 {

@@ -12,7 +12,7 @@ ghost use Rattle.state_table.specs.Kept.{kept_of};
 use crate::beginning::Beginning;
 use crate::frames::{only, say_copy};
 use crate::life::Life;
-use crate::noted::Noted;
+use crate::note::ClientNote;
 use fc_base::{Attempt, JobNo, Key, RunNo, ServerNo};
 use messages::{Asked, Body, Frames, Reason, Text};
 use std::alloc::{AllocError, Global};
@@ -21,7 +21,7 @@ use std::alloc::{AllocError, Global};
 pub(crate) fn replies(
     alloc: Global,
     mirror: bool,
-    noted: &Noted,
+    noted: &ClientNote,
     life: &Life,
     server: u32,
     body: &Body,
@@ -99,7 +99,7 @@ fn jobs_for(
 /// The kept state that a check asks for, or that there is none.
 fn state_for(
     alloc: Global,
-    noted: &Noted,
+    noted: &ClientNote,
     run: RunNo,
     attempt: Attempt,
     job: JobNo,

@@ -6,7 +6,7 @@ ghost use Rattle.messages.specs.Ranges.{is_job_of, is_body, is_refusal};
 ghost use Rattle.client_core.specs.declared.outcome.Outcome.TheVariants as outcomes;
 ghost use Rattle.client_core.specs.Requests.{Request, Unasked, Open, is_open, when_one_tells, when_answered, when_refused, check_refused, trigger_heard, stop_heard, verify_heard};
 ghost use Rattle.client_core.specs.Reports.{counts_for};
-ghost use Rattle.client_core.specs.Standing.{IsRequestKept, all_told, with_answer};
+ghost use Rattle.client_core.specs.Standing.{IsRequestKept, with_answer};
 
 use crate::outcome::Outcome;
 use fc_base::{Attempt, MAX_JOBS, RunNo};

@@ -3,3 +3,4 @@ pub mod PickLemmas
 pub mod ContentLemmas
 pub mod LawLemmas
 pub mod StepLemmas
+pub mod SavingLemmas

@@ -1,10 +1,11 @@
 -- How the save of a core ends, whichever core it is.
-use Rattle.std.specs.Prelude.{◌≡◌, ◌⊎◌, ◌<◌, ℕ, List, Result, Ok, Err}
+use Rattle.std.specs.Prelude.{◌≡◌, ◌⊎◌, ◌<◌, ℕ, true, List, Result, Ok, Err}
 use Rattle.fc_base.specs.declared.fault.Fault.{Fault}
 use Rattle.fc_base.specs.declared.fault.Fault.TheVariants.{NoMemory}
 use Rattle.fc_base.specs.declared.fault.FaultSort.{FaultSort}
 use Rattle.fc_base.specs.declared.fault.FaultSort.TheVariants as sorts
 use Rattle.fc_base.specs.Fault.{sort_of}
+use Rattle.disk_model.specs.declared.durable.Durable.{Durable}
 use Rattle.disk_model.specs.Notes.{Note}
 
 -- A save of a core of states S: its bytes, and what it is to leave of the core.
@@ -30,3 +31,12 @@ abbrev pub Saves : {S : Type 0} → (S → Note) → Save S → S → S → Resu
 Saves note save old new (Ok _) =
     (note new ≡ record (note old) { bytes = save.bytes }) × (new ≡ save.saved)
 Saves note save old new (Err fault) = Unsaved note save (sort_of fault) fault old new
+
+-- The save of these bytes, and what it leaves of a node's notes, which were old and are new then.
+abbrev pub save_of_notes : {T : Type 0} → List ℕ → Durable T → Durable T → Save (Durable T)
+save_of_notes bytes old new = record {
+  bytes = bytes;
+  saved = record { notes = new.notes; down = old.down };
+  same = record { notes = new.notes; down = old.down };
+  down = record { notes = new.notes; down = true };
+}

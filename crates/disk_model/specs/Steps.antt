@@ -79,7 +79,7 @@ pub record Fails {S E X D O : Type 0} (s : Steps S E X D O)
   pub stands : s.StandsFor (s.met e left ∷ past) new
 
 -- For want of memory nothing changes.
-pub record Lacks {S E X D O : Type 0} (s : Steps S E X D O)
+pub record OutOfMemory {S E X D O : Type 0} (s : Steps S E X D O)
     (past : List X) (fault : Fault) (old new : S) : Type 0 where
   pub why : fault ≡ NoMemory
   pub same_note : s.note new ≡ s.note old
@@ -88,7 +88,7 @@ pub record Lacks {S E X D O : Type 0} (s : Steps S E X D O)
 -- How a step that isn't answered ends, by the sort of its fault.
 abbrev pub Faults : {S E X D O : Type 0} → Steps S E X D O →
     List X → E → FaultSort → Fault → S → S → Type 0
-Faults s past e sorts.Memory fault old new = Lacks s past fault old new
+Faults s past e sorts.Memory fault old new = OutOfMemory s past fault old new
 Faults s past e sorts.Save fault old new = Fails s past e old new
 Faults s past e sorts.Refusal fault old new = Refuses s past e fault old new
 
@@ -99,7 +99,8 @@ Ends s past e old new (Ok outs) = Answers s past e old new outs
 Ends s past e old new (Err fault) = Faults s past e (sort_of fault) fault old new
 
 -- How a step ends that gives a number: the one above those that were used.
-abbrev pub Gives : {S E X D O : Type 0} → Steps S E X D O →
+abbrev pub EndsWithNumber : {S E X D O : Type 0} → Steps S E X D O →
     List X → E → ℕ → S → S → Result (ℕ × O) Fault → Type 0
-Gives s past e used old new (Ok given) = (given.0 ≡ used + 1) × Answers s past e old new given.1
-Gives s past e used old new (Err fault) = Faults s past e (sort_of fault) fault old new
+EndsWithNumber s past e used old new (Ok given) =
+    (given.0 ≡ used + 1) × Answers s past e old new given.1
+EndsWithNumber s past e used old new (Err fault) = Faults s past e (sort_of fault) fault old new

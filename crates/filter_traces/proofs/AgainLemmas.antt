@@ -1,5 +1,5 @@
 -- A fleet can begin over drawn numbers, and over servers that have served others.
-use Rattle.std.proofs.Common.{◌≡◌, refl, sym, ◌∙◌, ap, subst, ℕ, zero, suc, ◌+◌, ◌<◌, ◌≤◌, ◌^◌, arith, Bool, true, false, List, [], ◌∷◌, ◌++◌}
+use Rattle.std.proofs.Common.{◌≡◌, refl, sym, ◌∙◌, ap, subst, ℕ, zero, suc, ◌<◌, ◌≤◌, ◌^◌, arith, Bool, true, false, List, [], ◌∷◌, ◌++◌}
 use Rattle.std.specs.Prelude.{nat_lt}
 use Rattle.std.proofs.lemmas.Bool.Decides.{nat_tests}
 use Rattle.job_file.specs.JobSet.{jobs_of}
@@ -8,7 +8,7 @@ use Rattle.messages.specs.declared.frame.Frame.{Frame}
 use Rattle.server_core.specs.Texts.{jobs_for}
 use Rattle.server_core.specs.Hearing.{FrameEntry as ServerEntry, Restart as ServerRestart}
 use Rattle.client_core.specs.declared.input.Input.TheVariants as inputs
-use Rattle.client_core.specs.declared.noted.Noted.{Noted}
+use Rattle.client_core.specs.declared.note.ClientNote.{ClientNote}
 use Rattle.client_core.specs.Hearing.{FrameEntry as ClientEntry, Met as ClientMet, Restart as ClientRestart, packets_heard}
 use Rattle.client_core.specs.FrameAnswers.{frames as client_frames}
 use Rattle.client_core.specs.Note.{IsNoted, Says, SaysWhatIsWritten, spelling}
@@ -86,7 +86,7 @@ fleets_can_begin_again own written n runs attempts said few can older = (
       client = record {
         list_is = sym told.1.client_is;
         fresh = tt;
-        says = subst (λ (m : Noted). Says (spelling (drawn runs attempts)) m) (sym asked.so.says) says;
+        says = subst (λ (m : ClientNote). Says (spelling (drawn runs attempts)) m) (sym asked.so.says) says;
       };
       servers = λ s. record {
         older = behind (served.servers s);

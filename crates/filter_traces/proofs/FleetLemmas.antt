@@ -10,7 +10,6 @@ use Rattle.messages.specs.Hearing.{Coming, heard}
 use Rattle.server_core.specs.History as server
 use Rattle.server_core.specs.Hearing.{FrameEntry as ServerEntry}
 use Rattle.client_core.specs.History as client
-use Rattle.mirror_core.specs.History as mirror
 use Rattle.net_world.specs.Setup.{Setup}
 use Rattle.net_world.specs.Frames.{FrameStep, at_server, at_client, trace_heard}
 use Rattle.net_world.specs.Claims.{OfEachList, OfEachTrace}

@@ -4,7 +4,7 @@ use Rattle.std.specs.Prelude.{nat_lt, nat_le}
 use Rattle.std.proofs.lemmas.Bool.Decides.{nat_tests}
 use Rattle.disk_model.specs.declared.left.Left.TheVariants.{Saved}
 use Rattle.client_core.specs.declared.call.Call.TheVariants as calls
-use Rattle.client_core.specs.declared.noted.Noted.{Noted}
+use Rattle.client_core.specs.declared.note.ClientNote.{ClientNote}
 use Rattle.client_core.specs.History.{Entry, Met}
 use Rattle.client_core.specs.Refusals.{has_next, is_begun, is_of_generation, is_free_to_number}
 use Rattle.client_core.specs.Saves.{Addition, NextAttempt, due_by, noted_after}
@@ -42,7 +42,7 @@ one_attempt n runs attempts past so some fits = record {
   on = rw so.on refl;
   alone = so.alone;
   says =
-      ap (λ (m : Noted). noted_after true (due_by (is_on past) (peers_at n past m.generation) m (calls.Verify 1 [])) m) so.says
+      ap (λ (m : ClientNote). noted_after true (due_by (is_on past) (peers_at n past m.generation) m (calls.Verify 1 [])) m) so.says
       ∙ (ap (λ b. noted_after true (due_by b (peers_at n past 0) (drawn runs attempts) (calls.Verify 1 [])) (drawn runs attempts)) so.on
       ∙ (ap (λ (x : Option Addition). noted_after true x (drawn runs attempts))
       (attempt_due n runs attempts past (first_begun runs attempts some) (more_is n attempts past so.alone fits))

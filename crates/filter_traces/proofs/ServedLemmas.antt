@@ -22,7 +22,7 @@ use Rattle.messages.specs.declared.packet.PacketParts.{PacketParts}
 use Rattle.messages.specs.Pieces.{frames_of, is_cut}
 use Rattle.messages.specs.Ranges.{is_text}
 use Rattle.server_core.specs.declared.input.Input.TheVariants.{Deliver}
-use Rattle.server_core.specs.declared.note.Noted.{Noted as ServerNoted}
+use Rattle.server_core.specs.declared.note.ServerNote.{ServerNote}
 use Rattle.server_core.specs.Texts.{jobs_for}
 use Rattle.server_core.specs.Hearing.{FrameEntry as ServerEntry, Met as ServerMet, Restart as ServerRestart}
 use Rattle.server_core.specs.FrameAnswers.{frames as server_frames}
@@ -31,7 +31,7 @@ use Rattle.client_core.specs.declared.beginning.Beginning.TheVariants.{Staging}
 use Rattle.client_core.specs.declared.call.Call.{Call}
 use Rattle.client_core.specs.declared.call.Call.TheVariants as calls
 use Rattle.client_core.specs.declared.input.Input.TheVariants as inputs
-use Rattle.client_core.specs.declared.noted.Noted.{Noted}
+use Rattle.client_core.specs.declared.note.ClientNote.{ClientNote}
 use Rattle.client_core.specs.declared.peers.Peers.{Peers}
 use Rattle.client_core.specs.History.{Opening, Entry}
 use Rattle.client_core.specs.Hearing.{FrameEntry as ClientEntry, Met as ClientMet, Restart as ClientRestart, packets_heard}
@@ -99,7 +99,7 @@ restarts_noted s zero past = ap (λ x. record { boot = x; last_run = (server_not
     same : (server_noted (opening_of s) past).boot ≡ (server_noted (opening_of s) past).boot + 0
     same = omega arith
 restarts_noted s (suc b) past =
-    ap (λ (m : ServerNoted). record { boot = m.boot + 1; last_run = m.last_run }) (restarts_noted s b past)
+    ap (λ (m : ServerNote). record { boot = m.boot + 1; last_run = m.last_run }) (restarts_noted s b past)
     ∙ ap (λ x. record { boot = x; last_run = (server_noted (opening_of s) past).last_run }) more
   where
     more : ((server_noted (opening_of s) past).boot + b) + 1 ≡ (server_noted (opening_of s) past).boot + suc b
@@ -118,14 +118,14 @@ pub record HasBegun (n runs from : ℕ) (past : List Entry) : Type 0 where
   pub says : words_noted (opening n) past ≡ drawn runs 0
   pub staging : (k s : ℕ) → suc k ≤ runs → from ≤ s → begin_at (suc k) s (life (opening n) past) ≡ Staging
 
-answered : Bool → Peers → Noted → Call → Left → Bool
+answered : Bool → Peers → ClientNote → Call → Left → Bool
 answered on peers m c left = is_none (refusal_by on peers m c) && is_answer (due_by on peers m c) left
 
 is_answered_so : (n runs from : ℕ) (past : List Entry) (c : Call) (left : Left) → HasBegun n runs from past
     → answered true (peers_at n past 0) (drawn runs 0) c left ≡ true → is_answered (opening n) past c left ≡ true
 unfolding answered
 is_answered_so n runs from past c left has h =
-    ap (λ (m : Noted). answered (is_on past) (peers_at n past m.generation) m c left) has.says
+    ap (λ (m : ClientNote). answered (is_on past) (peers_at n past m.generation) m c left) has.says
     ∙ (ap (λ b. answered b (peers_at n past 0) (drawn runs 0) c left) has.on ∙ h)
 
 no_less : (runs k : ℕ) → suc k ≤ suc runs → (runs + 1 == suc k) ≡ false → suc k ≤ runs
@@ -156,13 +156,13 @@ module _ (text : List ℕ) (jobs : List Job) (is : IsText text jobs) (n : ℕ) w
     on = rw has.on refl;
     alone = has.alone;
     says =
-        ap (λ (m : Noted). noted_after true (due_by (is_on list) (peers_at n list m.generation) m (calls.Begin text)) m) has.says
+        ap (λ (m : ClientNote). noted_after true (due_by (is_on list) (peers_at n list m.generation) m (calls.Begin text)) m) has.says
         ∙ (ap (λ b. noted_after true (due_by b (peers_at n list 0) (drawn runs 0) (calls.Begin text)) (drawn runs 0)) has.on
         ∙ (ap (λ (x : Option Addition). noted_after true x (drawn runs 0)) (begin_due runs list has.alone fits)
         ∙ ap (λ r. drawn r 0) next));
     staging = λ k s l from.
         ap (λ b. begin_at (suc k) s (if b then Begins ((words_noted (opening n) list).runs + 1) text ∷ life (opening n) list else life (opening n) list)) sure
-        ∙ (ap (λ (m : Noted). begin_at (suc k) s (Begins (m.runs + 1) text ∷ life (opening n) list)) has.says ∙ of_run k s l (runs + 1 == suc k) refl);
+        ∙ (ap (λ (m : ClientNote). begin_at (suc k) s (Begins (m.runs + 1) text ∷ life (opening n) list)) has.says ∙ of_run k s l (runs + 1 == suc k) refl);
   }
     where
       list : List Entry
@@ -215,7 +215,7 @@ module _ (text : List ℕ) (jobs : List Job) (is : IsText text jobs) (n : ℕ) w
       are =
           ap (λ b. flat_map frames_of (if b then to_all n (bodies.Jobs ((words_noted (opening n) list).runs + 1) text) else []))
           (is_answered_so n runs 0 list (calls.Begin text) Saved has (begin_answered runs list has.alone fits))
-          ∙ ap (λ (m : Noted). flat_map frames_of (to_all n (bodies.Jobs (m.runs + 1) text))) has.says
+          ∙ ap (λ (m : ClientNote). flat_map frames_of (to_all n (bodies.Jobs (m.runs + 1) text))) has.says
 
   -- ---- it hears that the jobs are staged
 

@@ -10,7 +10,7 @@ use Rattle.disk_model.specs.declared.left.Left.TheVariants.{NoSave, Saved}
 use Rattle.messages.specs.declared.frame.Frame.{Frame}
 use Rattle.messages.specs.declared.frame.Frame.TheVariants.{Whole}
 use Rattle.server_core.specs.declared.input.Input.TheVariants.{Deliver}
-use Rattle.server_core.specs.declared.note.Noted.{Noted as ServerNoted}
+use Rattle.server_core.specs.declared.note.ServerNote.{ServerNote}
 use Rattle.server_core.specs.Hearing.{FrameEntry as ServerEntry, Met as ServerMet, Restart as ServerRestart}
 use Rattle.server_core.specs.FrameAnswers.{frames as server_frames}
 use Rattle.client_core.specs.declared.input.Input.TheVariants as inputs
@@ -27,7 +27,7 @@ use Rattle.filter_traces.proofs.TellLemmas.{Told, retold, none_told, client_adds
 
 -- ---- a server that has just begun
 
-pub record Serves (s : ℕ) (said : ServerNoted) (list : List ServerEntry) : Type 0 where
+pub record Serves (s : ℕ) (said : ServerNote) (list : List ServerEntry) : Type 0 where
   pub older : List ServerEntry
   pub list_is : list ≡ ServerRestart Saved ∷ older
   pub says : server_noted (opening_of s) older ≡ said
@@ -38,13 +38,13 @@ booted : (s b r : ℕ) (past : List ServerEntry) → server_noted (opening_of s)
 booted s b r past is = record {
   older = restarts b past;
   list_is = refl;
-  says = restarts_noted s b past ∙ (ap (λ (m : ServerNoted). record { boot = m.boot + b; last_run = m.last_run }) is ∙ ap (λ x. record { boot = x; last_run = r }) more);
+  says = restarts_noted s b past ∙ (ap (λ (m : ServerNote). record { boot = m.boot + b; last_run = m.last_run }) is ∙ ap (λ x. record { boot = x; last_run = r }) more);
 }
   where
     more : 1 + b ≡ suc b
     more = omega arith
 
-restarted : (s : ℕ) (said : ServerNoted) (past : List ServerEntry) → (said.boot ≡ 0 → past ≡ ServerRestart Saved ∷ [])
+restarted : (s : ℕ) (said : ServerNote) (past : List ServerEntry) → (said.boot ≡ 0 → past ≡ ServerRestart Saved ∷ [])
     → (said.boot ≡ 0 → said.last_run ≡ 0) → server_noted (opening_of s) past ≡ record { boot = 1; last_run = said.last_run }
     → Serves s said (restarts said.boot past)
 restarted s said past first none is = by said.boot refl
@@ -60,7 +60,7 @@ restarted s said past first none is = by said.boot refl
 -- ---- the trace in which they have served
 
 -- So many servers have served, and those behind them have begun for the first time.
-pub record Served (text : List ℕ) (n runs : ℕ) (said : ℕ → ServerNoted) (i : ℕ) : Type 0 where
+pub record Served (text : List ℕ) (n runs : ℕ) (said : ℕ → ServerNote) (i : ℕ) : Type 0 where
   pub servers : ℕ → List ServerEntry
   pub client : List ClientEntry
   pub sent : List Frame
@@ -91,7 +91,7 @@ more_restarts n i (suc b) servers client past sent few told =
 less : (k r : ℕ) → suc k ≤ suc r → (suc k == suc r) ≡ false → suc k ≤ r
 less k r few e = grind (arith, nat_tests, few, e)
 
-module _ (own : NodesHearTheirOwn) (text : List ℕ) (jobs : List Job) (is : IsText text jobs) (n runs : ℕ) (said : ℕ → ServerNoted) where
+module _ (own : NodesHearTheirOwn) (text : List ℕ) (jobs : List Job) (is : IsText text jobs) (n runs : ℕ) (said : ℕ → ServerNote) where
   -- Every run is begun at first.
   all_begun : (r : ℕ) → r < 2 ^ 64 → Served text n r said 0
   all_begun zero fits = record {

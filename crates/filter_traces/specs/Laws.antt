@@ -2,7 +2,7 @@
 -- happened to a fleet.
 use Rattle.std.specs.Prelude.{◌≡◌, ◌≤◌, ◌<◌, ℕ, List, map}
 use Rattle.fc_base.specs.declared.limits.TheConstants.{MAX_SERVERS}
-use Rattle.server_core.specs.declared.note.Noted.{Noted as ServerNoted}
+use Rattle.server_core.specs.declared.note.ServerNote.{ServerNote}
 use Rattle.server_core.specs.Note.{blank as server_blank}
 use Rattle.server_core.specs.Hearing.{coming_of as server_coming, packets_heard as server_heard}
 use Rattle.client_core.specs.Hearing.{coming_of as client_coming, packets_heard as client_heard}
@@ -63,6 +63,6 @@ FleetsCanBegin =
 -- before, with runs up to these numbers.
 abbrev pub FleetsCanBeginAgain : Type 0
 FleetsCanBeginAgain =
-    (n runs attempts : ℕ) (said : ℕ → ServerNoted) → n ≤ MAX_SERVERS →
+    (n runs attempts : ℕ) (said : ℕ → ServerNote) → n ≤ MAX_SERVERS →
     CanBeDrawn runs attempts → ((s : ℕ) → s < n → IsOlder runs (said s)) →
     (first : FleetAt) × BeginsAgain n runs attempts said first

@@ -9,7 +9,7 @@ use Rattle.messages.specs.FrameBytes.{frame_spelling}
 use Rattle.messages.specs.Pieces.{frames_of}
 use Rattle.messages.specs.Ranges.{is_generation}
 use Rattle.disk_model.specs.declared.left.Left.TheVariants.{Saved}
-use Rattle.server_core.specs.declared.note.Noted.{Noted as ServerNoted}
+use Rattle.server_core.specs.declared.note.ServerNote.{ServerNote}
 use Rattle.server_core.specs.Note.{Says as ServerSays}
 use Rattle.server_core.specs.Hearing.{FrameEntry as ServerEntry, Cut as ServerCut, Restart as ServerRestart}
 use Rattle.server_core.specs.FrameAnswers.{frames as server_frames}
@@ -92,7 +92,7 @@ client_member w = record {
 -- A server begins anew over its note, in the next boot.
 abbrev pub ServerBegins : ServerAt → ServerAt → Type 0
 ServerBegins left now =
-    (said : ServerNoted) × ServerSays left.note said
+    (said : ServerNote) × ServerSays left.note said
     × (now ≡ record {
       list = ServerRestart Saved ∷ (ServerCut ∷ left.list);
       note = next_boot said;

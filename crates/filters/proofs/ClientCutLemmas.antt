@@ -7,7 +7,7 @@ use Rattle.fc_base.specs.declared.fault.Fault.{Fault}
 use Rattle.disk_model.specs.declared.left.Left.TheVariants.{Saved}
 use Rattle.messages.specs.Ranges.{is_generation}
 use Rattle.client_core.specs.declared.input.Input.{Input}
-use Rattle.client_core.specs.declared.noted.Noted.{Noted}
+use Rattle.client_core.specs.declared.note.ClientNote.{ClientNote}
 use Rattle.client_core.specs.History.{Opening}
 use Rattle.client_core.specs.Note.{IsNoted, Says, SaysOneThing, SaysWhatIsWritten, blank, new_note as note_anew, note_of, spelling}
 use Rattle.client_core.specs.Words.{renewed_after}
@@ -35,7 +35,7 @@ note at = at.note
 some_bytes : (x : ℕ) (xs : List ℕ) → x ∷ xs ≡ [] → ⊥
 some_bytes x xs is = absurd (omega (arith, ap length is))
 
-some_note : (n : Noted) → spelling n ≡ [] → ⊥
+some_note : (n : ClientNote) → spelling n ≡ [] → ⊥
 unfolding note_of
 some_note n is = some_bytes 70 _ is
 
@@ -101,7 +101,7 @@ of_renewed g h =
     let small : g * 2 ^ 32 < 2 ^ 64 = omega arith in
     record { generation = low; runs = small; attempts = small; count = omega arith; states = tt; keys = refl }
 
-renewed_noted : (g : ℕ) (n : Noted) → n ≡ blank → is_generation g ≡ true → renewed_after true g n ≡ note_anew g
+renewed_noted : (g : ℕ) (n : ClientNote) → n ≡ blank → is_generation g ≡ true → renewed_after true g n ≡ note_anew g
 renewed_noted g n empty is = ap (renewed_after true g) empty ∙ ap (λ b. if b && true then note_anew g else blank) is
 
 pub renewals_go_on : SaysOneThing → SaysWhatIsWritten → RenewalsGoOn

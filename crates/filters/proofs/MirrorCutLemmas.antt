@@ -2,7 +2,7 @@
 use Rattle.std.proofs.Common.{◌≡◌, ℕ, List, [], ◌∷◌, length, Option, None, Some, Result, Ok, Err, refl, ap, inl, inr, arith}
 use Rattle.fc_base.specs.declared.fault.Fault.{Fault}
 use Rattle.messages.specs.declared.frame.Frame.{Frame}
-use Rattle.mirror_core.specs.declared.noted.Noted.{Noted}
+use Rattle.mirror_core.specs.declared.note.MirrorNote.{MirrorNote}
 use Rattle.mirror_core.specs.History.{Cut}
 use Rattle.mirror_core.specs.Note.{Says, note_of, spelling}
 use Rattle.mirror_core.specs.Words.{words_noted, refusal, due}
@@ -23,24 +23,24 @@ note at = at.note
 some_bytes : (x : ℕ) (xs : List ℕ) → x ∷ xs ≡ [] → ⊥
 some_bytes x xs is = absurd (omega (arith, ap length is))
 
-some_note : (n : Noted) → spelling n ≡ [] → ⊥
+some_note : (n : MirrorNote) → spelling n ≡ [] → ⊥
 unfolding note_of
 some_note n is = some_bytes 70 _ is
 
-frame_first : (o : Noted) (why : Option Fault) (before : MirrorAt) (f : Frame) (after : MirrorAt) (answer : List ℕ)
+frame_first : (o : MirrorNote) (why : Option Fault) (before : MirrorAt) (f : Frame) (after : MirrorAt) (answer : List ℕ)
     → Leaves (at_by why o before f) (reply_by why o before.list f) after answer → SaysFirst note before after answer
 frame_first o None before f after answer (is, said) =
     due_first note (due o before.list f) (new_note o before.list f) _ (end_bytes (Ok tt)) answer before after
     (some_note (words_noted o (after_answer o before.list f))) (ap note is) said
 frame_first o (Some fault) before f after answer (is, said) = inl (ap note is)
 
-body_first : (o : Noted) (before : MirrorAt) (asked : Result Frame Fault) (after : MirrorAt) (answer : List ℕ) → TakesBody o before asked after answer
+body_first : (o : MirrorNote) (before : MirrorAt) (asked : Result Frame Fault) (after : MirrorAt) (answer : List ℕ) → TakesBody o before asked after answer
     → SaysFirst note before after answer
 body_first o before (Ok f) after answer (inl leaves) = frame_first o (refusal o before.list f) before f after answer leaves
 body_first o before (Ok f) after answer (inr (fault, memory, (is, said))) = inl (ap note is)
 body_first o before (Err why) after answer (is, said) = inl (ap note is)
 
-kind_first : (o : Noted) (before : MirrorAt) (kind : Option Told) (body : List ℕ) (after : MirrorAt) (answer : List ℕ)
+kind_first : (o : MirrorNote) (before : MirrorAt) (kind : Option Told) (body : List ℕ) (after : MirrorAt) (answer : List ℕ)
     → TakesKind o before kind body after answer → SaysFirst note before after answer
 kind_first o before (Some told.Frame) body after answer takes = body_first o before (frame_in body) after answer takes
 kind_first o before None body after answer (is, said) = inl (ap note is)
@@ -57,7 +57,7 @@ kind_first o before (Some told.Tick) body after answer (is, said) = inl (ap note
 kind_first o before (Some told.Look) body after answer (is, said) = inl (ap note is)
 kind_first o before (Some told.Show) body after answer (is, said) = inl (ap note is)
 
-takes_first : (o : Noted) (before after : MirrorAt) (r : RecordParts) (answer : List ℕ) → MirrorTakes o before r after answer
+takes_first : (o : MirrorNote) (before after : MirrorAt) (r : RecordParts) (answer : List ℕ) → MirrorTakes o before r after answer
     → SaysFirst note before after answer
 takes_first o before after r answer (takes, says) = kind_first o before (told_numbered r.kind) r.body after answer takes
 

@@ -8,11 +8,11 @@ use Rattle.fc_base.specs.declared.fault.FaultSort.TheVariants as sorts
 use Rattle.disk_model.specs.Notes.{Note}
 use Rattle.messages.specs.declared.frame.Frame.{Frame}
 use Rattle.mirror_core.specs.declared.mirror.Mirror.{Mirror}
-use Rattle.mirror_core.specs.declared.noted.Noted.{Noted}
+use Rattle.mirror_core.specs.declared.note.MirrorNote.{MirrorNote}
 use Rattle.mirror_core.specs.Ends.{steps}
 use Rattle.mirror_core.specs.History.{Entry}
 use Rattle.mirror_core.specs.Note.{Says}
-use Rattle.mirror_core.specs.Stands.{StandsFor, Opens, NotOpened}
+use Rattle.mirror_core.specs.Stands.{Opens, NotOpened}
 use Rattle.mirror_core.specs.Words.{words_noted, due, would_save}
 use Rattle.filters.specs.declared.answered.Answered.{Answered}
 use Rattle.filters.specs.Records.{end_bytes}
@@ -23,21 +23,21 @@ use Rattle.filters.specs.MirrorSteps.{FrameEnds, BodyEnds}
 use Rattle.filters.proofs.TakeLemmas.{saved_so, note_so}
 
 -- The note of a mirror says what its list does.
-pub note_says : {T : Type 0} (note : T → Note) (mirror : Mirror T) (o : Noted) (at : MirrorAt) → IsAt note mirror o at → Says at.note (words_noted o at.list)
+pub note_says : {T : Type 0} (note : T → Note) (mirror : Mirror T) (o : MirrorNote) (at : MirrorAt) → IsAt note mirror o at → Says at.note (words_noted o at.list)
 note_says note mirror o at (stands, is) = subst (λ bytes. Says bytes (words_noted o at.list)) is stands.durable
 
 -- What is written of an answer is what the list says.
-answer_is : {T : Type 0} (note : T → Note) (o : Noted) (past : List Entry) (f : Frame) (old new : Mirror T) (a : Answered)
-    → FrameEnds note o past f old new (Ok a) → result_bytes (note new.notes).bytes (Ok a) ≡ taken_bytes o past f
+answer_is : {T : Type 0} (note : T → Note) (o : MirrorNote) (past : List Entry) (f : Frame) (old new : Mirror T) (a : Answered)
+    → FrameEnds note o past f old new (Ok a) → result_bytes (note new.durable.notes).bytes (Ok a) ≡ taken_bytes o past f
 answer_is note o past f old new a (h, none) =
-    let saved = saved_so (due o past f) (new_note o past f) (note old.notes) (note new.notes) a.saves h.saves_are h.answers.leaves in
+    let saved = saved_so (due o past f) (new_note o past f) (note old.durable.notes) (note new.durable.notes) a.saves h.saves_are h.answers.leaves in
     ap (λ s. (s ++ (number_bytes a.number ++ send_bytes a.frames)) ++ end_bytes (Ok tt)) saved
     ∙ ap (λ n. (save_bytes (would_save o past f) (new_note o past f) ++ (number_bytes n ++ send_bytes a.frames)) ++ end_bytes (Ok tt)) none
     ∙ ap (λ sent. (save_bytes (would_save o past f) (new_note o past f) ++ send_bytes sent) ++ end_bytes (Ok tt)) h.answers.sends
 
 -- What a frame that isn't answered leaves.
-frame_not_taken : {T : Type 0} (note : T → Note) (o : Noted) (at : MirrorAt) (f : Frame) (old new : Mirror T) (sort : FaultSort) (fault : Fault)
-    → sort_of fault ≡ sort → (note old.notes).bytes ≡ at.note → NotTaken (steps note o) at.list f sort fault old new
+frame_not_taken : {T : Type 0} (note : T → Note) (o : MirrorNote) (at : MirrorAt) (f : Frame) (old new : Mirror T) (sort : FaultSort) (fault : Fault)
+    → sort_of fault ≡ sort → (note old.durable.notes).bytes ≡ at.note → NotTaken (steps note o) at.list f sort fault old new
     → (now : MirrorAt) × IsAt note new o now × TakesBody o at (Ok f) now (end_bytes (Err fault))
 frame_not_taken note o at f old new sorts.Memory fault is was (same, stands) =
     (at, (stands, ap (λ (n : Note). n.bytes) same ∙ was), inr (fault, is, (refl, refl)))
@@ -49,13 +49,13 @@ frame_not_taken note o at f old new sorts.Refusal fault is was h = (
 )
 
 -- What the mirror makes of a body, by how its call ends.
-pub body_taken : {T : Type 0} (note : T → Note) (o : Noted) (at : MirrorAt) (asked : Result Frame Fault) (old new : Mirror T)
+pub body_taken : {T : Type 0} (note : T → Note) (o : MirrorNote) (at : MirrorAt) (asked : Result Frame Fault) (old new : Mirror T)
     (result : Result Answered Fault)
     → IsAt note old o at → BodyEnds note o at.list asked old new result
-    → (now : MirrorAt) × IsAt note new o now × TakesBody o at asked now (result_bytes (note new.notes).bytes result)
+    → (now : MirrorAt) × IsAt note new o now × TakesBody o at asked now (result_bytes (note new.durable.notes).bytes result)
 body_taken note o at (Ok f) old new (Ok a) is (h, none) = (
   at_by None o at f,
-  (h.answers.stands, note_so (due o at.list f) (new_note o at.list f) at.note (note old.notes) (note new.notes) h.answers.leaves is.1),
+  (h.answers.stands, note_so (due o at.list f) (new_note o at.list f) at.note (note old.durable.notes) (note new.durable.notes) h.answers.leaves is.1),
   inl (
     sym (ap (λ w. at_by w o at f) h.answers.free),
     answer_is note o at.list f old new a (h, none) ∙ sym (ap (λ w. reply_by w o at.list f) h.answers.free),
@@ -68,7 +68,7 @@ body_taken note o at (Err why) old new (Err fault) is (told, same) =
 
 -- A mirror that was opened is where it begins.
 pub begins_at : {T : Type 0} (note : T → Note) (bytes : List ℕ) (old : Note) (mirror : Mirror T) → old.bytes ≡ bytes → Opens note old mirror
-    → (o : Noted) (first : MirrorAt) → BeginsBehind bytes o first → IsAt note mirror o first
+    → (o : MirrorNote) (first : MirrorAt) → BeginsBehind bytes o first → IsAt note mirror o first
 begins_at note bytes old mirror is opens o first h =
     subst (IsAt note mirror o) (sym h.begins) (
       opens.stands o h.past (subst (λ b. Says b (words_noted o h.past)) (sym is) h.says),

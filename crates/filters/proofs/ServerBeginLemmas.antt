@@ -4,7 +4,7 @@ use Rattle.fc_base.specs.declared.fault.Fault.{Fault}
 use Rattle.fc_base.specs.declared.fault.Fault.TheVariants as faults
 use Rattle.disk_model.specs.Notes.{Note}
 use Rattle.server_core.specs.Note.{Says}
-use Rattle.server_core.specs.Serves.{NotOpened}
+use Rattle.server_core.specs.Ends.{NotOpened}
 use Rattle.server_core.specs.FrameEnds.{Restarts}
 use Rattle.filters.specs.declared.kept_notes.KeptNotes.{KeptNotes}
 use Rattle.filters.specs.declared.server_filter.ServerFilter.{ServerFilter}

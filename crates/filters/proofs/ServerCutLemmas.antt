@@ -10,7 +10,7 @@ use Rattle.server_core.specs.declared.input.Input.{Input}
 use Rattle.server_core.specs.declared.input.Input.TheVariants.{Issue, CheckDone}
 use Rattle.server_core.specs.History.{Opening}
 use Rattle.server_core.specs.Note.{Says, spelling}
-use Rattle.server_core.specs.declared.note.Noted.{Noted}
+use Rattle.server_core.specs.declared.note.ServerNote.{ServerNote}
 use Rattle.server_core.specs.Hearing.{Cut}
 use Rattle.messages.specs.FrameBytes.{frame_at, frame_faults}
 use Rattle.server_core.specs.FrameAnswers.{refusal, due}
@@ -77,7 +77,7 @@ note at = at.note
 some_bytes : (x : ℕ) (xs : List ℕ) → x ∷ xs ≡ [] → ⊥
 some_bytes x xs is = absurd (omega (arith, ap length is))
 
-some_note : (n : Noted) → spelling n ≡ [] → ⊥
+some_note : (n : ServerNote) → spelling n ≡ [] → ⊥
 some_note n is = some_bytes 70 _ is
 
 input_first : (o : Opening) (why : Option Fault) (before : ServerAt) (e : Input) (after : ServerAt) (answer : List ℕ)

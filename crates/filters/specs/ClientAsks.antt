@@ -1,5 +1,5 @@
 -- What the bodies of records ask of the client, and how what it tells is spelled.
-use Rattle.std.specs.Prelude.{ℕ, ◌==◌, nat_lt, List, [], ◌∷◌, ◌++◌, length, drop, Option, Some, None, if◌then◌else◌, Result, Ok, Err}
+use Rattle.std.specs.Prelude.{ℕ, ◌==◌, nat_lt, List, ◌++◌, length, drop, Option, Some, None, if◌then◌else◌, Result, Ok, Err}
 use Rattle.std.specs.Option.{option_map}
 use Rattle.std.specs.Int.{w8, w32, w64}
 use Rattle.fc_base.specs.Layouts.{bytes_of, number_in}

@@ -10,7 +10,7 @@ use Rattle.messages.specs.FrameBytes.{frame_spelling}
 use Rattle.messages.specs.Ranges.{is_generation}
 use Rattle.client_core.specs.declared.client.Client.{Client}
 use Rattle.client_core.specs.declared.input.Input.{Input}
-use Rattle.client_core.specs.declared.noted.Noted.{Noted}
+use Rattle.client_core.specs.declared.note.ClientNote.{ClientNote}
 use Rattle.client_core.specs.declared.received.Received.{Received}
 use Rattle.client_core.specs.History.{Opening}
 use Rattle.client_core.specs.Note.{Says, new_note as note_anew, spelling}
@@ -200,7 +200,7 @@ RefusesNote Mirrored note fault = NotRestarted true note fault
 RefusesNote (Renewed g) note fault = NotRenewed g note fault
 
 -- The client of so many servers as a filter. That it is opened is answered before all else.
-abbrev pub client_filter : Beginning → ℕ → Filter Opening ClientAt Noted
+abbrev pub client_filter : Beginning → ℕ → Filter Opening ClientAt ClientNote
 client_filter beginning servers = record {
   Says = λ note said. MayBegin beginning note × Says note said;
   Begins = λ note said. BeginsBehind beginning servers note;

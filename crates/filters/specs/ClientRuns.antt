@@ -2,7 +2,7 @@
 use Rattle.std.specs.Prelude.{◌≡◌, ℕ, List, Result, Ok, Err}
 use Rattle.fc_base.specs.declared.fault.Fault.{Fault}
 use Rattle.client_core.specs.declared.client.Client.{Client}
-use Rattle.client_core.specs.declared.noted.Noted.{Noted}
+use Rattle.client_core.specs.declared.note.ClientNote.{ClientNote}
 use Rattle.client_core.specs.History.{Opening}
 use Rattle.client_core.specs.Note.{Says}
 use Rattle.client_core.specs.FrameEnds.{note_in}
@@ -16,7 +16,7 @@ use Rattle.filters.specs.ClientLives.{ClientAt, IsAt, BeginsBehind, MayBegin, Re
 pub record IsOpened (beginning : Beginning) (servers : ℕ) (note : List ℕ)
     (client : Client KeptNotes) : Type 0 where
   pub may : MayBegin beginning note
-  pub said : Noted
+  pub said : ClientNote
   pub says : Says note said
   pub saved : (note_in note_kept client).bytes ≡ first_note beginning note
   pub begins : (o : Opening) (first : ClientAt) → BeginsBehind beginning servers note o first →

@@ -15,7 +15,7 @@ use Rattle.messages.specs.Senses.{is_drop}
 use Rattle.client_core.specs.declared.input.Input.{Input}
 use Rattle.client_core.specs.declared.input.Input.TheVariants.{Begin, Verify}
 use Rattle.client_core.specs.declared.client.Client.{Client}
-use Rattle.client_core.specs.declared.noted.Noted.{Noted}
+use Rattle.client_core.specs.declared.note.ClientNote.{ClientNote}
 use Rattle.client_core.specs.History.{Opening}
 use Rattle.client_core.specs.Note.{spelling}
 use Rattle.client_core.specs.Words.{words_noted}
@@ -28,7 +28,7 @@ use Rattle.filters.specs.Kinds.{said_number}
 use Rattle.filters.specs.Records.{record_bytes, end_bytes}
 
 -- What the note says behind a list.
-abbrev pub noted : Opening → List FrameEntry → Noted
+abbrev pub noted : Opening → List FrameEntry → ClientNote
 noted o past = words_noted o (packets_heard o past)
 
 -- The list behind an input that is answered.

@@ -1,7 +1,7 @@
 -- What is left of the mirror where its filter is cut at any byte of its answers, and how the next life
 -- stands on it.
 use Rattle.std.specs.Prelude.{List, ◌∷◌, ◌++◌, ℕ}
-use Rattle.mirror_core.specs.declared.noted.Noted.{Noted}
+use Rattle.mirror_core.specs.declared.note.MirrorNote.{MirrorNote}
 use Rattle.mirror_core.specs.History.{Restart, Cut}
 use Rattle.mirror_core.specs.Note.{Says}
 use Rattle.mirror_core.specs.Words.{words_noted}
@@ -12,7 +12,7 @@ use Rattle.filters.specs.MirrorLives.{MirrorAt, MirrorTakes, BeginsBehind}
 
 -- A mirror is cut so, and the next life over the note that it leaves begins behind its list and the
 -- cut.
-pub record GoesOnFrom (o : Noted) (first : MirrorAt) (records : List RecordParts)
+pub record GoesOnFrom (o : MirrorNote) (first : MirrorAt) (records : List RecordParts)
     (front : List ℕ) : Type 0 where
   pub left : MirrorAt
   pub cuts : CutsBehind (MirrorTakes o) (CutsAnswer (λ (at : MirrorAt). at.note)) first records front
@@ -23,6 +23,6 @@ pub record GoesOnFrom (o : Noted) (first : MirrorAt) (records : List RecordParts
 -- Wherever the answers of a life are cut, the next one goes on from there.
 abbrev pub LivesGoOn : Type 0
 LivesGoOn =
-    (o : Noted) (first now : MirrorAt) (records : List RecordParts) (front back : List ℕ) →
+    (o : MirrorNote) (first now : MirrorAt) (records : List RecordParts) (front back : List ℕ) →
     Says first.note (words_noted o first.list)
     → Lives (MirrorTakes o) first records now (front ++ back) → GoesOnFrom o first records front

@@ -1,13 +1,13 @@
 -- What the mirror's filter makes of each record, by the list of all that came to its mirror, and how
 -- it runs.
-use Rattle.std.specs.Prelude.{◌≡◌, ◌⊎◌, ⊤, List, [], ◌∷◌, ◌++◌, Option, Some, None, Result, Ok, Err, ℕ}
+use Rattle.std.specs.Prelude.{◌≡◌, ◌⊎◌, ⊤, List, ◌∷◌, ◌++◌, Option, Some, None, Result, Ok, Err, ℕ}
 use Rattle.fc_base.specs.declared.fault.Fault.{Fault}
 use Rattle.fc_base.specs.declared.fault.Fault.TheVariants.{BadNotice, BadNote, NoMemory}
 use Rattle.disk_model.specs.Notes.{Note}
 use Rattle.messages.specs.FrameBytes.{frame_at, frame_faults}
 use Rattle.messages.specs.declared.frame.Frame.{Frame}
 use Rattle.mirror_core.specs.declared.mirror.Mirror.{Mirror}
-use Rattle.mirror_core.specs.declared.noted.Noted.{Noted}
+use Rattle.mirror_core.specs.declared.note.MirrorNote.{MirrorNote}
 use Rattle.mirror_core.specs.Ends.{answered_entry}
 use Rattle.mirror_core.specs.History.{Entry, Restart}
 use Rattle.mirror_core.specs.Note.{Says, spelling}
@@ -29,33 +29,33 @@ pub record MirrorAt : Type 0 where
   pub note : List ℕ
 
 -- A mirror is at this moment.
-abbrev pub IsAt : {T : Type 0} → (T → Note) → Mirror T → Noted → MirrorAt → Type 0
+abbrev pub IsAt : {T : Type 0} → (T → Note) → Mirror T → MirrorNote → MirrorAt → Type 0
 IsAt note mirror o at =
-    StandsFor note mirror o at.list × ((note mirror.notes).bytes ≡ at.note)
+    StandsFor note mirror o at.list × ((note mirror.durable.notes).bytes ≡ at.note)
 
 -- The list behind a frame that is answered.
-abbrev pub after_answer : Noted → List Entry → Frame → List Entry
+abbrev pub after_answer : MirrorNote → List Entry → Frame → List Entry
 after_answer o past f = answered_entry o past f ∷ past
 
 -- The note as a frame that is taken leaves it, if it is to be saved.
-abbrev pub new_note : Noted → List Entry → Frame → List ℕ
+abbrev pub new_note : MirrorNote → List Entry → Frame → List ℕ
 new_note o past f = spelling (words_noted o (after_answer o past f))
 
 -- What is answered to a frame that is taken: the note, where something is due to be saved; the
 -- frames that are sent; and the end.
-abbrev pub taken_bytes : Noted → List Entry → Frame → List ℕ
+abbrev pub taken_bytes : MirrorNote → List Entry → Frame → List ℕ
 taken_bytes o past f =
     (save_bytes (would_save o past f) (new_note o past f)
     ++ send_bytes (frame_bytes (packets o past (answered_entry o past f))))
     ++ end_bytes (Ok tt)
 
 -- What is answered to a frame, by why it is refused, if it is.
-abbrev pub reply_by : Option Fault → Noted → List Entry → Frame → List ℕ
+abbrev pub reply_by : Option Fault → MirrorNote → List Entry → Frame → List ℕ
 reply_by None o past f = taken_bytes o past f
 reply_by (Some fault) o past f = end_bytes (Err fault)
 
 -- The mirror behind a frame: one that is refused changes nothing.
-abbrev pub at_by : Option Fault → Noted → MirrorAt → Frame → MirrorAt
+abbrev pub at_by : Option Fault → MirrorNote → MirrorAt → Frame → MirrorAt
 at_by None o at f = record {
   list = after_answer o at.list f;
   note = note_with (due o at.list f) (new_note o at.list f) at.note;
@@ -64,7 +64,7 @@ at_by (Some fault) o at f = at
 
 -- What is made of a body: what the list says of the frame; or memory is wanting. A bad one changes
 -- nothing.
-abbrev pub TakesBody : Noted → MirrorAt → Result Frame Fault → MirrorAt → List ℕ → Type 0
+abbrev pub TakesBody : MirrorNote → MirrorAt → Result Frame Fault → MirrorAt → List ℕ → Type 0
 TakesBody o at (Ok f) now answer =
     Leaves (at_by (refusal o at.list f) o at f) (reply_by (refusal o at.list f) o at.list f) now
     answer
@@ -76,30 +76,30 @@ abbrev pub frame_in : List ℕ → Result Frame Fault
 frame_in body = with_frame (λ f. f) (frame_faults body) (frame_at body)
 
 -- What is made of a record of this kind, if it is one: only frames are for a mirror.
-abbrev pub TakesKind : Noted → MirrorAt → Option Told → List ℕ → MirrorAt → List ℕ → Type 0
+abbrev pub TakesKind : MirrorNote → MirrorAt → Option Told → List ℕ → MirrorAt → List ℕ → Type 0
 TakesKind o at (Some told.Frame) body now answer = TakesBody o at (frame_in body) now answer
 TakesKind o at _ body now answer = Leaves at (end_bytes (Err BadNotice)) now answer
 
 -- What the mirror makes of a record and answers; and its note says what its list does.
-abbrev pub MirrorTakes : Noted → MirrorAt → RecordParts → MirrorAt → List ℕ → Type 0
+abbrev pub MirrorTakes : MirrorNote → MirrorAt → RecordParts → MirrorAt → List ℕ → Type 0
 MirrorTakes o at r now answer =
     TakesKind o at (told_numbered r.kind) r.body now answer
     × Says now.note (words_noted o now.list)
 
 -- The mirror begins over its note, with a restart behind any list of which that says what it says.
-pub record BeginsBehind (note : List ℕ) (o : Noted) (first : MirrorAt) : Type 0 where
+pub record BeginsBehind (note : List ℕ) (o : MirrorNote) (first : MirrorAt) : Type 0 where
   pub past : List Entry
   pub says : Says note (words_noted o past)
   pub begins : first ≡ record { list = Restart ∷ past; note = note }
 
 -- The mirror isn't opened: the bytes are no note, or memory is wanting.
 abbrev pub RefusesNote : List ℕ → Fault → Type 0
-RefusesNote note BadNote = (said : Noted) → Says note said → ⊥
+RefusesNote note BadNote = (said : MirrorNote) → Says note said → ⊥
 RefusesNote note NoMemory = ⊤
 RefusesNote note fault = ⊥
 
 -- The mirror as a filter. That it is opened is answered before all else.
-abbrev pub mirror_filter : Filter Noted MirrorAt Noted
+abbrev pub mirror_filter : Filter MirrorNote MirrorAt MirrorNote
 mirror_filter = record {
   Says = Says;
   Begins = λ note said. BeginsBehind note;

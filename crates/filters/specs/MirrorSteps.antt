@@ -5,14 +5,14 @@ use Rattle.fc_base.specs.declared.fault.Fault.{Fault}
 use Rattle.disk_model.specs.Notes.{Note}
 use Rattle.messages.specs.declared.frame.Frame.{Frame}
 use Rattle.mirror_core.specs.declared.mirror.Mirror.{Mirror}
-use Rattle.mirror_core.specs.declared.noted.Noted.{Noted}
+use Rattle.mirror_core.specs.declared.note.MirrorNote.{MirrorNote}
 use Rattle.mirror_core.specs.Ends.{steps}
 use Rattle.mirror_core.specs.History.{Entry}
 use Rattle.filters.specs.declared.answered.Answered.{Answered}
 use Rattle.filters.specs.NodeSteps.{IsTaken, NotTaken}
 
 -- What comes of a frame: it is answered, and no number is given; or it isn't.
-abbrev pub FrameEnds : {T : Type 0} → (T → Note) → Noted → List Entry → Frame → Mirror T
+abbrev pub FrameEnds : {T : Type 0} → (T → Note) → MirrorNote → List Entry → Frame → Mirror T
     → Mirror T → Result Answered Fault → Type 0
 FrameEnds note o past f old new (Ok a) =
     IsTaken (steps note o) past f old new a.frames a.saves × (a.number ≡ None)
@@ -20,7 +20,7 @@ FrameEnds note o past f old new (Err fault) =
     NotTaken (steps note o) past f (sort_of fault) fault old new
 
 -- What comes of what a record says. A body that can't be read leaves the mirror as it was.
-abbrev pub BodyEnds : {T : Type 0} → (T → Note) → Noted → List Entry → Result Frame Fault
+abbrev pub BodyEnds : {T : Type 0} → (T → Note) → MirrorNote → List Entry → Result Frame Fault
     → Mirror T → Mirror T → Result Answered Fault → Type 0
 BodyEnds note o past (Ok f) old new result = FrameEnds note o past f old new result
 BodyEnds note o past (Err why) old new (Ok a) = ⊥

@@ -5,7 +5,7 @@ use Rattle.disk_model.specs.Notes.{Note}
 use Rattle.disk_model.specs.declared.left.Left.TheVariants.{NoSave}
 use Rattle.messages.specs.FrameBytes.{frame_spelling}
 use Rattle.server_core.specs.declared.input.Input.{Input}
-use Rattle.server_core.specs.declared.note.Noted.{Noted}
+use Rattle.server_core.specs.declared.note.ServerNote.{ServerNote}
 use Rattle.server_core.specs.declared.server.Server.{Server}
 use Rattle.server_core.specs.History.{Opening}
 use Rattle.server_core.specs.Note.{spelling}
@@ -40,7 +40,7 @@ abbrev pub with_check : ℕ → Option UnderWay → ServerAt → ServerAt
 with_check j u at = record at { checks = λ i. if i == j then u else at.checks i }
 
 -- What the note says behind a list.
-abbrev pub noted : Opening → List FrameEntry → Noted
+abbrev pub noted : Opening → List FrameEntry → ServerNote
 noted o past = words_noted o (packets_heard o past)
 
 -- The note as an input that is taken leaves it, if it is to be saved.

@@ -13,7 +13,7 @@ use Rattle.server_core.specs.declared.event.WriteEnd.{WriteEnd}
 use Rattle.server_core.specs.declared.event.WriteEnd.TheVariants as ends
 use Rattle.server_core.specs.declared.input.Input.{Input}
 use Rattle.server_core.specs.declared.input.Input.TheVariants.{Deliver, WriteDone}
-use Rattle.server_core.specs.declared.note.Noted.{Noted}
+use Rattle.server_core.specs.declared.note.ServerNote.{ServerNote}
 use Rattle.server_core.specs.History.{Opening}
 use Rattle.server_core.specs.Note.{Says, spelling}
 use Rattle.server_core.specs.Answers.{shown_entries}
@@ -118,11 +118,11 @@ ServerTakes o at r now answer =
     TakesKind o at (told_numbered r.kind) r.body now answer × Says now.note (noted o now.list)
 
 -- The note behind a restart, where it said this: the next boot.
-abbrev pub next_boot : Noted → List ℕ
+abbrev pub next_boot : ServerNote → List ℕ
 next_boot said = spelling (record said { boot = said.boot + 1 })
 
 -- The server begins over its note, with a restart behind any list of which that said what it says.
-pub record BeginsBehind (me : ℕ) (note : List ℕ) (said : Noted) (o : Opening)
+pub record BeginsBehind (me : ℕ) (note : List ℕ) (said : ServerNote) (o : Opening)
     (first : ServerAt) : Type 0 where
   pub past : List FrameEntry
   pub me_is : o.me ≡ me
@@ -135,13 +135,13 @@ pub record BeginsBehind (me : ℕ) (note : List ℕ) (said : Noted) (o : Opening
 
 -- The server isn't opened: the bytes are no note; it has had its last boot; or memory is wanting.
 abbrev pub RefusesNote : List ℕ → Fault → Type 0
-RefusesNote note BadNote = (said : Noted) → Says note said → ⊥
-RefusesNote note NumbersSpent = (said : Noted) → Says note said → said.boot ≡ 2 ^ 64 - 1
+RefusesNote note BadNote = (said : ServerNote) → Says note said → ⊥
+RefusesNote note NumbersSpent = (said : ServerNote) → Says note said → said.boot ≡ 2 ^ 64 - 1
 RefusesNote note NoMemory = ⊤
 RefusesNote note fault = ⊥
 
 -- A server with this number as a filter. The next boot is saved before all else.
-abbrev pub server_filter : ℕ → Filter Opening ServerAt Noted
+abbrev pub server_filter : ℕ → Filter Opening ServerAt ServerNote
 server_filter me = record {
   Says = Says;
   Begins = λ note said. BeginsBehind me note said;

@@ -5,7 +5,7 @@ use Rattle.fc_base.specs.declared.fault.Fault.{Fault}
 use Rattle.fc_base.specs.declared.limits.TheConstants.{MAX_WRITES}
 use Rattle.job_file.specs.declared.job.Job.{Job}
 use Rattle.window.specs.History.{issued}
-use Rattle.server_core.specs.declared.note.Noted.{Noted}
+use Rattle.server_core.specs.declared.note.ServerNote.{ServerNote}
 use Rattle.server_core.specs.History.{Opening}
 use Rattle.server_core.specs.Hearing.{FrameEntry, packets_heard}
 use Rattle.server_core.specs.Note.{Says}
@@ -26,7 +26,7 @@ use Rattle.filters.specs.CheckRuns.{IsHere}
 -- A filter is opened: the note said something, now it has the next boot, and the server is where it
 -- begins.
 pub record OpenedOver (me : ℕ) (note : List ℕ) (filter : ServerFilter) : Type 0 where
-  pub said : Noted
+  pub said : ServerNote
   pub says : Says note said
   pub saved : (note_in note_kept filter.server).bytes ≡ next_boot said
   pub begins : (o : Opening) (first : ServerAt) → BeginsBehind me note said o first →

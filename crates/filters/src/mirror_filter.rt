@@ -3,7 +3,7 @@
 ghost use Rattle.std.specs.Prelude.{List, Some, OnOk, IfOk, IfSome};
 ghost use Rattle.std.specs.Io.KnownBytes.{Appends};
 ghost use Rattle.std.specs.Io.Buffered.{reader_remaining};
-ghost use Rattle.mirror_core.specs.declared.noted.Noted.{Noted as MirrorOpening};
+ghost use Rattle.mirror_core.specs.declared.note.MirrorNote.{MirrorNote};
 ghost use Rattle.mirror_core.specs.History.{Entry};
 ghost use Rattle.mirror_core.specs.Stands.{StandsFor};
 ghost use Rattle.filters.specs.Kept.{note_kept};
@@ -74,7 +74,7 @@ pub(crate) struct MirrorFilter {
 }
 
 impl RecordsNode for MirrorFilter {
-    ghost Opening = { MirrorOpening };
+    ghost Opening = { MirrorNote };
 
     ghost Moment = { MirrorAt };
 
@@ -133,14 +133,15 @@ impl MirrorFilter {
         writer: &mut W,
     ) -> io::Result<()>
         ensures { OnOk result (Appends (W.contents writer.old) (W.contents writer.new)
-            (result_bytes (note_kept self.now.mirror.notes).bytes answer)) }
+            (result_bytes (note_kept self.now.mirror.durable.notes).bytes answer)) }
     {
         put_result(writer, self.mirror.notes().as_slice(), answer)
     }
 
     /// Takes the frame that these bytes are.
     fn take(&mut self, bytes: &[u8]) -> Result<Answered, Fault>
-        ensures { (o : MirrorOpening) (past : List Entry) → StandsFor note_kept self.old.mirror o past →
+        ensures { (o : MirrorNote) (past : List Entry) →
+            StandsFor note_kept self.old.mirror o past →
             BodyEnds note_kept o past (frame_in bytes.now) self.old.mirror self.new.mirror result }
     {
         match decode_frame(self.alloc, bytes) {
@@ -152,7 +153,8 @@ impl MirrorFilter {
     /// Delivers a frame.
     #[tactic(auto, using(crate::proofs::NodeLemmas::not_taken))]
     fn deliver(&mut self, frame: &Frame) -> Result<Answered, Fault>
-        ensures { (o : MirrorOpening) (past : List Entry) → StandsFor note_kept self.old.mirror o past →
+        ensures { (o : MirrorNote) (past : List Entry) →
+            StandsFor note_kept self.old.mirror o past →
             FrameEnds note_kept o past frame.now self.old.mirror self.new.mirror result }
     {
         let saves = self.mirror.would_save(frame);

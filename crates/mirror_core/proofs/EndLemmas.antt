@@ -16,7 +16,7 @@ use Rattle.disk_model.specs.Steps.{LeavesNote, Answers, Fails, Faults}
 use Rattle.disk_model.proofs.StepLemmas.{and_true, is_own_answer, not_lost, lost_off}
 use Rattle.messages.specs.declared.frame.Frame.{Frame}
 use Rattle.mirror_core.specs.declared.mirror.Mirror.{Mirror}
-use Rattle.mirror_core.specs.declared.noted.Noted.{Noted}
+use Rattle.mirror_core.specs.declared.note.MirrorNote.{MirrorNote}
 use Rattle.mirror_core.specs.declared.request.Request.{Request}
 use Rattle.mirror_core.specs.Note.{IsNoted, Says, SaysWhatIsWritten, spelling}
 use Rattle.mirror_core.specs.History.{Entry, Met}
@@ -36,33 +36,33 @@ not_not : (b : Bool) → not (not b) ≡ b
 not_not true = refl
 not_not false = refl
 
-stands_on : {T : Type 0} (note : T → Note) (mirror : Mirror T) (o : Noted) (past : List Entry) → StandsFor note mirror o past → not mirror.down ≡ is_on past
+stands_on : {T : Type 0} (note : T → Note) (mirror : Mirror T) (o : MirrorNote) (past : List Entry) → StandsFor note mirror o past → not mirror.durable.down ≡ is_on past
 stands_on note mirror o past s = ap not s.on ∙ not_not (is_on past)
 
-stands_known : {T : Type 0} (note : T → Note) (mirror : Mirror T) (o : Noted) (past : List Entry) → StandsFor note mirror o past → is_on past ≡ true
+stands_known : {T : Type 0} (note : T → Note) (mirror : Mirror T) (o : MirrorNote) (past : List Entry) → StandsFor note mirror o past → is_on past ≡ true
     → mirror.noted ≡ words_noted o past
 stands_known note mirror o past s on = s.knows ∙ ap (words_noted o) (looks_at_all past on)
 
-same_refusal : (on : Bool) (n m : Noted) (f : Frame) → (on ≡ true → m ≡ n) → refusal_by on m f ≡ refusal_by on n f
+same_refusal : (on : Bool) (n m : MirrorNote) (f : Frame) → (on ≡ true → m ≡ n) → refusal_by on m f ≡ refusal_by on n f
 same_refusal true n m f e = ap (λ x. refusal_by true x f) (e refl)
 same_refusal false n m f e = refl
 
 -- What the mirror refuses is what the list says.
-refusal_is : {T : Type 0} (note : T → Note) (mirror : Mirror T) (o : Noted) (past : List Entry) (f : Frame) → StandsFor note mirror o past
-    → refusal_by (not mirror.down) mirror.noted f ≡ refusal o past f
+refusal_is : {T : Type 0} (note : T → Note) (mirror : Mirror T) (o : MirrorNote) (past : List Entry) (f : Frame) → StandsFor note mirror o past
+    → refusal_by (not mirror.durable.down) mirror.noted f ≡ refusal o past f
 refusal_is note mirror o past f s =
     ap (λ on. refusal_by on mirror.noted f) (stands_on note mirror o past s)
     ∙ same_refusal (is_on past) (words_noted o past) mirror.noted f (stands_known note mirror o past s)
 
 -- A frame that isn't refused comes to a mirror that is on, which knows what the list says.
-record Free {T : Type 0} (mirror : Mirror T) (o : Noted) (past : List Entry) (f : Frame) (r : Request) : Type 0 where
+record Free {T : Type 0} (mirror : Mirror T) (o : MirrorNote) (past : List Entry) (f : Frame) (r : Request) : Type 0 where
   on : is_on past ≡ true
   knows : mirror.noted ≡ words_noted o past
   free : refusal o past f ≡ None
   due_is : due o past f ≡ addition_by mirror.noted r
   sends : frame_bytes (replies mirror.noted r) ≡ frame_bytes (packets o past (answered_entry o past f))
 
-free_now : {T : Type 0} (note : T → Note) (mirror : Mirror T) (o : Noted) (past : List Entry) (f : Frame) (r : Request) → mirror.down ≡ false
+free_now : {T : Type 0} (note : T → Note) (mirror : Mirror T) (o : MirrorNote) (past : List Entry) (f : Frame) (r : Request) → mirror.durable.down ≡ false
     → faults_of_request mirror.noted r ≡ [] → request_in f ≡ Some r → StandsFor note mirror o past → Free mirror o past f r
 free_now note mirror o past f r up none asked s =
     let on : is_on past ≡ true = sym (stands_on note mirror o past s) ∙ ap not up in
@@ -84,17 +84,17 @@ free_now note mirror o past f r up none asked s =
 
 -- ---- a refused frame
 
-after_none : (new : Bool) (d : Option Addition) (n : Noted) → new ≡ false → noted_after new d n ≡ n
+after_none : (new : Bool) (d : Option Addition) (n : MirrorNote) → new ≡ false → noted_after new d n ≡ n
 after_none new None n e = refl
 after_none true (Some a) n e = cc
 after_none false (Some a) n e = refl
 
 -- A refused frame in the list changes none of its words.
-refused_stands : {T : Type 0} (note : T → Note) (mirror : Mirror T) (o : Noted) (past : List Entry) (f : Frame) → StandsFor note mirror o past
+refused_stands : {T : Type 0} (note : T → Note) (mirror : Mirror T) (o : MirrorNote) (past : List Entry) (f : Frame) → StandsFor note mirror o past
     → StandsFor note mirror o (Met f NoSave ∷ past)
 refused_stands note mirror o past f s = record {
   on = s.on ∙ ap not (sym (and_true (is_on past)));
-  durable = subst (λ n. Says (note mirror.notes).bytes n) (sym same_noted) s.durable;
+  durable = subst (λ n. Says (note mirror.durable.notes).bytes n) (sym same_noted) s.durable;
   knows = s.knows ∙ sym (by_on (is_on past) (shown_entries past) (λ on. same_noted ∙ ap (words_noted o) (sym (looks_at_all past on))));
 }
   where
@@ -106,26 +106,26 @@ refused_stands note mirror o past f s = record {
     by_on true y e = e refl
     by_on false y e = refl
 
-pub refuses : {T : Type 0} (note : T → Note) (mirror : Mirror T) (o : Noted) (past : List Entry) (f : Frame) (fault : Fault)
-    → refusal_by (not mirror.down) mirror.noted f ≡ Some fault → StandsFor note mirror o past
+pub refuses : {T : Type 0} (note : T → Note) (mirror : Mirror T) (o : MirrorNote) (past : List Entry) (f : Frame) (fault : Fault)
+    → refusal_by (not mirror.durable.down) mirror.noted f ≡ Some fault → StandsFor note mirror o past
     → Faults (steps note o) past f (sort_of fault) fault mirror mirror
 refuses note mirror o past f fault r s =
     let why = sym (refusal_is note mirror o past f s) ∙ r in
-    subst (λ t. Faults (steps note o) past f t fault mirror mirror) (sym (refusal_sort (not mirror.down) mirror.noted (request_in f) fault r))
+    subst (λ t. Faults (steps note o) past f t fault mirror mirror) (sym (refusal_sort (not mirror.durable.down) mirror.noted (request_in f) fault r))
     (record { why = why; same_note = refl; unchanged = s; stands = refused_stands note mirror o past f s })
 
 -- ---- a frame that is answered
 
-new_noted : (d : Option Addition) (n : Noted) → noted_after (has_new (saved_for d)) d n ≡ noted_after true d n
+new_noted : (d : Option Addition) (n : MirrorNote) → noted_after (has_new (saved_for d)) d n ≡ noted_after true d n
 new_noted None n = refl
 new_noted (Some a) n = refl
 
-answered_stands : {T : Type 0} (note : T → Note) (mirror : Mirror T) (o : Noted) (past : List Entry) (f : Frame) → is_on past ≡ true → mirror.down ≡ false
-    → Says (note mirror.notes).bytes (noted_after true (due o past f) (words_noted o past))
+answered_stands : {T : Type 0} (note : T → Note) (mirror : Mirror T) (o : MirrorNote) (past : List Entry) (f : Frame) → is_on past ≡ true → mirror.durable.down ≡ false
+    → Says (note mirror.durable.notes).bytes (noted_after true (due o past f) (words_noted o past))
     → mirror.noted ≡ noted_after true (due o past f) (words_noted o past) → StandsFor note mirror o (answered_entry o past f ∷ past)
 answered_stands note mirror o past f on up says knows = record {
   on = up ∙ sym (ap not (ap (λ b. b && not (is_lost (saved_for (due o past f)))) on ∙ ap not (not_lost (due o past f))));
-  durable = subst (Says (note mirror.notes).bytes) (sym noted_is) says;
+  durable = subst (Says (note mirror.durable.notes).bytes) (sym noted_is) says;
   knows = knows ∙ sym (ap (words_noted o) look ∙ noted_is);
 }
   where
@@ -137,8 +137,8 @@ answered_stands note mirror o past f on up says knows = record {
         ∙ ap (λ b. if b then past else answered_entry o past f ∷ past) (not_lost (due o past f))
 
 -- A frame is answered without a save.
-pub answers_plain : {T : Type 0} (note : T → Note) (mirror : Mirror T) (o : Noted) (past : List Entry) (f : Frame) (r : Request) (frames : List (List ℕ))
-    → mirror.down ≡ false → faults_of_request mirror.noted r ≡ [] → request_in f ≡ Some r
+pub answers_plain : {T : Type 0} (note : T → Note) (mirror : Mirror T) (o : MirrorNote) (past : List Entry) (f : Frame) (r : Request) (frames : List (List ℕ))
+    → mirror.durable.down ≡ false → faults_of_request mirror.noted r ≡ [] → request_in f ≡ Some r
     → addition_by mirror.noted r ≡ None → frames ≡ frame_bytes (replies mirror.noted r) → StandsFor note mirror o past
     → Answers (steps note o) past f mirror mirror frames
 answers_plain note mirror o past f r frames up none asked adds sends s =
@@ -148,13 +148,13 @@ answers_plain note mirror o past f r frames up none asked adds sends s =
     record {
       free = k.free;
       sends = sends ∙ k.sends;
-      leaves = subst (λ d. LeavesNote d (spelling (words_noted o (answered_entry o past f ∷ past))) (note mirror.notes) (note mirror.notes)) (sym nothing) refl;
-      stands = answered_stands note mirror o past f k.on up (subst (Says (note mirror.notes).bytes) same s.durable) (k.knows ∙ same);
+      leaves = subst (λ d. LeavesNote d (spelling (words_noted o (answered_entry o past f ∷ past))) (note mirror.durable.notes) (note mirror.durable.notes)) (sym nothing) refl;
+      stands = answered_stands note mirror o past f k.on up (subst (Says (note mirror.durable.notes).bytes) same s.durable) (k.knows ∙ same);
     }
 
 -- A frame is answered with a save.
-pub answers_stored : {T : Type 0} (note : T → Note) (old new : Mirror T) (a : Addition) (o : Noted) (past : List Entry) (f : Frame) (r : Request)
-    (frames : List (List ℕ)) → SaysWhatIsWritten → old.down ≡ false → faults_of_request old.noted r ≡ [] → request_in f ≡ Some r
+pub answers_stored : {T : Type 0} (note : T → Note) (old new : Mirror T) (a : Addition) (o : MirrorNote) (past : List Entry) (f : Frame) (r : Request)
+    (frames : List (List ℕ)) → SaysWhatIsWritten → old.durable.down ≡ false → faults_of_request old.noted r ≡ [] → request_in f ≡ Some r
     → addition_by old.noted r ≡ Some a → (IsNoted old.noted → IsNoted (with_addition a old.noted)) → (u : Unit {0}) → Stores note a old new (Ok u)
     → frames ≡ frame_bytes (replies old.noted r)
     → StandsFor note old o past → Answers (steps note o) past f old new frames
@@ -168,10 +168,10 @@ answers_stored note old new a o past f r frames read up none asked adds fits u s
     record {
       free = k.free;
       sends = sends ∙ k.sends;
-      leaves = subst (λ d. LeavesNote d (spelling (noted_after (has_new (saved_for d)) d (words_noted o past))) (note old.notes) (note new.notes))
+      leaves = subst (λ d. LeavesNote d (spelling (noted_after (has_new (saved_for d)) d (words_noted o past))) (note old.durable.notes) (note new.durable.notes))
           (sym makes_one)
-          (stored.0 ∙ ap (λ n. record (note old.notes) { bytes = spelling n }) is);
-      stands = answered_stands note new o past f k.on (ap (λ (m : Mirror _). m.down) stored.1 ∙ up)
+          (stored.0 ∙ ap (λ n. record (note old.durable.notes) { bytes = spelling n }) is);
+      stands = answered_stands note new o past f k.on (ap (λ (m : Mirror _). m.durable.down) stored.1 ∙ up)
           (subst (λ bytes. Says bytes (noted_after true (due o past f) (words_noted o past))) (sym (ap (λ (n : Note). n.bytes) stored.0 ∙ ap spelling is))
           (subst (Says (spelling (with_addition a (words_noted o past)))) grown (read (with_addition a (words_noted o past)) noted_now)))
           (ap (λ (m : Mirror _). m.noted) stored.1 ∙ is ∙ grown);
@@ -180,10 +180,10 @@ answers_stored note old new a o past f r frames read up none asked adds fits u s
 -- ---- a frame whose save isn't answered
 
 -- A mirror that is down at a failed save stands for the list with what was lost.
-lost_stands : {T : Type 0} (note : T → Note) (mirror : Mirror T) (notes : T) (o : Noted) (past : List Entry) (f : Frame) (left : Left) → is_on past ≡ true
+lost_stands : {T : Type 0} (note : T → Note) (mirror : Mirror T) (notes : T) (o : MirrorNote) (past : List Entry) (f : Frame) (left : Left) → is_on past ≡ true
     → is_lost left ≡ true → StandsFor note mirror o past
     → Says (note notes).bytes (noted_after (has_new left) (due o past f) (words_noted o past))
-    → StandsFor note (record mirror { notes = notes; down = true }) o (Met f left ∷ past)
+    → StandsFor note (record mirror { durable = record { notes = notes; down = true } }) o (Met f left ∷ past)
 lost_stands note mirror notes o past f left on lost s says = record {
   on = lost_off (is_on past) left lost;
   durable = says;
@@ -194,10 +194,10 @@ lost_stands note mirror notes o past f left on lost s says = record {
     look = ap (λ b. if b then (if is_lost left then past else Met f left ∷ past) else shown_entries past) on
         ∙ ap (λ b. if b then past else Met f left ∷ past) lost
 
-unsaved : {T : Type 0} (note : T → Note) (old new : Mirror T) (a : Addition) (fault : Fault) (o : Noted) (past : List Entry) (f : Frame) (r : Request)
+unsaved : {T : Type 0} (note : T → Note) (old new : Mirror T) (a : Addition) (fault : Fault) (o : MirrorNote) (past : List Entry) (f : Frame) (r : Request)
     → SaysWhatIsWritten → StandsFor note old o past → Free old o past f r
     → addition_by old.noted r ≡ Some a → IsNoted (with_addition a (words_noted o past)) → (t : FaultSort)
-    → Unsaved (λ m. note m.notes) (save_of (with_addition a old.noted) old new) t fault old new → Faults (steps note o) past f t fault old new
+    → Unsaved (λ m. note m.durable.notes) (save_of (with_addition a old.noted) old new) t fault old new → Faults (steps note o) past f t fault old new
 unsaved note old new a fault o past f r read s k adds fits sorts.Memory u = record {
   why = u.0;
   same_note = u.1;
@@ -210,9 +210,9 @@ unsaved note old new a fault o past f r read s k adds fits sorts.Save u = by_byt
     makes_one : due o past f ≡ Some a
     makes_one = k.due_is ∙ adds
 
-    failed : (left : Left) → is_lost left ≡ true → (note new.notes).bytes
-        ≡ bytes_left left (spelling (noted_after (has_new left) (due o past f) (words_noted o past))) (note old.notes).bytes
-        → Says (note new.notes).bytes (noted_after (has_new left) (Some a) (words_noted o past)) → Fails (steps note o) past f old new
+    failed : (left : Left) → is_lost left ≡ true → (note new.durable.notes).bytes
+        ≡ bytes_left left (spelling (noted_after (has_new left) (due o past f) (words_noted o past))) (note old.durable.notes).bytes
+        → Says (note new.durable.notes).bytes (noted_after (has_new left) (Some a) (words_noted o past)) → Fails (steps note o) past f old new
     failed left lost bytes says = record {
       cause = u.0;
       free = k.free;
@@ -222,21 +222,21 @@ unsaved note old new a fault o past f r read s k adds fits sorts.Save u = by_byt
       lost = lost;
       bytes_are = bytes;
       stands = subst (λ x. StandsFor note x o (Met f left ∷ past)) (sym u.2)
-          (lost_stands note old new.notes o past f left k.on lost s
-          (subst (λ d. Says (note new.notes).bytes (noted_after (has_new left) d (words_noted o past))) (sym makes_one) says));
+          (lost_stands note old new.durable.notes o past f left k.on lost s
+          (subst (λ d. Says (note new.durable.notes).bytes (noted_after (has_new left) d (words_noted o past))) (sym makes_one) says));
     }
 
-    by_bytes : ((note new.notes).bytes ≡ (note old.notes).bytes) ⊎ ((note new.notes).bytes ≡ spelling (with_addition a old.noted))
+    by_bytes : ((note new.durable.notes).bytes ≡ (note old.durable.notes).bytes) ⊎ ((note new.durable.notes).bytes ≡ spelling (with_addition a old.noted))
         → Fails (steps note o) past f old new
     by_bytes (inl e) = failed LostOld refl e (subst (λ bytes. Says bytes (words_noted o past)) (sym e) s.durable)
     by_bytes (inr e) =
-        let is : (note new.notes).bytes ≡ spelling (with_addition a (words_noted o past)) = e ∙ ap (λ n. spelling (with_addition a n)) k.knows in
+        let is : (note new.durable.notes).bytes ≡ spelling (with_addition a (words_noted o past)) = e ∙ ap (λ n. spelling (with_addition a n)) k.knows in
         failed LostNew refl (is ∙ ap (λ d. spelling (noted_after true d (words_noted o past))) (sym makes_one))
         (subst (λ bytes. Says bytes (with_addition a (words_noted o past))) (sym is) (read (with_addition a (words_noted o past)) fits))
 
 -- The frame's save fails, or finds no memory.
-pub fails_stored : {T : Type 0} (note : T → Note) (old new : Mirror T) (a : Addition) (fault : Fault) (o : Noted) (past : List Entry) (f : Frame) (r : Request)
-    → SaysWhatIsWritten → old.down ≡ false → faults_of_request old.noted r ≡ [] → request_in f ≡ Some r
+pub fails_stored : {T : Type 0} (note : T → Note) (old new : Mirror T) (a : Addition) (fault : Fault) (o : MirrorNote) (past : List Entry) (f : Frame) (r : Request)
+    → SaysWhatIsWritten → old.durable.down ≡ false → faults_of_request old.noted r ≡ [] → request_in f ≡ Some r
     → addition_by old.noted r ≡ Some a → (IsNoted old.noted → IsNoted (with_addition a old.noted)) → Stores note a old new (Err fault)
     → StandsFor note old o past → Faults (steps note o) past f (sort_of fault) fault old new
 fails_stored note old new a fault o past f r read up none asked adds fits stored s =
@@ -258,17 +258,17 @@ on_of : (on : Bool) (fs : List Fault) → slice_get (when (not on) Down ++ fs) 0
 on_of true fs h = refl
 on_of false fs h = cc
 
-pub would_save_one : {T : Type 0} (note : T → Note) (mirror : Mirror T) (o : Noted) (past : List Entry) (f : Frame) (r : Request)
-    → refusal_by (not mirror.down) mirror.noted f ≡ None → request_in f ≡ Some r → StandsFor note mirror o past
+pub would_save_one : {T : Type 0} (note : T → Note) (mirror : Mirror T) (o : MirrorNote) (past : List Entry) (f : Frame) (r : Request)
+    → refusal_by (not mirror.durable.down) mirror.noted f ≡ None → request_in f ≡ Some r → StandsFor note mirror o past
     → is_some (addition_by mirror.noted r) ≡ would_save o past f
 would_save_one note mirror o past f r free asked s =
     let none = sym (refusal_is note mirror o past f s) ∙ free in
-    let on : is_on past ≡ true = sym (stands_on note mirror o past s) ∙ on_of (not mirror.down) (faults_of mirror.noted (request_in f)) free in
+    let on : is_on past ≡ true = sym (stands_on note mirror o past s) ∙ on_of (not mirror.durable.down) (faults_of mirror.noted (request_in f)) free in
     ap (λ n. is_some (addition_by n r)) (stands_known note mirror o past s on)
     ∙ (ap (λ q. is_some (addition_of (words_noted o past) q)) (sym asked)
     ∙ sym (would_by (refusal o past f) (addition_of (words_noted o past) (request_in f)) none))
 
-pub would_save_none : {T : Type 0} (note : T → Note) (mirror : Mirror T) (o : Noted) (past : List Entry) (f : Frame) (fault : Fault)
-    → refusal_by (not mirror.down) mirror.noted f ≡ Some fault → StandsFor note mirror o past → false ≡ would_save o past f
+pub would_save_none : {T : Type 0} (note : T → Note) (mirror : Mirror T) (o : MirrorNote) (past : List Entry) (f : Frame) (fault : Fault)
+    → refusal_by (not mirror.durable.down) mirror.noted f ≡ Some fault → StandsFor note mirror o past → false ≡ would_save o past f
 would_save_none note mirror o past f fault refused s =
     would_not (refusal o past f) (addition_of (words_noted o past) (request_in f)) fault (sym (refusal_is note mirror o past f s) ∙ refused)

@@ -11,7 +11,7 @@ use Rattle.disk_model.specs.Left.{has_new}
 use Rattle.messages.specs.declared.frame.Frame.{Frame}
 use Rattle.state_table.specs.Kept.{kept_of}
 use Rattle.state_table.specs.Laws.{FoundStays, FoundOrLast}
-use Rattle.mirror_core.specs.declared.noted.Noted.{Noted}
+use Rattle.mirror_core.specs.declared.note.MirrorNote.{MirrorNote}
 use Rattle.mirror_core.specs.declared.request.Request.{Request}
 use Rattle.mirror_core.specs.declared.request.Request.TheVariants.{Copy, Fetch}
 use Rattle.mirror_core.specs.History.{Entry, Met, Cut, Restart}
@@ -25,17 +25,17 @@ use Rattle.mirror_core.proofs.RequestLemmas.{asked_copy}
 
 -- ---- what is kept stays
 
-added_stays : FoundStays → (key : Key) (a : Addition) (n : Noted) (s : State) → kept_of key n.kept ≡ Some s → kept_of key (with_addition a n).kept ≡ Some s
+added_stays : FoundStays → (key : Key) (a : Addition) (n : MirrorNote) (s : State) → kept_of key n.kept ≡ Some s → kept_of key (with_addition a n).kept ≡ Some s
 added_stays stays key (Grant g) n s h = h
 added_stays stays key (Keep state) n s h = stays key n.kept (state ∷ []) s h
 
-noted_stays : FoundStays → (key : Key) (new : Bool) (d : Option Addition) (n : Noted) (s : State) → kept_of key n.kept ≡ Some s
+noted_stays : FoundStays → (key : Key) (new : Bool) (d : Option Addition) (n : MirrorNote) (s : State) → kept_of key n.kept ≡ Some s
     → kept_of key (noted_after new d n).kept ≡ Some s
 noted_stays stays key new None n s h = h
 noted_stays stays key true (Some a) n s h = added_stays stays key a n s h
 noted_stays stays key false (Some a) n s h = h
 
-stays_after : FoundStays → (o : Noted) (e : Entry) (past : List Entry) (key : Key) (s : State) → kept_state o past key ≡ Some s
+stays_after : FoundStays → (o : MirrorNote) (e : Entry) (past : List Entry) (key : Key) (s : State) → kept_state o past key ≡ Some s
     → kept_state o (e ∷ past) key ≡ Some s
 stays_after stays o (Met f left) past key s h = noted_stays stays key (has_new left) (due_by (is_on past) (words_noted o past) f) (words_noted o past) s h
 stays_after stays o Cut past key s h = h
@@ -47,34 +47,34 @@ first_kept_stays stays o (e ∷ more) past key s h = stays_after stays o e (more
 
 -- ---- an addition is of no smaller generation
 
-abbrev Rises : Noted → Option Addition → Type 0
+abbrev Rises : MirrorNote → Option Addition → Type 0
 Rises n (Some (Grant g)) = n.generation ≤ g
 Rises n _ = Unit {0}
 
-granted_rises : (n : Noted) (g : ℕ) (b : Bool) → nat_lt n.generation g ≡ b → Rises n (if b then Some (Grant g) else None)
+granted_rises : (n : MirrorNote) (g : ℕ) (b : Bool) → nat_lt n.generation g ≡ b → Rises n (if b then Some (Grant g) else None)
 granted_rises n g true e = grind (arith, nat_tests)
 granted_rises n g false e = tt
 
-kept_rises : (n : Noted) (state : State) (k : Option State) → Rises n (unless_kept k state)
+kept_rises : (n : MirrorNote) (state : State) (k : Option State) → Rises n (unless_kept k state)
 kept_rises n state None = tt
 kept_rises n state (Some s) = tt
 
-asked_rises : (n : Noted) (q : Option Request) → Rises n (addition_of n q)
+asked_rises : (n : MirrorNote) (q : Option Request) → Rises n (addition_of n q)
 asked_rises n None = tt
 asked_rises n (Some (Copy state)) = kept_rises n state (kept_of state.key n.kept)
 asked_rises n (Some (Fetch g)) = granted_rises n g (nat_lt n.generation g) refl
 
-free_rises : (n : Noted) (r : Option Fault) (d : Option Addition) → Rises n d → Rises n (unless_refused r d)
+free_rises : (n : MirrorNote) (r : Option Fault) (d : Option Addition) → Rises n d → Rises n (unless_refused r d)
 free_rises n None d h = h
 free_rises n (Some f) d h = tt
 
-after_rises : (n : Noted) (new : Bool) (d : Option Addition) → Rises n d → n.generation ≤ (noted_after new d n).generation
+after_rises : (n : MirrorNote) (new : Bool) (d : Option Addition) → Rises n d → n.generation ≤ (noted_after new d n).generation
 after_rises n new None h = omega arith
 after_rises n true (Some (Grant g)) h = h
 after_rises n true (Some (Keep s)) h = omega arith
 after_rises n false (Some a) h = omega arith
 
-rises_after : (o : Noted) (e : Entry) (past : List Entry) → generation o past ≤ generation o (e ∷ past)
+rises_after : (o : MirrorNote) (e : Entry) (past : List Entry) → generation o past ≤ generation o (e ∷ past)
 rises_after o (Met f left) past =
     after_rises (words_noted o past) (has_new left) (due_by (is_on past) (words_noted o past) f)
     (free_rises (words_noted o past) (refusal_by (is_on past) (words_noted o past) f) (addition_of (words_noted o past) (request_in f))
@@ -91,19 +91,19 @@ generations_rise o (e ∷ more) past =
 
 -- ---- where a kept state came from
 
-grant_only : (b new : Bool) (n : Noted) (g : ℕ) (key : Key) (s : State) → kept_of key (noted_after new (if b then Some (Grant g) else None) n).kept ≡ Some s
+grant_only : (b new : Bool) (n : MirrorNote) (g : ℕ) (key : Key) (s : State) → kept_of key (noted_after new (if b then Some (Grant g) else None) n).kept ≡ Some s
     → kept_of key n.kept ≡ Some s
 grant_only true true n g key s h = h
 grant_only true false n g key s h = h
 grant_only false new n g key s h = h
 
-copy_only : FoundOrLast → (n : Noted) (new : Bool) (state : State) (key : Key) (s : State) (before : Option State)
+copy_only : FoundOrLast → (n : MirrorNote) (new : Bool) (state : State) (key : Key) (s : State) (before : Option State)
     → kept_of key (noted_after new (unless_kept before state) n).kept ≡ Some s → (kept_of key n.kept ≡ Some s) ⊎ (state ≡ s)
 copy_only only n new state key s (Some before) h = inl h
 copy_only only n true state key s None h = elim (only key n.kept state s h) [ inl e ↦ inl e | inr e ↦ inr e.0 ]
 copy_only only n false state key s None h = inl h
 
-asked_came : FoundOrLast → (n : Noted) (new : Bool) (r : Option Fault) (q : Option Request) (key : Key) (s : State)
+asked_came : FoundOrLast → (n : MirrorNote) (new : Bool) (r : Option Fault) (q : Option Request) (key : Key) (s : State)
     → kept_of key (noted_after new (unless_refused r (addition_of n q)) n).kept ≡ Some s → (kept_of key n.kept ≡ Some s) ⊎ (q ≡ Some (Copy s))
 asked_came only n new (Some f) q key s h = inl h
 asked_came only n new None None key s h = inl h
@@ -114,12 +114,12 @@ asked_came only n new None (Some (Copy state)) key s h =
 copy_in : (f : Frame) (left : Left) (s : State) → request_in f ≡ Some (Copy s) → Contains (packet_in (Met f left)) (from_client s)
 copy_in f left s h = rw (asked_copy f s h) (one (from_client s) (from_client s) refl)
 
-earlier : (o : Noted) (e : Entry) (past : List Entry) (key : Key) (s : State) → (kept_state o [] key ≡ Some s) ⊎ Contains (packets_come past) (from_client s)
+earlier : (o : MirrorNote) (e : Entry) (past : List Entry) (key : Key) (s : State) → (kept_state o [] key ≡ Some s) ⊎ Contains (packets_come past) (from_client s)
     → (kept_state o [] key ≡ Some s) ⊎ Contains (packets_come (e ∷ past)) (from_client s)
 earlier o e past key s (inl h) = inl h
 earlier o e past key s (inr h) = inr (Contains-append_right (packet_in e) (packets_come past) (from_client s) h)
 
-now_or_earlier : (o : Noted) (f : Frame) (left : Left) (past : List Entry) (key : Key) (s : State)
+now_or_earlier : (o : MirrorNote) (f : Frame) (left : Left) (past : List Entry) (key : Key) (s : State)
     → (kept_state o past key ≡ Some s) ⊎ (request_in f ≡ Some (Copy s))
     → (kept_state o past key ≡ Some s → (kept_state o [] key ≡ Some s) ⊎ Contains (packets_come past) (from_client s))
     → (kept_state o [] key ≡ Some s) ⊎ Contains (packets_come (Met f left ∷ past)) (from_client s)
@@ -136,18 +136,18 @@ kept_was_sent only o (Restart ∷ past) key s h = earlier o Restart past key s (
 
 -- ---- where each state in the note came from
 
-grant_none : (b new : Bool) (n : Noted) (g : ℕ) (s : State) → Contains (noted_after new (if b then Some (Grant g) else None) n).kept s → Contains n.kept s
+grant_none : (b new : Bool) (n : MirrorNote) (g : ℕ) (s : State) → Contains (noted_after new (if b then Some (Grant g) else None) n).kept s → Contains n.kept s
 grant_none true true n g s h = h
 grant_none true false n g s h = h
 grant_none false new n g s h = h
 
-copy_last : (n : Noted) (new : Bool) (state s : State) (before : Option State) → Contains (noted_after new (unless_kept before state) n).kept s
+copy_last : (n : MirrorNote) (new : Bool) (state s : State) (before : Option State) → Contains (noted_after new (unless_kept before state) n).kept s
     → Contains n.kept s ⊎ (state ≡ s)
 copy_last n new state s (Some before) h = inl h
 copy_last n true state s None h = Contains-push_cases n.kept state s h
 copy_last n false state s None h = inl h
 
-asked_last : (n : Noted) (new : Bool) (r : Option Fault) (q : Option Request) (s : State)
+asked_last : (n : MirrorNote) (new : Bool) (r : Option Fault) (q : Option Request) (s : State)
     → Contains (noted_after new (unless_refused r (addition_of n q)) n).kept s → Contains n.kept s ⊎ (q ≡ Some (Copy s))
 asked_last n new (Some f) q s h = inl h
 asked_last n new None None s h = inl h
@@ -155,12 +155,12 @@ asked_last n new None (Some (Fetch g)) s h = inl (grant_none (nat_lt n.generatio
 asked_last n new None (Some (Copy state)) s h =
     elim (copy_last n new state s (kept_of state.key n.kept) h) [ inl e ↦ inl e | inr e ↦ inr (ap (λ x. Some (Copy x)) e) ]
 
-sent_earlier : (o : Noted) (e : Entry) (past : List Entry) (s : State) → Contains o.kept s ⊎ Contains (packets_come past) (from_client s)
+sent_earlier : (o : MirrorNote) (e : Entry) (past : List Entry) (s : State) → Contains o.kept s ⊎ Contains (packets_come past) (from_client s)
     → Contains o.kept s ⊎ Contains (packets_come (e ∷ past)) (from_client s)
 sent_earlier o e past s (inl h) = inl h
 sent_earlier o e past s (inr h) = inr (Contains-append_right (packet_in e) (packets_come past) (from_client s) h)
 
-sent_now_or_earlier : (o : Noted) (f : Frame) (left : Left) (past : List Entry) (s : State)
+sent_now_or_earlier : (o : MirrorNote) (f : Frame) (left : Left) (past : List Entry) (s : State)
     → Contains (words_noted o past).kept s ⊎ (request_in f ≡ Some (Copy s))
     → (Contains (words_noted o past).kept s → Contains o.kept s ⊎ Contains (packets_come past) (from_client s))
     → Contains o.kept s ⊎ Contains (packets_come (Met f left ∷ past)) (from_client s)

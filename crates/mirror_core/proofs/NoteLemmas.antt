@@ -20,7 +20,7 @@ use Rattle.state_table.specs.Reading.{states_at, ReadsStates}
 use Rattle.state_table.proofs.CountedLemmas.{AreCounted, spelled_counted, same_states, too_many_states, no_states_read, counted_spelled, written, put_counted}
 use Rattle.verify_state.specs.Reading.{field}
 use Rattle.verify_state.proofs.FieldLemmas.{IsBytes, bytes_drop, piece64}
-use Rattle.mirror_core.specs.declared.noted.Noted.{Noted}
+use Rattle.mirror_core.specs.declared.note.MirrorNote.{MirrorNote}
 use Rattle.mirror_core.specs.Note.{blank, note_of, spelling, IsNoted, Spells, Says, SaysOneThing, SaysWhatIsWritten}
 
 -- what stands behind the magic and the generation
@@ -31,7 +31,7 @@ abbrev pub after_generation : List ℕ → List ℕ
 after_generation bytes = drop 8 (after_magic bytes)
 
 -- what bytes that aren't empty have to be, so as to say a note
-pub record IsRead (bytes : List ℕ) (n : Noted) : Type 0 where
+pub record IsRead (bytes : List ℕ) (n : MirrorNote) : Type 0 where
   pub mark : take 4 bytes ≡ codes "FCM1"
   pub long : 16 ≤ length bytes
   pub generation : number_in w64 (after_magic bytes) ≡ n.generation
@@ -40,7 +40,7 @@ pub record IsRead (bytes : List ℕ) (n : Noted) : Type 0 where
 wide : (generation : ℕ) → generation ≤ MAX_GENERATION → generation < 2 ^ 64
 wide generation l = let few : generation ≤ 4294967295 = l in omega arith
 
-spelled_read : SpelledAreRead → (n : Noted) (parts : List (List ℕ)) → IsNoted n → SayStates parts n.kept → IsRead (note_of n.generation parts) n
+spelled_read : SpelledAreRead → (n : MirrorNote) (parts : List (List ℕ)) → IsNoted n → SayStates parts n.kept → IsRead (note_of n.generation parts) n
 unfolding note_of bytes_of number_in
 spelled_read reads n parts k h = record {
   mark = refl;
@@ -49,7 +49,7 @@ spelled_read reads n parts k h = record {
   kept = spelled_counted reads parts n.kept h k.count;
 }
 
-says_read : SpelledAreRead → (bytes : List ℕ) (n : Noted) → Says bytes n → (bytes ≡ [] → ⊥) → IsRead bytes n
+says_read : SpelledAreRead → (bytes : List ℕ) (n : MirrorNote) → Says bytes n → (bytes ≡ [] → ⊥) → IsRead bytes n
 says_read reads bytes n s some = by s.spelled
   where
     by : Spells bytes n ⊎ ((bytes ≡ []) × (n ≡ blank)) → IsRead bytes n
@@ -61,14 +61,14 @@ not_empty : (generation : ℕ) (parts : List (List ℕ)) → note_of generation 
 unfolding note_of bytes_of number_in
 not_empty generation parts e = cc
 
-blank_by : (bytes : List ℕ) (n : Noted) → bytes ≡ [] → Spells bytes n ⊎ ((bytes ≡ []) × (n ≡ blank)) → n ≡ blank
+blank_by : (bytes : List ℕ) (n : MirrorNote) → bytes ≡ [] → Spells bytes n ⊎ ((bytes ≡ []) × (n ≡ blank)) → n ≡ blank
 blank_by bytes n e (inl a) = absurd (not_empty n.generation a.parts (sym a.spelled ∙ e))
 blank_by bytes n e (inr a) = a.1
 
-says_blank : (n : Noted) → Says [] n → n ≡ blank
+says_blank : (n : MirrorNote) → Says [] n → n ≡ blank
 says_blank n s = blank_by [] n refl s.spelled
 
-same_noted : (bytes : List ℕ) (n m : Noted) → IsRead bytes n → IsRead bytes m → n ≡ m
+same_noted : (bytes : List ℕ) (n m : MirrorNote) → IsRead bytes n → IsRead bytes m → n ≡ m
 same_noted bytes n m a b =
     let g : n.generation ≡ m.generation = sym a.generation ∙ b.generation in
     let k : n.kept ≡ m.kept = same_states (after_generation bytes) n.kept m.kept a.kept b.kept in
@@ -107,7 +107,7 @@ read_says reads spelled bytes generation count kept h mark long g c low few stat
     }
 
 -- what is put together is the spelling
-pub encoded : (n : Noted) (count : ℕ) (states : List State) (a b c e f : List ℕ) → count ≡ length n.kept → states ≡ n.kept → a ≡ [] → b ≡ a ++ codes "FCM1"
+pub encoded : (n : MirrorNote) (count : ℕ) (states : List State) (a b c e f : List ℕ) → count ≡ length n.kept → states ≡ n.kept → a ≡ [] → b ≡ a ++ codes "FCM1"
     → c ≡ b ++ bytes_of w64 n.generation
     → e ≡ c ++ bytes_of w32 count → f ≡ e ++ flat_map (λ s. counted_bytes (state_bytes s)) states → f ≡ spelling n
 unfolding note_of bytes_of number_in
@@ -121,16 +121,16 @@ pub some_bytes : (bytes : List ℕ) → false ≡ (length bytes == 0) → bytes 
 some_bytes [] h e = cc
 some_bytes (b ∷ bytes) h e = cc
 
-pub no_magic : SpelledAreRead → (bytes : List ℕ) (n : Noted) → (bytes ≡ [] → ⊥) → bytes_eq (take 4 bytes) (codes "FCM1") ≡ false → Says bytes n → ⊥
+pub no_magic : SpelledAreRead → (bytes : List ℕ) (n : MirrorNote) → (bytes ≡ [] → ⊥) → bytes_eq (take 4 bytes) (codes "FCM1") ≡ false → Says bytes n → ⊥
 no_magic reads bytes n some h s =
     let m : bytes_eq (take 4 bytes) (codes "FCM1") ≡ true = (bytes_eq-Decides (take 4 bytes) (codes "FCM1")).1 (says_read reads bytes n s some).mark in
     let e : true ≡ false = sym m ∙ h in
     cc
 
-pub too_short : SpelledAreRead → (bytes : List ℕ) (n : Noted) → (bytes ≡ [] → ⊥) → length bytes < 16 → Says bytes n → ⊥
+pub too_short : SpelledAreRead → (bytes : List ℕ) (n : MirrorNote) → (bytes ≡ [] → ⊥) → length bytes < 16 → Says bytes n → ⊥
 too_short reads bytes n some h s = let l : 16 ≤ length bytes = (says_read reads bytes n s some).long in absurd (omega arith)
 
-pub too_great : SpelledAreRead → (bytes : List ℕ) (n : Noted) (generation : ℕ) → (bytes ≡ [] → ⊥) → generation ≡ number_in w64 (after_magic bytes)
+pub too_great : SpelledAreRead → (bytes : List ℕ) (n : MirrorNote) (generation : ℕ) → (bytes ≡ [] → ⊥) → generation ≡ number_in w64 (after_magic bytes)
     → MAX_GENERATION < generation → Says bytes n → ⊥
 too_great reads bytes n generation some g h s =
     let e : generation ≡ n.generation = g ∙ (says_read reads bytes n s some).generation in
@@ -138,10 +138,10 @@ too_great reads bytes n generation some g h s =
     let more : 4294967295 < generation = h in
     absurd (omega arith)
 
-pub too_many : SpelledAreRead → (bytes : List ℕ) (n : Noted) (count : ℕ) → (bytes ≡ [] → ⊥) → count ≡ number_in w32 (after_generation bytes)
+pub too_many : SpelledAreRead → (bytes : List ℕ) (n : MirrorNote) (count : ℕ) → (bytes ≡ [] → ⊥) → count ≡ number_in w32 (after_generation bytes)
     → KEPT_LIMIT < count → Says bytes n → ⊥
 too_many reads bytes n count some c h s = too_many_states (after_generation bytes) n.kept count c h (says_read reads bytes n s some).kept s.note.count
 
-pub no_states : SpelledAreRead → (bytes : List ℕ) (n : Noted) (count : ℕ) → (bytes ≡ [] → ⊥) → count ≡ number_in w32 (after_generation bytes)
+pub no_states : SpelledAreRead → (bytes : List ℕ) (n : MirrorNote) (count : ℕ) → (bytes ≡ [] → ⊥) → count ≡ number_in w32 (after_generation bytes)
     → ReadsStates count (drop 4 (after_generation bytes)) None → Says bytes n → ⊥
 no_states reads bytes n count some c h s = no_states_read (after_generation bytes) n.kept count c h (says_read reads bytes n s some).kept s.note.keys

@@ -14,7 +14,7 @@ use Rattle.messages.specs.Ranges.{is_generation}
 use Rattle.messages.specs.Laws.{IsPacket}
 use Rattle.state_table.specs.Kept.{kept_of, has_distinct_keys}
 use Rattle.state_table.specs.Laws.{KeysStayApart}
-use Rattle.mirror_core.specs.declared.noted.Noted.{Noted}
+use Rattle.mirror_core.specs.declared.note.MirrorNote.{MirrorNote}
 use Rattle.mirror_core.specs.declared.request.Request.{Request}
 use Rattle.mirror_core.specs.declared.request.Request.TheVariants.{Copy, Fetch}
 use Rattle.mirror_core.specs.Note.{IsNoted}
@@ -30,7 +30,7 @@ use Rattle.mirror_core.proofs.RequestLemmas.{asked_range, taken_in}
 
 -- ---- an addition fits
 
-pub kept_fits : KeysStayApart → (n : Noted) (s : State) → kept_of s.key n.kept ≡ None → length n.kept < KEPT_LIMIT → IsState s → IsNoted n
+pub kept_fits : KeysStayApart → (n : MirrorNote) (s : State) → kept_of s.key n.kept ≡ None → length n.kept < KEPT_LIMIT → IsState s → IsNoted n
     → IsNoted (with_addition (Keep s) n)
 kept_fits apart n s none room h k = record {
   generation = k.generation;
@@ -39,7 +39,7 @@ kept_fits apart n s none room h k = record {
   keys = apart n.kept s none k.keys;
 }
 
-pub grant_fits : (n : Noted) (g : ℕ) → is_generation g ≡ true → IsNoted n → IsNoted (with_addition (Grant g) n)
+pub grant_fits : (n : MirrorNote) (g : ℕ) → is_generation g ≡ true → IsNoted n → IsNoted (with_addition (Grant g) n)
 grant_fits n g h k = record {
   generation = below (and_parts (nat_le 1 g) (nat_le g MAX_GENERATION) h).1;
   count = k.count;
@@ -60,31 +60,31 @@ pub kept_newly : (x : Option State) (s : State) → is_some x ≡ false → (x �
 kept_newly None s h = (refl, refl)
 kept_newly (Some k) s h = cc
 
-pub granted_already : (n : Noted) (g : ℕ) → g ≤ n.generation → addition_by n (Fetch g) ≡ None
+pub granted_already : (n : MirrorNote) (g : ℕ) → g ≤ n.generation → addition_by n (Fetch g) ≡ None
 granted_already n g h = let e : nat_lt n.generation g ≡ false = grind (arith, nat_tests) in rw e refl
 
-pub granted_newly : (n : Noted) (g : ℕ) → n.generation < g → addition_by n (Fetch g) ≡ Some (Grant g)
+pub granted_newly : (n : MirrorNote) (g : ℕ) → n.generation < g → addition_by n (Fetch g) ≡ Some (Grant g)
 granted_newly n g h = let e : nat_lt n.generation g ≡ true = grind (arith, nat_tests) in rw e refl
 
 -- ---- a note keeps its ranges
 
-copy_step : KeysStayApart → (new : Bool) (n : Noted) (s : State) (x : Option State) → kept_of s.key n.kept ≡ x → faults_of_request n (Copy s) ≡ [] → IsState s
+copy_step : KeysStayApart → (new : Bool) (n : MirrorNote) (s : State) (x : Option State) → kept_of s.key n.kept ≡ x → faults_of_request n (Copy s) ≡ [] → IsState s
     → IsNoted n → IsNoted (noted_after new (unless_kept x s) n)
 copy_step apart new n s (Some k) e free h i = i
 copy_step apart true n s None e free h i = kept_fits apart n s e (has_room n.kept s e free) h i
 copy_step apart false n s None e free h i = i
 
-fetch_step : (new b : Bool) (n : Noted) (g : ℕ) → is_generation g ≡ true → IsNoted n → IsNoted (noted_after new (if b then Some (Grant g) else None) n)
+fetch_step : (new b : Bool) (n : MirrorNote) (g : ℕ) → is_generation g ≡ true → IsNoted n → IsNoted (noted_after new (if b then Some (Grant g) else None) n)
 fetch_step true true n g h i = grant_fits n g h i
 fetch_step false true n g h i = i
 fetch_step new false n g h i = i
 
-request_step : KeysStayApart → (new : Bool) (n : Noted) (r : Request) → faults_of_request n r ≡ [] → IsRequest r → IsNoted n
+request_step : KeysStayApart → (new : Bool) (n : MirrorNote) (r : Request) → faults_of_request n r ≡ [] → IsRequest r → IsNoted n
     → IsNoted (noted_after new (addition_by n r) n)
 request_step apart new n (Copy s) free h i = copy_step apart new n s (kept_of s.key n.kept) refl free h i
 request_step apart new n (Fetch g) free h i = fetch_step new (nat_lt n.generation g) n g h i
 
-step : KeysStayApart → (new : Bool) (n : Noted) (r : Option Fault) (q : Option Request)
+step : KeysStayApart → (new : Bool) (n : MirrorNote) (r : Option Fault) (q : Option Request)
     → (r ≡ None → (a : Request) → q ≡ Some a → (faults_of_request n a ≡ []) × IsRequest a) → IsNoted n
     → IsNoted (noted_after new (unless_refused r (addition_of n q)) n)
 step apart new n (Some f) q h i = i
@@ -110,26 +110,26 @@ notes_keep_ranges apart o (Restart ∷ past) k h = notes_keep_ranges apart o pas
 
 -- ---- keys stay apart, whatever comes
 
-copy_apart : KeysStayApart → (new : Bool) (n : Noted) (s : State) (x : Option State) → kept_of s.key n.kept ≡ x → has_distinct_keys n.kept ≡ true
+copy_apart : KeysStayApart → (new : Bool) (n : MirrorNote) (s : State) (x : Option State) → kept_of s.key n.kept ≡ x → has_distinct_keys n.kept ≡ true
     → has_distinct_keys (noted_after new (unless_kept x s) n).kept ≡ true
 copy_apart apart new n s (Some k) e h = h
 copy_apart apart true n s None e h = apart n.kept s e h
 copy_apart apart false n s None e h = h
 
-fetch_apart : (new b : Bool) (n : Noted) (g : ℕ) → has_distinct_keys n.kept ≡ true
+fetch_apart : (new b : Bool) (n : MirrorNote) (g : ℕ) → has_distinct_keys n.kept ≡ true
     → has_distinct_keys (noted_after new (if b then Some (Grant g) else None) n).kept ≡ true
 fetch_apart true true n g h = h
 fetch_apart false true n g h = h
 fetch_apart new false n g h = h
 
-apart_step : KeysStayApart → (new : Bool) (n : Noted) (r : Option Fault) (q : Option Request) → has_distinct_keys n.kept ≡ true
+apart_step : KeysStayApart → (new : Bool) (n : MirrorNote) (r : Option Fault) (q : Option Request) → has_distinct_keys n.kept ≡ true
     → has_distinct_keys (noted_after new (unless_refused r (addition_of n q)) n).kept ≡ true
 apart_step apart new n (Some f) q h = h
 apart_step apart new n None None h = h
 apart_step apart new n None (Some (Copy s)) h = copy_apart apart new n s (kept_of s.key n.kept) refl h
 apart_step apart new n None (Some (Fetch g)) h = fetch_apart new (nat_lt n.generation g) n g h
 
-pub keys_apart : KeysStayApart → (o : Noted) (past : List Entry) → has_distinct_keys o.kept ≡ true → has_distinct_keys (words_noted o past).kept ≡ true
+pub keys_apart : KeysStayApart → (o : MirrorNote) (past : List Entry) → has_distinct_keys o.kept ≡ true → has_distinct_keys (words_noted o past).kept ≡ true
 keys_apart apart o [] h = h
 keys_apart apart o (Met f left ∷ past) h =
     apart_step apart (has_new left) (words_noted o past) (refusal_by (is_on past) (words_noted o past) f) (request_in f) (keys_apart apart o past h)

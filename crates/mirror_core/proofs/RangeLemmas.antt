@@ -17,7 +17,7 @@ use Rattle.messages.specs.FramesOf.{spelled_frames}
 use Rattle.messages.specs.Laws.{IsPacket, LengthsAreBounded}
 use Rattle.messages.specs.Packets.{spelling}
 use Rattle.messages.specs.Ranges.{is_body}
-use Rattle.mirror_core.specs.declared.noted.Noted.{Noted}
+use Rattle.mirror_core.specs.declared.note.MirrorNote.{MirrorNote}
 use Rattle.mirror_core.specs.declared.request.Request.{Request}
 use Rattle.mirror_core.specs.declared.request.Request.TheVariants.{Copy, Fetch}
 use Rattle.mirror_core.specs.Bounds.{AreShort, FramesAreShort}
@@ -44,7 +44,7 @@ copy_ok_fits s k =
     let j : nat_lt s.key.job MAX_JOBS ≡ true = p.1 in
     rw (a, w, v, j) refl
 
-asked_in_range : (n : Noted) (q : Option Request) → IsNoted n → ((r : Request) → q ≡ Some r → IsRequest r) → AllByRecursion IsPacket (packets_for n q)
+asked_in_range : (n : MirrorNote) (q : Option Request) → IsNoted n → ((r : Request) → q ≡ Some r → IsRequest r) → AllByRecursion IsPacket (packets_for n q)
 asked_in_range n None i h = tt
 asked_in_range n (Some (Copy s)) i h = (record { in_range = copy_ok_fits s (h (Copy s) refl); state = tt }, tt)
 asked_in_range n (Some (Fetch g)) i h =
@@ -101,7 +101,7 @@ one_ok run server job = refl
 no_frames : AreShort []
 no_frames = record { few = omega arith; short = omega arith }
 
-asked_short : LengthsAreBounded → (n : Noted) (q : Option Request) → IsNoted n → AreShort (frame_bytes (packets_for n q))
+asked_short : LengthsAreBounded → (n : MirrorNote) (q : Option Request) → IsNoted n → AreShort (frame_bytes (packets_for n q))
 asked_short bounded n None i = no_frames
 asked_short bounded n (Some (Copy s)) i = record { few = omega arith; short = omega (arith, one_ok s.key.run s.key.server s.key.job) }
 asked_short bounded n (Some (Fetch g)) i =

@@ -18,7 +18,7 @@ use Rattle.messages.specs.Ranges.{is_body, KeepsState}
 use Rattle.messages.specs.Laws.{IsPacket}
 use Rattle.disk_model.specs.declared.left.Left.{Left}
 use Rattle.state_table.proofs.RefusalLemmas.{IsRefusal, one_refusal, more_refusals, first_refusal, state_refusals}
-use Rattle.mirror_core.specs.declared.noted.Noted.{Noted}
+use Rattle.mirror_core.specs.declared.note.MirrorNote.{MirrorNote}
 use Rattle.mirror_core.specs.declared.request.Request.{Request}
 use Rattle.mirror_core.specs.declared.request.Request.TheVariants.{Copy, Fetch}
 use Rattle.mirror_core.specs.History.{Met}
@@ -66,7 +66,7 @@ no_fault true [] h = (refl, refl)
 no_fault true (f ∷ fs) h = cc
 no_fault false fs h = cc
 
-pub taken_in : (on : Bool) (n : Noted) (q : Option Request) (r : Request) → slice_get (when (not on) Down ++ faults_of n q) 0 ≡ None → q ≡ Some r
+pub taken_in : (on : Bool) (n : MirrorNote) (q : Option Request) (r : Request) → slice_get (when (not on) Down ++ faults_of n q) 0 ≡ None → q ≡ Some r
     → (on ≡ true) × (faults_of_request n r ≡ [])
 taken_in on n q r h e =
     let p = no_fault on (faults_of n q) h in
@@ -83,11 +83,11 @@ answered_due (Some f) d left h = cc
 
 -- ---- what is refused
 
-asked_refusals : (n : Noted) (q : Option Request) → AllByRecursion IsRefusal (faults_of n q)
+asked_refusals : (n : MirrorNote) (q : Option Request) → AllByRecursion IsRefusal (faults_of n q)
 asked_refusals n None = (refl, tt)
 asked_refusals n (Some (Copy state)) = state_refusals n.kept state
 asked_refusals n (Some (Fetch generation)) = one_refusal _ Old refl
 
-pub refusal_sort : (on : Bool) (n : Noted) (q : Option Request) (fault : Fault) → slice_get (when (not on) Down ++ faults_of n q) 0 ≡ Some fault
+pub refusal_sort : (on : Bool) (n : MirrorNote) (q : Option Request) (fault : Fault) → slice_get (when (not on) Down ++ faults_of n q) 0 ≡ Some fault
     → IsRefusal fault
 refusal_sort on n q fault e = first_refusal _ fault (more_refusals (not on) Down (faults_of n q) refl (asked_refusals n q)) e

@@ -17,7 +17,7 @@ use Rattle.messages.specs.declared.body.Body.TheVariants as bodies
 use Rattle.messages.specs.declared.frame.Frame.{Frame}
 use Rattle.state_table.specs.Kept.{kept_of, has_distinct_keys}
 use Rattle.state_table.specs.Laws.{FoundHasItsKey, LastIsFound, KeysStayApart}
-use Rattle.mirror_core.specs.declared.noted.Noted.{Noted}
+use Rattle.mirror_core.specs.declared.note.MirrorNote.{MirrorNote}
 use Rattle.mirror_core.specs.declared.request.Request.{Request}
 use Rattle.mirror_core.specs.declared.request.Request.TheVariants.{Copy, Fetch}
 use Rattle.mirror_core.specs.History.{Entry, Met, Cut, Restart}
@@ -33,7 +33,7 @@ use Rattle.mirror_core.proofs.RequestLemmas.{answered_due, not_when, taken_in}
 
 -- ---- to whom
 
-asked_goes : (n : Noted) (q : Option Request) → AllByRecursion GoesToClient (packets_for n q)
+asked_goes : (n : MirrorNote) (q : Option Request) → AllByRecursion GoesToClient (packets_for n q)
 asked_goes n None = tt
 asked_goes n (Some (Copy state)) = ((refl, refl, refl), tt)
 asked_goes n (Some (Fetch g)) = ((refl, refl, refl), all_map GoesToClient copy_of n.kept (λ s. (refl, refl, refl)))
@@ -47,18 +47,18 @@ packets_go_to_the_client o past Restart = tt
 -- ---- why
 
 -- A packet that is sent replies to what the frame asks for, which isn't refused and is saved where that is due.
-record Replied (o : Noted) (past : List Entry) (f : Frame) (left : Left) (p : PacketParts) : Type 0 where
+record Replied (o : MirrorNote) (past : List Entry) (f : Frame) (left : Left) (p : PacketParts) : Type 0 where
   request : Request
   free : faults_of_request (words_noted o past) request ≡ []
   answers : is_answer (addition_by (words_noted o past) request) left ≡ true
   sent : Contains (replies (words_noted o past) request) p
   noted_is : words_noted o (Met f left ∷ past) ≡ noted_after (has_new left) (addition_by (words_noted o past) request) (words_noted o past)
 
-asked_for : (n : Noted) (q : Option Request) (p : PacketParts) → Contains (packets_for n q) p → (r : Request) × (q ≡ Some r) × Contains (replies n r) p
+asked_for : (n : MirrorNote) (q : Option Request) (p : PacketParts) → Contains (packets_for n q) p → (r : Request) × (q ≡ Some r) × Contains (replies n r) p
 asked_for n None p h = absurd (none_in p h)
 asked_for n (Some r) p h = (r, refl, h)
 
-replied : (o : Noted) (past : List Entry) (f : Frame) (left : Left) (p : PacketParts) → Contains (packets o past (Met f left)) p → Replied o past f left p
+replied : (o : MirrorNote) (past : List Entry) (f : Frame) (left : Left) (p : PacketParts) → Contains (packets o past (Met f left)) p → Replied o past f left p
 replied o past f left p h =
     let n = words_noted o past in
     let w = where_so (is_answered o past f left) (packets_for n (request_in f)) p h in
@@ -81,11 +81,11 @@ mapped (s ∷ states) p h = elim (first_or_behind (copy_of s) (map copy_of state
 ]
 
 -- The only reply to a Copy.
-only_ok : (n : Noted) (s : State) (p : PacketParts) → Contains (replies n (Copy s)) p → to_client (bodies.CopyOk s.key.run s.key.server s.key.job) ≡ p
+only_ok : (n : MirrorNote) (s : State) (p : PacketParts) → Contains (replies n (Copy s)) p → to_client (bodies.CopyOk s.key.run s.key.server s.key.job) ≡ p
 only_ok n s p h = elim (first_or_behind (to_client (bodies.CopyOk s.key.run s.key.server s.key.job)) [] p h) [ inl e ↦ e | inr b ↦ absurd (none_in p b) ]
 
 -- The replies to a Fetch.
-grant_or_copy : (n : Noted) (g : ℕ) (p : PacketParts) → Contains (replies n (Fetch g)) p
+grant_or_copy : (n : MirrorNote) (g : ℕ) (p : PacketParts) → Contains (replies n (Fetch g)) p
     → (to_client (bodies.Granted g) ≡ p) ⊎ ((s : State) × (p ≡ copy_of s) × Contains n.kept s)
 grant_or_copy n g p h = elim (first_or_behind (to_client (bodies.Granted g)) (map copy_of n.kept) p h) [ inl e ↦ inl e | inr b ↦ inr (mapped n.kept p b) ]
 
@@ -94,7 +94,7 @@ body_of a b e = ap (λ (p : PacketParts). p.body) e
 
 -- ---- a grant
 
-granted_by : (n : Noted) (r : Request) (g : ℕ) → Contains (replies n r) (to_client (bodies.Granted g)) → r ≡ Fetch g
+granted_by : (n : MirrorNote) (r : Request) (g : ℕ) → Contains (replies n r) (to_client (bodies.Granted g)) → r ≡ Fetch g
 granted_by n (Copy s) g h =
     let e = body_of (bodies.CopyOk s.key.run s.key.server s.key.job) (bodies.Granted g) (only_ok n s (to_client (bodies.Granted g)) h) in cc
 granted_by n (Fetch x) g h = elim (grant_or_copy n x (to_client (bodies.Granted g)) h) [
@@ -102,7 +102,7 @@ granted_by n (Fetch x) g h = elim (grant_or_copy n x (to_client (bodies.Granted 
   | inr b ↦ (let e = body_of (bodies.Granted g) (bodies.Copy b.0) b.1 in cc)
 ]
 
-granted_noted : (n : Noted) (g : ℕ) (left : Left) (b : Bool) → nat_lt n.generation g ≡ b → nat_lt g n.generation ≡ false
+granted_noted : (n : MirrorNote) (g : ℕ) (left : Left) (b : Bool) → nat_lt n.generation g ≡ b → nat_lt g n.generation ≡ false
     → is_answer (if b then Some (Grant g) else None) left ≡ true → (noted_after (has_new left) (if b then Some (Grant g) else None) n).generation ≡ g
 granted_noted n g Saved true e f a = refl
 granted_noted n g NoSave true e f a = cc
@@ -117,7 +117,7 @@ grants_are_noted o past (Met f left) g h =
     let is : r.request ≡ Fetch g = granted_by n r.request g r.sent in
     let free : faults_of_request n (Fetch g) ≡ [] = subst (λ x. faults_of_request n x ≡ []) is r.free in
     let answers : is_answer (addition_by n (Fetch g)) left ≡ true = subst (λ x. is_answer (addition_by n x) left ≡ true) is r.answers in
-    ap (λ (m : Noted). m.generation) r.noted_is ∙ (ap (λ x. (noted_after (has_new left) (addition_by n x) n).generation) is
+    ap (λ (m : MirrorNote). m.generation) r.noted_is ∙ (ap (λ x. (noted_after (has_new left) (addition_by n x) n).generation) is
     ∙ granted_noted n g left (nat_lt n.generation g) refl (not_when (nat_lt g n.generation) Old free) answers)
 grants_are_noted o past Cut g h = absurd (none_in (to_client (bodies.Granted g)) h)
 grants_are_noted o past Restart g h = absurd (none_in (to_client (bodies.Granted g)) h)
@@ -136,7 +136,7 @@ same_key key run server job e =
     let c : key.job ≡ job = cc in
     λ i. record { run = a i; server = b i; job = c i }
 
-copied_by : (n : Noted) (r : Request) (run server job : ℕ) → Contains (replies n r) (to_client (bodies.CopyOk run server job)) → CopyOf r run server job
+copied_by : (n : MirrorNote) (r : Request) (run server job : ℕ) → Contains (replies n r) (to_client (bodies.CopyOk run server job)) → CopyOf r run server job
 copied_by n (Copy s) run server job h = (
   s,
   refl,
@@ -149,7 +149,7 @@ copied_by n (Fetch g) run server job h = elim (grant_or_copy n g (to_client (bod
 ]
 
 -- After a copy that was answered its key has a state.
-has_one : LastIsFound → (n : Noted) (left : Left) (x : Option State) (s : State) → kept_of s.key n.kept ≡ x → is_answer (unless_kept x s) left ≡ true
+has_one : LastIsFound → (n : MirrorNote) (left : Left) (x : Option State) (s : State) → kept_of s.key n.kept ≡ x → is_answer (unless_kept x s) left ≡ true
     → (k : State) × (kept_of s.key (noted_after (has_new left) (unless_kept x s) n).kept ≡ Some k)
 has_one last n left (Some k) s h a = (k, h)
 has_one last n NoSave None s h a = cc
@@ -167,14 +167,14 @@ copy_oks_are_for last o past (Met f left) run server job h =
     let k = has_one last n left (kept_of s.key n.kept) s refl answers in (
       k.0,
       subst (λ (key : Key). kept_of key (words_noted o (Met f left ∷ past)).kept
-          ≡ Some k.0) c.2 (ap (λ (m : Noted). kept_of s.key m.kept) (r.noted_is ∙ ap (λ x. noted_after (has_new left) (addition_by n x) n) c.1) ∙ k.1),
+          ≡ Some k.0) c.2 (ap (λ (m : MirrorNote). kept_of s.key m.kept) (r.noted_is ∙ ap (λ x. noted_after (has_new left) (addition_by n x) n) c.1) ∙ k.1),
     )
 copy_oks_are_for last o past Cut run server job h = absurd (none_in (to_client (bodies.CopyOk run server job)) h)
 copy_oks_are_for last o past Restart run server job h = absurd (none_in (to_client (bodies.CopyOk run server job)) h)
 
 -- ---- a copy of a kept state
 
-copy_kept : (n : Noted) (r : Request) (s : State) → Contains (replies n r) (copy_of s) → Contains n.kept s
+copy_kept : (n : MirrorNote) (r : Request) (s : State) → Contains (replies n r) (copy_of s) → Contains n.kept s
 copy_kept n (Copy k) s h = let e = body_of (bodies.CopyOk k.key.run k.key.server k.key.job) (bodies.Copy s) (only_ok n k (copy_of s) h) in cc
 copy_kept n (Fetch g) s h = elim (grant_or_copy n g (copy_of s) h) [
   | inl a ↦ (let e = body_of (bodies.Granted g) (bodies.Copy s) a in cc)

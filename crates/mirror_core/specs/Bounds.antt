@@ -1,7 +1,7 @@
 -- How much a mirror sends in answer to one frame.
 use Rattle.std.specs.Prelude.{◌≤◌, ℕ, ◌+◌, List, ◌∷◌, length, sum_by}
 use Rattle.state_table.specs.declared.kept.TheConstants.{KEPT_LIMIT}
-use Rattle.mirror_core.specs.declared.noted.Noted.{Noted}
+use Rattle.mirror_core.specs.declared.note.MirrorNote.{MirrorNote}
 use Rattle.mirror_core.specs.History.{Entry}
 use Rattle.mirror_core.specs.Laws.{CameInRange}
 use Rattle.mirror_core.specs.Note.{IsNoted}
@@ -15,5 +15,5 @@ pub record AreShort (frames : List (List ℕ)) : Type 0 where
 -- What an event sends is short, where what came is within its ranges.
 abbrev pub FramesAreShort : Type 0
 FramesAreShort =
-    (o : Noted) (past : List Entry) (entry : Entry) → IsNoted o → CameInRange (entry ∷ past) →
+    (o : MirrorNote) (past : List Entry) (entry : Entry) → IsNoted o → CameInRange (entry ∷ past) →
     AreShort (frame_bytes (packets o past entry))

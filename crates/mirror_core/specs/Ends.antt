@@ -6,7 +6,7 @@ use Rattle.disk_model.specs.Notes.{Note}
 use Rattle.disk_model.specs.Saving.{Save, Saves}
 use Rattle.disk_model.specs.Steps.{Steps}
 use Rattle.messages.specs.declared.frame.Frame.{Frame}
-use Rattle.mirror_core.specs.declared.noted.Noted.{Noted}
+use Rattle.mirror_core.specs.declared.note.MirrorNote.{MirrorNote}
 use Rattle.mirror_core.specs.declared.mirror.Mirror.{Mirror}
 use Rattle.mirror_core.specs.History.{Entry, Met}
 use Rattle.mirror_core.specs.Note.{spelling}
@@ -16,15 +16,15 @@ use Rattle.mirror_core.specs.Packets.{packets, frame_bytes}
 use Rattle.mirror_core.specs.Stands.{StandsFor}
 
 -- What an answered frame leaves in the list: it saved, where it was due to.
-abbrev pub answered_entry : Noted → List Entry → Frame → Entry
+abbrev pub answered_entry : MirrorNote → List Entry → Frame → Entry
 answered_entry o past f = Met f (saved_for (due o past f))
 
 -- The steps of a mirror: its note, what its list says of a frame, and what is sent. A refused frame
 -- leaves it as it was.
-abbrev pub steps : {T : Type 0} → (T → Note) → Noted →
+abbrev pub steps : {T : Type 0} → (T → Note) → MirrorNote →
     Steps (Mirror T) Frame Entry Addition (List (List ℕ))
 steps note o = record {
-  note = λ mirror. note mirror.notes;
+  note = λ mirror. note mirror.durable.notes;
   StandsFor = λ past mirror. StandsFor note mirror o past;
   refusal = refusal o;
   due = due o;
@@ -35,22 +35,26 @@ steps note o = record {
 }
 
 -- The save of what is noted so, and what it leaves of a mirror.
-abbrev pub save_of : {T : Type 0} → Noted → Mirror T → Mirror T → Save (Mirror T)
+abbrev pub save_of : {T : Type 0} → MirrorNote → Mirror T → Mirror T → Save (Mirror T)
 save_of noted old new = record {
   bytes = spelling noted;
-  saved = record old { notes = new.notes; noted = noted };
-  same = record old { notes = new.notes };
-  down = record old { notes = new.notes; down = true };
+  saved = record old {
+    durable = record { notes = new.durable.notes; down = old.durable.down };
+    noted = noted;
+  };
+  same = record old { durable = record { notes = new.durable.notes; down = old.durable.down } };
+  down = record old { durable = record { notes = new.durable.notes; down = true } };
 }
 
 -- How the save of an addition ends.
 abbrev pub Stores : {T : Type 0} → (T → Note) → Addition → Mirror T → Mirror T →
     Result (Unit {0}) Fault → Type 0
 Stores note a old new result =
-    Saves (λ mirror. note mirror.notes) (save_of (with_addition a old.noted) old new) old new result
+    Saves (λ mirror. note mirror.durable.notes) (save_of (with_addition a old.noted) old new)
+    old new result
 
 -- How the save of what is noted ends.
 abbrev pub Writes : {T : Type 0} → (T → Note) → Mirror T → Mirror T →
     Result (Unit {0}) Fault → Type 0
 Writes note old new result =
-    Saves (λ mirror. note mirror.notes) (save_of old.noted old new) old new result
+    Saves (λ mirror. note mirror.durable.notes) (save_of old.noted old new) old new result

@@ -10,7 +10,7 @@ use Rattle.messages.specs.declared.node.Node.TheVariants as nodes
 use Rattle.messages.specs.Bodies.{kind_of}
 use Rattle.messages.specs.Kinds.{is_of_mirror}
 use Rattle.messages.specs.Laws.{IsPacket}
-use Rattle.mirror_core.specs.declared.noted.Noted.{Noted}
+use Rattle.mirror_core.specs.declared.note.MirrorNote.{MirrorNote}
 use Rattle.mirror_core.specs.Note.{IsNoted}
 use Rattle.mirror_core.specs.History.{Entry, Met}
 use Rattle.mirror_core.specs.Words.{is_on, words_noted, generation, kept_state, shown_entries}
@@ -37,43 +37,44 @@ from_client state = record { from = nodes.Client; to = nodes.Mirror; body = bodi
 -- A kept state is never replaced, whatever comes.
 abbrev pub FirstKeptStays : Type 0
 FirstKeptStays =
-    (o : Noted) (newer past : List Entry) (key : Key) (state : State) →
+    (o : MirrorNote) (newer past : List Entry) (key : Key) (state : State) →
     kept_state o past key ≡ Some state → kept_state o (newer ++ past) key ≡ Some state
 
 -- The generation never falls.
 abbrev pub GenerationsRise : Type 0
 GenerationsRise =
-    (o : Noted) (newer past : List Entry) → generation o past ≤ generation o (newer ++ past)
+    (o : MirrorNote) (newer past : List Entry) → generation o past ≤ generation o (newer ++ past)
 
 -- A state that is kept, and was not at the opening, came in a Copy of the client.
 abbrev pub KeptWasSent : Type 0
 KeptWasSent =
-    (o : Noted) (past : List Entry) (key : Key) (state : State) →
+    (o : MirrorNote) (past : List Entry) (key : Key) (state : State) →
     kept_state o past key ≡ Some state →
     (kept_state o [] key ≡ Some state) ⊎ Contains (packets_come past) (from_client state)
 
 -- Each state in the note was there at the opening, or came in a Copy of the client.
 abbrev pub NotedWasSent : Type 0
 NotedWasSent =
-    (o : Noted) (past : List Entry) (state : State) → Contains (words_noted o past).kept state →
+    (o : MirrorNote) (past : List Entry) (state : State) →
+    Contains (words_noted o past).kept state →
     Contains o.kept state ⊎ Contains (packets_come past) (from_client state)
 
 -- Each Copy that is sent has the kept state of its key.
 abbrev pub CopiesAreKept : Type 0
 CopiesAreKept =
-    (o : Noted) (past : List Entry) (entry : Entry) (state : State) → IsNoted o →
+    (o : MirrorNote) (past : List Entry) (entry : Entry) (state : State) → IsNoted o →
     Contains (packets o past entry) (copy_of state) → kept_state o past state.key ≡ Some state
 
 -- Each Copy that is sent is of a state in the note.
 abbrev pub CopiesAreNoted : Type 0
 CopiesAreNoted =
-    (o : Noted) (past : List Entry) (entry : Entry) (state : State) →
+    (o : MirrorNote) (past : List Entry) (entry : Entry) (state : State) →
     Contains (packets o past entry) (copy_of state) → Contains (words_noted o past).kept state
 
 -- A CopyOk is sent only for a state that is kept by then.
 abbrev pub CopyOksAreFor : Type 0
 CopyOksAreFor =
-    (o : Noted) (past : List Entry) (entry : Entry) (run server job : ℕ) →
+    (o : MirrorNote) (past : List Entry) (entry : Entry) (run server job : ℕ) →
     Contains (packets o past entry) (to_client (bodies.CopyOk run server job)) →
     (state : State)
     × (kept_state o (entry ∷ past) (record { run = run; server = server; job = job }) ≡ Some state)
@@ -81,7 +82,7 @@ CopyOksAreFor =
 -- A Granted is sent only of the generation that the note has by then.
 abbrev pub GrantsAreNoted : Type 0
 GrantsAreNoted =
-    (o : Noted) (past : List Entry) (entry : Entry) (granted : ℕ) →
+    (o : MirrorNote) (past : List Entry) (entry : Entry) (granted : ℕ) →
     Contains (packets o past entry) (to_client (bodies.Granted granted)) →
     generation o (entry ∷ past) ≡ granted
 
@@ -93,7 +94,7 @@ GoesToClient p =
 -- So goes each packet.
 abbrev pub PacketsGoToTheClient : Type 0
 PacketsGoToTheClient =
-    (o : Noted) (past : List Entry) (entry : Entry)
+    (o : MirrorNote) (past : List Entry) (entry : Entry)
     → AllByRecursion GoesToClient (packets o past entry)
 
 -- A mirror that is on answers its looks from all that came.
@@ -103,10 +104,11 @@ LooksAtAll = (past : List Entry) → is_on past ≡ true → shown_entries past 
 -- A note that keeps its ranges goes on to, where the packets that come keep theirs.
 abbrev pub NotesKeepRanges : Type 0
 NotesKeepRanges =
-    (o : Noted) (past : List Entry) → IsNoted o → CameInRange past → IsNoted (words_noted o past)
+    (o : MirrorNote) (past : List Entry) →
+    IsNoted o → CameInRange past → IsNoted (words_noted o past)
 
 -- What is sent is within the ranges of packets, where what came is within its.
 abbrev pub PacketsAreInRange : Type 0
 PacketsAreInRange =
-    (o : Noted) (past : List Entry) (entry : Entry) →
+    (o : MirrorNote) (past : List Entry) (entry : Entry) →
     IsNoted o → CameInRange (entry ∷ past) → AllByRecursion IsPacket (packets o past entry)

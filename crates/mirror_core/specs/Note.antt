@@ -10,10 +10,10 @@ use Rattle.verify_state.specs.Spelling.{spelling as state_bytes}
 use Rattle.state_table.specs.Counted.{counted_states, SayStates}
 use Rattle.state_table.specs.Kept.{has_distinct_keys}
 use Rattle.state_table.specs.Reading.{HoldStates}
-use Rattle.mirror_core.specs.declared.noted.Noted.{Noted}
+use Rattle.mirror_core.specs.declared.note.MirrorNote.{MirrorNote}
 
 -- What a blank note says.
-abbrev pub blank : Noted
+abbrev pub blank : MirrorNote
 blank = record { generation = 0; kept = [] }
 
 -- A note with these bytes of states: the magic, the generation, the number of states, and the
@@ -23,32 +23,32 @@ note_of generation states =
     codes "FCM1" ++ (bytes_of w64 generation ++ counted_states states)
 
 -- How a note is written: with each state in its one spelling.
-abbrev pub spelling : Noted → List ℕ
+abbrev pub spelling : MirrorNote → List ℕ
 spelling n = note_of n.generation (map state_bytes n.kept)
 
 -- What every note keeps: a generation that fits four bytes, and at most 1,024 states, all of
 -- different keys.
-pub record IsNoted (n : Noted) : Type 0 where
+pub record IsNoted (n : MirrorNote) : Type 0 where
   pub generation : n.generation ≤ MAX_GENERATION
   pub count : length n.kept ≤ KEPT_LIMIT
   pub states : AllByRecursion IsState n.kept
   pub keys : IsTrue (has_distinct_keys n.kept)
 
 -- The bytes are a note, and their states are these.
-pub record Spells (bytes : List ℕ) (n : Noted) : Type 0 where
+pub record Spells (bytes : List ℕ) (n : MirrorNote) : Type 0 where
   pub parts : List (List ℕ)
   pub spelled : bytes ≡ note_of n.generation parts
   pub states : SayStates parts n.kept
 
 -- The bytes say this note. No bytes at all are a blank one.
-pub record Says (bytes : List ℕ) (n : Noted) : Type 0 where
+pub record Says (bytes : List ℕ) (n : MirrorNote) : Type 0 where
   pub note : IsNoted n
   pub spelled : Spells bytes n ⊎ ((bytes ≡ []) × (n ≡ blank))
 
 -- A reader gives what the bytes say, and nothing where they say nothing.
-abbrev pub Reads : List ℕ → Option Noted → Type 0
+abbrev pub Reads : List ℕ → Option MirrorNote → Type 0
 Reads bytes (Some n) = Says bytes n
-Reads bytes None = (n : Noted) → Says bytes n → ⊥
+Reads bytes None = (n : MirrorNote) → Says bytes n → ⊥
 
 -- The bytes begin as a note does that has 1 to 1,024 states, and hold as many sound ones as they
 -- tell of.
@@ -59,8 +59,8 @@ pub record HasStates (bytes : List ℕ) : Type 0 where
 
 -- Bytes say one thing at most.
 abbrev pub SaysOneThing : Type 0
-SaysOneThing = (bytes : List ℕ) (n m : Noted) → Says bytes n → Says bytes m → n ≡ m
+SaysOneThing = (bytes : List ℕ) (n m : MirrorNote) → Says bytes n → Says bytes m → n ≡ m
 
 -- What is written says what it was written of.
 abbrev pub SaysWhatIsWritten : Type 0
-SaysWhatIsWritten = (n : Noted) → IsNoted n → Says (spelling n) n
+SaysWhatIsWritten = (n : MirrorNote) → IsNoted n → Says (spelling n) n

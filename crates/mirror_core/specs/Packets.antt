@@ -7,7 +7,7 @@ use Rattle.messages.specs.declared.body.Body.{Body}
 use Rattle.messages.specs.declared.body.Body.TheVariants as bodies
 use Rattle.messages.specs.declared.node.Node.TheVariants as nodes
 use Rattle.messages.specs.FramesOf.{spelled_frames}
-use Rattle.mirror_core.specs.declared.noted.Noted.{Noted}
+use Rattle.mirror_core.specs.declared.note.MirrorNote.{MirrorNote}
 use Rattle.mirror_core.specs.declared.request.Request.{Request}
 use Rattle.mirror_core.specs.declared.request.Request.TheVariants.{Copy, Fetch}
 use Rattle.mirror_core.specs.History.{Entry, Met, Cut, Restart}
@@ -24,25 +24,25 @@ copy_of state = to_client (bodies.Copy state)
 
 -- What is replied to the client, by what was kept before: that the state of a key is kept; or that
 -- the generation is granted, and then each kept state, in the order in which they came.
-abbrev pub replies : Noted → Request → List PacketParts
+abbrev pub replies : MirrorNote → Request → List PacketParts
 replies n (Copy state) =
     to_client (bodies.CopyOk state.key.run state.key.server state.key.job) ∷ []
 replies n (Fetch generation) = to_client (bodies.Granted generation) ∷ map copy_of n.kept
 
 -- What an answered frame sends that asks for this.
-abbrev pub packets_for : Noted → Option Request → List PacketParts
+abbrev pub packets_for : MirrorNote → Option Request → List PacketParts
 packets_for n None = []
 packets_for n (Some request) = replies n request
 
 -- The packets that an event sends.
-abbrev pub packets : Noted → List Entry → Entry → List PacketParts
+abbrev pub packets : MirrorNote → List Entry → Entry → List PacketParts
 packets o past (Met f left) =
     if is_answered o past f left then packets_for (words_noted o past) (request_in f) else []
 packets o past Cut = []
 packets o past Restart = []
 
 -- All packets that were ever sent, the oldest first.
-abbrev pub sent_packets : Noted → List Entry → List PacketParts
+abbrev pub sent_packets : MirrorNote → List Entry → List PacketParts
 sent_packets o [] = []
 sent_packets o (entry ∷ past) = sent_packets o past ++ packets o past entry
 

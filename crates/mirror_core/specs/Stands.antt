@@ -3,7 +3,7 @@ use Rattle.std.specs.Prelude.{◌≡◌, ◌<◌, not, List, ◌∷◌, Result, 
 use Rattle.fc_base.specs.declared.fault.Fault.{Fault}
 use Rattle.fc_base.specs.declared.fault.Fault.TheVariants.{NoMemory, LoadFault, BadNote}
 use Rattle.disk_model.specs.Notes.{Note}
-use Rattle.mirror_core.specs.declared.noted.Noted.{Noted}
+use Rattle.mirror_core.specs.declared.note.MirrorNote.{MirrorNote}
 use Rattle.mirror_core.specs.declared.mirror.Mirror.{Mirror}
 use Rattle.mirror_core.specs.Note.{Says}
 use Rattle.mirror_core.specs.History.{Entry, Restart}
@@ -11,27 +11,27 @@ use Rattle.mirror_core.specs.Words.{is_on, words_noted, shown_entries}
 
 -- A mirror stands for a list where it is on as the list says, where the durable bytes say what the
 -- list says, and where it knows of its note what that said before the first failed save.
-pub record StandsFor {T : Type 0} (note : T → Note) (mirror : Mirror T) (o : Noted)
+pub record StandsFor {T : Type 0} (note : T → Note) (mirror : Mirror T) (o : MirrorNote)
     (past : List Entry) : Type 0 where
-  pub on : mirror.down ≡ not (is_on past)
-  pub durable : Says (note mirror.notes).bytes (words_noted o past)
+  pub on : mirror.durable.down ≡ not (is_on past)
+  pub durable : Says (note mirror.durable.notes).bytes (words_noted o past)
   pub knows : mirror.noted ≡ words_noted o (shown_entries past)
 
 -- For each list of which the durable bytes say what it says, the mirror stands for that list with a
 -- restart. They say something, so there is such a list: the empty one. They stay as they were.
 pub record Opens {T : Type 0} (note : T → Note) (old : Note) (mirror : Mirror T) : Type 0 where
-  pub same : note mirror.notes ≡ old
-  pub said : Noted
+  pub same : note mirror.durable.notes ≡ old
+  pub said : MirrorNote
   pub says : Says old.bytes said
   pub stands :
-      (o : Noted) (past : List Entry) → Says old.bytes (words_noted o past) →
+      (o : MirrorNote) (past : List Entry) → Says old.bytes (words_noted o past) →
       StandsFor note mirror o (Restart ∷ past)
 
 -- Why no mirror is opened: the device failed, the bytes are no note, or memory ran out. The durable
 -- bytes stay as they were.
 abbrev pub NotOpened : Note → Note → Fault → Type 0
 NotOpened old new LoadFault = (old.failures < new.failures) × (new.bytes ≡ old.bytes)
-NotOpened old new BadNote = (new ≡ old) × ((said : Noted) → Says old.bytes said → ⊥)
+NotOpened old new BadNote = (new ≡ old) × ((said : MirrorNote) → Says old.bytes said → ⊥)
 NotOpened old new NoMemory = new ≡ old
 NotOpened old new _ = ⊥
 

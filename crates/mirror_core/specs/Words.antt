@@ -8,7 +8,7 @@ use Rattle.disk_model.specs.Left.{has_new, is_lost}
 use Rattle.verify_state.specs.State.{State}
 use Rattle.messages.specs.declared.frame.Frame.{Frame}
 use Rattle.state_table.specs.Kept.{kept_of}
-use Rattle.mirror_core.specs.declared.noted.Noted.{Noted}
+use Rattle.mirror_core.specs.declared.note.MirrorNote.{MirrorNote}
 use Rattle.mirror_core.specs.History.{Entry, Met, Cut, Restart}
 use Rattle.mirror_core.specs.Refusals.{refusal_by}
 use Rattle.mirror_core.specs.Saves.{Addition, due_by, noted_after, is_answer}
@@ -22,7 +22,7 @@ is_on (Restart ∷ past) = true
 
 -- What the note says: what it said at the opening, and what was added by each save that left the
 -- new bytes.
-abbrev pub words_noted : Noted → List Entry → Noted
+abbrev pub words_noted : MirrorNote → List Entry → MirrorNote
 words_noted o [] = o
 words_noted o (Met f left ∷ past) =
     noted_after (has_new left) (due_by (is_on past) (words_noted o past) f) (words_noted o past)
@@ -30,27 +30,27 @@ words_noted o (Cut ∷ past) = words_noted o past
 words_noted o (Restart ∷ past) = words_noted o past
 
 -- Why a frame is refused.
-abbrev pub refusal : Noted → List Entry → Frame → Option Fault
+abbrev pub refusal : MirrorNote → List Entry → Frame → Option Fault
 refusal o past f = refusal_by (is_on past) (words_noted o past) f
 
 -- What a frame is due to add to the note.
-abbrev pub due : Noted → List Entry → Frame → Option Addition
+abbrev pub due : MirrorNote → List Entry → Frame → Option Addition
 due o past f = due_by (is_on past) (words_noted o past) f
 
 -- A frame makes a save where it is due to add something.
-abbrev pub would_save : Noted → List Entry → Frame → Bool
+abbrev pub would_save : MirrorNote → List Entry → Frame → Bool
 would_save o past f = is_some (due o past f)
 
 -- The frame is answered: it isn't refused, and its save, where it makes one, answered Ok.
-abbrev pub is_answered : Noted → List Entry → Frame → Left → Bool
+abbrev pub is_answered : MirrorNote → List Entry → Frame → Left → Bool
 is_answered o past f left = is_none (refusal o past f) && is_answer (due o past f) left
 
 -- The generation that the mirror has granted.
-abbrev pub generation : Noted → List Entry → ℕ
+abbrev pub generation : MirrorNote → List Entry → ℕ
 generation o past = (words_noted o past).generation
 
 -- The kept state of a key: that of the opening, else the first that came and was saved.
-abbrev pub kept_state : Noted → List Entry → Key → Option State
+abbrev pub kept_state : MirrorNote → List Entry → Key → Option State
 kept_state o past key = kept_of key (words_noted o past).kept
 
 -- What the calls that only look answer from: all that came, but for what came from a failed save

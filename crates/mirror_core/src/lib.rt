@@ -5,7 +5,7 @@
 mod frames;
 mod law;
 mod mirror;
-mod noted;
+mod note;
 mod request;
 
 pub use law::{
@@ -14,4 +14,4 @@ pub use law::{
     packets_are_in_range, packets_go_to_the_client,
 };
 pub use mirror::Mirror;
-pub use noted::{Noted, notes_are_read_back, one_note};
+pub use note::{MirrorNote, notes_are_read_back, one_note};

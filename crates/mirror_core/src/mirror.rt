@@ -2,7 +2,7 @@
 
 ghost use Rattle.std.specs.Prelude.{◌≡◌, List, not, IfOk};
 ghost use Rattle.std.specs.Option.{option_copied};
-ghost use Rattle.mirror_core.specs.declared.noted.Noted.{Noted as Opening};
+ghost use Rattle.mirror_core.specs.declared.note.MirrorNote.{MirrorNote as Opening};
 ghost use Rattle.mirror_core.specs.History.{Entry};
 ghost use Rattle.mirror_core.specs.Note.{Says};
 ghost use Rattle.mirror_core.specs.Refusals.{IsAdmitted};
@@ -12,9 +12,9 @@ ghost use Rattle.mirror_core.specs.Words.{is_on, words_noted, generation, kept_s
 mod deliver;
 mod save;
 
-use crate::noted::{Noted, one_note};
+use crate::note::{MirrorNote, one_note};
 use crate::request::{Request, request_in};
-use disk_model::Notes;
+use disk_model::{Durable, Notes};
 use fc_base::{Fault, Key};
 use messages::Frame;
 use std::alloc::Global;
@@ -25,9 +25,8 @@ use verify_state::VerifyState;
 #[derive(Drop)]
 pub struct Mirror<N> {
     alloc: Global,
-    notes: N,
-    noted: Noted,
-    down: bool,
+    durable: Durable<N>,
+    noted: MirrorNote,
 }
 
 impl<N: Notes> Mirror<N> {
@@ -45,12 +44,11 @@ impl<N: Notes> Mirror<N> {
             Ok(bytes) => bytes,
             Err(fault) => return Err((notes, fault)),
         };
-        match Noted::decode(alloc, &bytes) {
+        match MirrorNote::decode(alloc, &bytes) {
             Ok(Some(noted)) => Ok(Mirror {
                 alloc,
-                notes,
+                durable: Durable::new(notes),
                 noted,
-                down: false,
             }),
             Ok(None) => Err((notes, Fault::BadNote)),
             Err(_) => Err((notes, Fault::NoMemory)),
@@ -59,26 +57,25 @@ impl<N: Notes> Mirror<N> {
 
     /// The notes of a mirror that is taken off.
     pub fn off(self) -> N
-        ensures note { N.note result ≡ N.note self.notes }
+        ensures note { N.note result ≡ N.note self.durable.notes }
         ensures says { (o : Opening) (past : List Entry) → StandsFor N.note self o past →
             Says (N.note result).bytes (words_noted o past) }
     {
         let Mirror {
             alloc: _,
-            notes,
+            durable,
             noted: _,
-            down: _,
         } = self;
-        notes
+        durable.into_notes()
     }
 
     /// The note that it keeps, as it is durable. Behind a failed save it is what that left.
     pub fn notes(&self) -> &N
-        ensures note { N.note result.now ≡ N.note self.now.notes }
+        ensures note { N.note result.now ≡ N.note self.now.durable.notes }
         ensures says { (o : Opening) (past : List Entry) → StandsFor N.note self.now o past →
             Says (N.note result.now).bytes (words_noted o past) }
     {
-        &self.notes
+        self.durable.notes()
     }
 
     /// Whether it is on: a mirror whose save failed is down until it is restarted.
@@ -86,7 +83,7 @@ impl<N: Notes> Mirror<N> {
         ensures { (o : Opening) (past : List Entry) → StandsFor N.note self.now o past →
             result ≡ is_on past }
     {
-        !self.down
+        !self.durable.is_down()
     }
 
     /// The greatest generation that was asked for, 0 where none was. Where a save has failed, up to it.
@@ -119,10 +116,10 @@ impl<N: Notes> Mirror<N> {
 
     /// What a frame asks for, or why it is refused.
     fn admit(&self, frame: &Frame) -> Result<Request, Fault>
-        ensures value { IsAdmitted (not self.now.down) self.now.noted frame.now result }
+        ensures value { IsAdmitted (not self.now.durable.down) self.now.noted frame.now result }
         ensures range { IfOk result IsRequest }
     {
-        if self.down {
+        if self.durable.is_down() {
             return Err(Fault::Down);
         }
         let Some(request) = request_in(frame) else {

@@ -5,7 +5,7 @@ ghost use Rattle.mirror_core.specs.Requests.{asked_by, request_in, is_for_mirror
 ghost use Rattle.mirror_core.specs.Refusals.{faults_of_request};
 ghost use Rattle.mirror_core.specs.Saves.{addition_by};
 
-use crate::noted::Noted;
+use crate::note::MirrorNote;
 use fc_base::Fault;
 use messages::{Body, Frame, Packet};
 use state_table::KEPT_LIMIT;
@@ -52,7 +52,7 @@ fn asked_by(packet: &Packet) -> Option<Request>
     }
 }
 
-impl Noted {
+impl MirrorNote {
     /// Why what is asked for is refused: another state of its key is kept, or there is no room for one
     /// more; a greater generation was granted.
     pub(crate) fn fault_of(&self, request: &Request) -> Option<Fault>

@@ -46,7 +46,7 @@ use Rattle.net_world.specs.ClientNodes.{client_nodes, handed_in}
 use Rattle.net_world.specs.Stands.{IsMirror, IsGreatest, StandsFor}
 use Rattle.net_world.specs.Asking.{entries, step_of, step_by, told_of, IsBarred, Refuses, Faults, ClientEnds}
 use Rattle.net_world.proofs.ClientHeardLemmas.{heard_is, frames_are, entry_again}
-use Rattle.net_world.proofs.ClientNodeLemmas as of_nodes
+use Rattle.net_world.proofs.NodeLemmas.{unchanged}
 use Rattle.net_world.proofs.MetLemmas.{frames_more}
 use Rattle.net_world.proofs.ServeLemmas.{first_is}
 
@@ -184,7 +184,7 @@ refused w past e fault old new stands h (inr r) =
       on = is_there w past r.on;
       why = r.why;
       stands = client_stepped w past (Met e NoSave) [] old new stands h.moved nothing r.stands refl;
-      unchanged = λ d. client_kept w past old new stands h.moved (of_nodes.unchanged (client_opening w) (entries w past) e new.client r.unchanged r.on d);
+      unchanged = λ d. client_kept w past old new stands h.moved (unchanged (client_nodes (client_opening w)) (entries w past) e new.client r.unchanged r.on (λ core same. same d));
     })
 
 by_sort : (w : Setup) (past : List Change) (e : Input) (fault : Fault) (old new : World) → StandsFor w past old → HasAsked e (Err fault) [] old new

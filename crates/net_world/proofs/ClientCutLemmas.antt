@@ -11,7 +11,7 @@ use Rattle.messages.specs.Senses.{Sense, Hears, Keeps, Drops, Misses, refusal_of
 use Rattle.messages.proofs.SenseLemmas.{entry_by, entries_are}
 use Rattle.client_core.specs.declared.call.Call.{Call}
 use Rattle.client_core.specs.declared.input.Input.{Input}
-use Rattle.client_core.specs.declared.noted.Noted.{Noted}
+use Rattle.client_core.specs.declared.note.ClientNote.{ClientNote}
 use Rattle.client_core.specs.declared.peers.Peers.{Peers}
 use Rattle.client_core.specs.History as client
 use Rattle.client_core.specs.History.{Opening}
@@ -26,7 +26,7 @@ use Rattle.net_world.proofs.NodeLemmas.{Saves, relabel}
 
 -- ---- what the note says behind what a save left
 
-said : Opening → List FrameEntry → Noted
+said : Opening → List FrameEntry → ClientNote
 said o past = words_noted o (packets_heard o past)
 
 call_left : (o : Opening) (list : List client.Entry) (c : Call) (a b : Left) → has_new a ≡ has_new b
@@ -51,7 +51,7 @@ same_left o past e a b h =
     ap (words_noted o) (heard_behind o past e a) ∙ sense_left o (packets_heard o past) a b (sense o past e) h
     ∙ sym (ap (words_noted o) (heard_behind o past e b))
 
-none_new : (x : Option Addition) (n : Noted) → noted_after false x n ≡ n
+none_new : (x : Option Addition) (n : ClientNote) → noted_after false x n ≡ n
 none_new None n = refl
 none_new (Some a) n = refl
 
@@ -111,7 +111,7 @@ free_in o list Drops h = absurd cc
 free_in o list Misses h = absurd cc
 
 -- What is due comes to a client that is on.
-up_call : (on : Bool) (peers : Peers) (n : Noted) (c : Call) → is_some (due_by on peers n c) ≡ true → on ≡ true
+up_call : (on : Bool) (peers : Peers) (n : ClientNote) (c : Call) → is_some (due_by on peers n c) ≡ true → on ≡ true
 up_call true peers n c h = refl
 up_call false peers n c h = absurd cc
 

@@ -8,7 +8,6 @@ use Rattle.disk_model.specs.Left.{is_lost}
 use Rattle.disk_model.specs.Steps as steps
 use Rattle.messages.specs.declared.frame.Frame.TheVariants.{Whole, Piece}
 use Rattle.messages.specs.Hearing.{Meaning, Says, Waits, Spoils, Strays, meaning, heard_by, with_entry}
-use Rattle.messages.specs.Senses.{is_drop}
 use Rattle.client_core.specs.declared.client.Client.{Client}
 use Rattle.client_core.specs.declared.input.Input.{Input}
 use Rattle.client_core.specs.declared.input.Input.TheVariants as inputs
@@ -17,12 +16,10 @@ use Rattle.client_core.specs.History.{Opening}
 use Rattle.client_core.specs.Note.{Says as NoteSays, blank}
 use Rattle.client_core.specs.Words as words
 use Rattle.client_core.specs.Hearing.{FrameEntry, Met, Cut, rules, heard_at, packets_heard, is_up}
-use Rattle.client_core.specs.FrameAnswers.{sense}
 use Rattle.client_core.specs.FrameEnds as core
 use Rattle.net_world.specs.declared.client_outs.ClientOuts.{ClientOuts}
-use Rattle.node_power.specs.declared.power.Power.TheVariants.{On, Off, Lent}
-use Rattle.net_world.specs.Nodes.{Stays}
-use Rattle.net_world.specs.ClientNodes.{ClientNode, client_nodes, Stands, Asks, answer_to}
+use Rattle.node_power.specs.declared.power.Power.TheVariants.{On}
+use Rattle.net_world.specs.ClientNodes.{client_nodes, Asks, answer_to}
 use Rattle.net_world.proofs.NodeLemmas.{Laws, stays, ends}
 
 piece_stays : (o : Opening) (list : List client.Entry) (left : Left) (m : Meaning) → words.is_on list ≡ true → is_lost left ≡ false
@@ -48,13 +45,6 @@ laws o = record {
   off = λ past. refl;
   says = λ past notes s. s;
 }
-
--- What is refused leaves a client as it was, but where it drops a tag: that alone changes.
-pub unchanged : (o : Opening) (past : List FrameEntry) (e : Input) (node : ClientNode) → Stays (client_nodes o) past e node → is_up o past ≡ true
-    → is_drop (sense o past e) ≡ false → Stands o past node
-unchanged o past e (On client) h up d = (h d, up)
-unchanged o past e (Off notes) h up d = absurd h
-unchanged o past e Lent h up d = absurd h
 
 -- A call that is answered, and told so.
 pub answers : (o : Opening) (past : List FrameEntry) (e : Input) (old new : Client Kept) (asked : ClientOuts) → is_up o past ≡ true

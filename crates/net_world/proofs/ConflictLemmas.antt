@@ -14,12 +14,12 @@ use Rattle.messages.specs.declared.packet.PacketParts.{PacketParts}
 use Rattle.messages.specs.declared.body.Body.{Body}
 use Rattle.messages.specs.declared.body.Body.TheVariants as bodies
 use Rattle.messages.specs.declared.node.Node.TheVariants.{Server}
-use Rattle.client_core.specs.declared.noted.Noted.{Noted}
+use Rattle.client_core.specs.declared.note.ClientNote.{ClientNote}
 use Rattle.state_table.specs.Kept.{kept_of}
 use Rattle.state_table.specs.Laws.{FoundHasItsKey}
 use Rattle.client_core.specs.Refusals.{is_for_client, differs, lacks_room, faults_of_body}
 use Rattle.client_core.specs.Words.{is_on, words_noted, peers}
-use Rattle.mirror_core.specs.declared.noted.Noted as mirror_noted
+use Rattle.mirror_core.specs.declared.note.MirrorNote.{MirrorNote}
 use Rattle.mirror_core.specs.Requests.{asked_by, is_for_mirror}
 use Rattle.mirror_core.specs.Refusals as mirror_refusals
 use Rattle.mirror_core.specs.Words as mirrors
@@ -117,7 +117,7 @@ differing_state states b x l c h =
     let k = kept_differs x (kept_of x.key states) (conflict_differs (differs x (kept_of x.key states)) l h) in
     record { new = x; old = k.0; carries = c; found = k.1; other = k.2 }
 
-differing : (n : Noted) (b : Body) → slice_get (faults_of_body n b) 0 ≡ Some Conflict → Differing n.kept b
+differing : (n : ClientNote) (b : Body) → slice_get (faults_of_body n b) 0 ≡ Some Conflict → Differing n.kept b
 differing n (bodies.State jobs x) h = differing_state n.kept (bodies.State jobs x) x (lacks_room n.kept (kept_of x.key n.kept)) refl h
 differing n (bodies.Copy x) h = differing_state n.kept (bodies.Copy x) x (lacks_room n.kept (kept_of x.key n.kept)) refl h
 differing n _ h = absurd cc
@@ -146,7 +146,7 @@ old_or_not : (b : Bool) → slice_get (when b Old) 0 ≡ Some Conflict → ⊥
 old_or_not true h = absurd cc
 old_or_not false h = absurd cc
 
-asked_differs : (n : mirror_noted.Noted) (body : Body) → slice_get (mirror_refusals.faults_of n (asked_by body)) 0 ≡ Some Conflict → Differing n.kept body
+asked_differs : (n : MirrorNote) (body : Body) → slice_get (mirror_refusals.faults_of n (asked_by body)) 0 ≡ Some Conflict → Differing n.kept body
 asked_differs n (bodies.Copy x) h =
     let k = kept_differs x (kept_of x.key n.kept)
     (conflict_differs (differs x (kept_of x.key n.kept)) (lacks_room n.kept (kept_of x.key n.kept)) h) in
@@ -154,7 +154,7 @@ asked_differs n (bodies.Copy x) h =
 asked_differs n (bodies.Fetch g) h = absurd (old_or_not (nat_lt g n.generation) h)
 asked_differs n _ h = absurd cc
 
-past_down : (a b : Bool) (n : mirror_noted.Noted) (body : Body)
+past_down : (a b : Bool) (n : MirrorNote) (body : Body)
     → slice_get (when a Down ++ mirror_refusals.faults_of n (if b then asked_by body else None)) 0 ≡ Some Conflict → Differing n.kept body
 past_down true b n body h = absurd cc
 past_down false true n body h = asked_differs n body h

@@ -16,7 +16,7 @@ use Rattle.messages.specs.Senses.{sense_of, refusal_of_sense, heard_or}
 use Rattle.server_core.specs.declared.event.Event.{Event}
 use Rattle.server_core.specs.declared.event.Event.TheVariants as events
 use Rattle.server_core.specs.declared.input.Input.TheVariants as inputs
-use Rattle.server_core.specs.declared.note.Noted.{Noted}
+use Rattle.server_core.specs.declared.note.ServerNote.{ServerNote}
 use Rattle.server_core.specs.History as server
 use Rattle.server_core.specs.History.{Opening}
 use Rattle.server_core.specs.Note.{Says as NoteSays, SaysOneThing}
@@ -43,7 +43,7 @@ relabel o old new node s off down same =
 
 -- ---- what is noted of an event, by what its save left
 
-noted_as : (b l : ℕ) (x : Option Staged) (left : Left) → Noted
+noted_as : (b l : ℕ) (x : Option Staged) (left : Left) → ServerNote
 noted_as b l x left = record { boot = b; last_run = last_run_after left x l }
 
 recorded_same : (a b : Left) (x : Option Staged) (last : ℕ) → has_new a ≡ has_new b → last_run_after a x last ≡ last_run_after b x last
@@ -58,13 +58,13 @@ same_new : (o : Opening) (list : List server.Entry) (e : Event) (a b : Left) →
     → words_noted o (server.Met e a ∷ list) ≡ words_noted o (server.Met e b ∷ list)
 same_new o list e a b h = ap (λ l. noted_with (boot o list) l) (recorded_same a b (words.due o list e) (last_run o list) h)
   where
-    noted_with : ℕ → ℕ → Noted
+    noted_with : ℕ → ℕ → ServerNote
     noted_with x l = record { boot = x; last_run = l }
 
 same_old : (o : Opening) (list : List server.Entry) (e : Event) → words_noted o list ≡ words_noted o (server.Met e LostOld ∷ list)
 same_old o list e = ap (λ l. noted_with (boot o list) l) (sym (recorded_old (words.due o list e) (last_run o list)))
   where
-    noted_with : ℕ → ℕ → Noted
+    noted_with : ℕ → ℕ → ServerNote
     noted_with x l = record { boot = x; last_run = l }
 
 and_false : (a : Bool) → (a && false) ≡ false
@@ -184,11 +184,11 @@ boots_spent b l h = lt_false (b + 1) (2 ^ 64) (omega (arith, h))
     lt_false : (a b : ℕ) → b ≤ a → nat_lt a b ≡ false
     lt_false a b h = grind (arith, nat_tests)
 
-pub boots_yes : SaysOneThing → (bytes : List ℕ) (m n : Noted) → NoteSays bytes m → NoteSays bytes n → m.boot < 2 ^ 64 - 1 → Ok tt ≡ boots n
+pub boots_yes : SaysOneThing → (bytes : List ℕ) (m n : ServerNote) → NoteSays bytes m → NoteSays bytes n → m.boot < 2 ^ 64 - 1 → Ok tt ≡ boots n
 boots_yes law bytes m n s t h =
     ap (λ (x : Bool). if x then Ok tt else Err NoSave) (sym (boots_left m.boot h)) ∙ ap boots (law bytes m n s t)
 
-pub boots_no : SaysOneThing → (bytes : List ℕ) (m n : Noted) → NoteSays bytes m → NoteSays bytes n → 2 ^ 64 - 1 ≤ m.boot → Err NoSave ≡ boots n
+pub boots_no : SaysOneThing → (bytes : List ℕ) (m n : ServerNote) → NoteSays bytes m → NoteSays bytes n → 2 ^ 64 - 1 ≤ m.boot → Err NoSave ≡ boots n
 boots_no law bytes m n s t h =
     ap (λ (x : Bool). if x then Ok tt else Err NoSave) (sym (boots_spent m.boot s.boot_range h)) ∙ ap boots (law bytes m n s t)
 

@@ -54,7 +54,7 @@ use Rattle.net_world.specs.Stands.{IsMirror, IsGreatest, StandsFor}
 use Rattle.net_world.specs.Ends as ends
 use Rattle.net_world.specs.Ends.{Ends, changes_after}
 use Rattle.net_world.proofs.HearingLemmas.{mirror_hears}
-use Rattle.net_world.proofs.MirrorNodeLemmas as of_nodes
+use Rattle.net_world.proofs.NodeLemmas.{unchanged}
 use Rattle.net_world.proofs.MetLemmas.{frames_more}
 use Rattle.net_world.proofs.ServeLemmas.{first_is}
 use Rattle.net_world.proofs.EndsLemmas.{GoesTo, frame_bar, goes, stops, does, refusing, refuses}
@@ -235,7 +235,7 @@ refused w past number f node fault old new stands h g (inr r) =
     refusing w past (Deliver number) fault new
     (goes w past (Deliver number) (frame_bar w past number f Mirror g ∙ is_there w past (h.has w past stands) r.on)
     ∙ frame_brings w past number f g ∙ ap outcome_of_step (comes_same w past f ∙ met_err (of_mirror (steps past)) f fault r.why))
-    (mirror_kept w past node old new stands h (of_nodes.unchanged mirror_opening (of_mirror (steps past)) f node r.unchanged r.on))
+    (mirror_kept w past node old new stands h (unchanged (mirror_nodes mirror_opening) (of_mirror (steps past)) f node r.unchanged r.on (λ core h. h)))
 
 by_sort : (w : Setup) (past : List Change) (number : ℕ) (f : Frame) (node : MirrorNode) (fault : Fault) (old new : World) → StandsFor w past old
     → HasHeard node [] old new → GoesTo w past number f Mirror

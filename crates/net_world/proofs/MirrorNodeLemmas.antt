@@ -9,7 +9,7 @@ use Rattle.disk_model.specs.declared.left.Left.TheVariants.{LostNew, LostOld}
 use Rattle.disk_model.specs.Left.{saved_for, has_new, is_lost}
 use Rattle.messages.specs.declared.frame.Frame.{Frame}
 use Rattle.mirror_core.specs.declared.mirror.Mirror.{Mirror}
-use Rattle.mirror_core.specs.declared.noted.Noted.{Noted}
+use Rattle.mirror_core.specs.declared.note.MirrorNote.{MirrorNote}
 use Rattle.mirror_core.specs.History.{Entry, Met, Cut}
 use Rattle.mirror_core.specs.Note.{Says, blank}
 use Rattle.mirror_core.specs.Saves.{Addition, addition_of, unless_refused, noted_after}
@@ -19,24 +19,17 @@ use Rattle.mirror_core.specs.Ends.{answered_entry}
 use Rattle.mirror_core.specs.Stands.{NotOpened, Restarts as Opened}
 use Rattle.node_power.specs.Kinds as nodes
 use Rattle.node_power.specs.MirrorKind.{mirror_kind}
-use Rattle.node_power.specs.declared.power.Power.TheVariants.{On, Off, Lent}
-use Rattle.net_world.specs.Nodes.{Stays}
+use Rattle.node_power.specs.declared.power.Power.TheVariants.{Off}
 use Rattle.net_world.specs.MirrorNodes.{MirrorNode, mirror_nodes, Stands, Restarts}
 use Rattle.net_world.proofs.NodeLemmas.{Laws, Saves, stays, relabel}
 
-pub laws : (o : Noted) → Laws (mirror_nodes o) Cut
+pub laws : (o : MirrorNote) → Laws (mirror_nodes o) Cut
 laws o = record {
   fails_never = λ core. refl;
   stays_up = λ past f left up kept. stays (is_on past) (is_lost left) up kept;
   off = λ past. refl;
   says = λ past notes s. s;
 }
-
--- What is refused leaves a mirror as it was.
-pub unchanged : (o : Noted) (past : List Entry) (f : Frame) (node : MirrorNode) → Stays (mirror_nodes o) past f node → is_on past ≡ true → Stands o past node
-unchanged o past f (On mirror) h up = (h, up)
-unchanged o past f (Off notes) h up = absurd h
-unchanged o past f Lent h up = absurd h
 
 -- No bytes at all are a blank note.
 pub says_blank : (bytes : List ℕ) → bytes ≡ [] → Says bytes blank
@@ -51,21 +44,21 @@ and_false : (b : Bool) → (b && false) ≡ false
 and_false true = refl
 and_false false = refl
 
-saved_new : (x : Option Addition) (n : Noted) → is_some x ≡ true → noted_after (has_new (saved_for x)) x n ≡ noted_after true x n
+saved_new : (x : Option Addition) (n : MirrorNote) → is_some x ≡ true → noted_after (has_new (saved_for x)) x n ≡ noted_after true x n
 saved_new None n h = cc
 saved_new (Some a) n h = refl
 
-saved_old : (x : Option Addition) (n : Noted) → n ≡ noted_after false x n
+saved_old : (x : Option Addition) (n : MirrorNote) → n ≡ noted_after false x n
 saved_old None n = refl
 saved_old (Some a) n = refl
 
-landed_new : (o : Noted) (past : List Entry) (f : Frame) (new : MirrorNode) → is_some (due o past f) ≡ true
+landed_new : (o : MirrorNote) (past : List Entry) (f : Frame) (new : MirrorNode) → is_some (due o past f) ≡ true
     → Stands o (Cut ∷ answered_entry o past f ∷ past) new → Stands o (Met f LostNew ∷ past) new
 landed_new o past f new d s =
     relabel (mirror_nodes o) (Cut ∷ answered_entry o past f ∷ past) (Met f LostNew ∷ past) refl (and_false (is_on past))
     (λ notes says. subst (Says (note_of notes).bytes) (saved_new (due o past f) (words_noted o past) d) says) new s
 
-landed_old : (o : Noted) (past : List Entry) (f : Frame) (new : MirrorNode) → Stands o (Cut ∷ past) new → Stands o (Met f LostOld ∷ past) new
+landed_old : (o : MirrorNote) (past : List Entry) (f : Frame) (new : MirrorNode) → Stands o (Cut ∷ past) new → Stands o (Met f LostOld ∷ past) new
 landed_old o past f new s =
     relabel (mirror_nodes o) (Cut ∷ past) (Met f LostOld ∷ past) refl (and_false (is_on past))
     (λ notes says. subst (Says (note_of notes).bytes) (saved_old (due o past f) (words_noted o past)) says) new s
@@ -75,7 +68,7 @@ free_of None x d = refl
 free_of (Some f) x d = cc
 
 -- A frame that is due to make a save.
-pub saves : (o : Noted) (past : List Entry) (f : Frame) → is_on past ≡ true → is_some (due o past f) ≡ true → Saves (mirror_nodes o) Cut past f
+pub saves : (o : MirrorNote) (past : List Entry) (f : Frame) → is_on past ≡ true → is_some (due o past f) ≡ true → Saves (mirror_nodes o) Cut past f
 saves o past f up d = record {
   up = up;
   due = d;
@@ -86,17 +79,17 @@ saves o past f up d = record {
 
 -- ---- a start
 
-says_same : (old new : Note) (n : Noted) → new ≡ old → Says old.bytes n → Says new.bytes n
+says_same : (old new : Note) (n : MirrorNote) → new ≡ old → Says old.bytes n → Says new.bytes n
 says_same old new n h s = subst (λ (x : Note). Says x.bytes n) (sym h) s
 
-unstarted : (o : Noted) (past : List Entry) (notes back : Kept) (fault : Fault) → is_on past ≡ false → Says (note_of notes).bytes (words_noted o past)
+unstarted : (o : MirrorNote) (past : List Entry) (notes back : Kept) (fault : Fault) → is_on past ≡ false → Says (note_of notes).bytes (words_noted o past)
     → NotOpened (note_of notes) (note_of back) fault → Restarts o past (Off back) (Err fault)
 unstarted o past notes back LoadFault off says h = absurd (omega (arith, h.0))
 unstarted o past notes back BadNote off says h = absurd (h.1 (words_noted o past) says)
 unstarted o past notes back NoMemory off says h = (off, (says_same (note_of notes) (note_of back) (words_noted o past) h says, off))
 unstarted o past notes back _ off says h = absurd h
 
-pub restarted : (o : Noted) (past : List Entry) (old new : MirrorNode) (done : Result (Unit {0}) Fault) → Stands o past old
+pub restarted : (o : MirrorNote) (past : List Entry) (old new : MirrorNode) (done : Result (Unit {0}) Fault) → Stands o past old
     → nodes.Restarts (mirror_kind note_of o) (λ notes result. Opened note_of (note_of notes) result) past old new done → Restarts o past new done
 restarted o past old new done s (inl w) = rw (w.told, w.same) (w.on, s)
 restarted o past old new done s (inr h) = rw (h.new_is, h.told) (by_made h.made h.opens)

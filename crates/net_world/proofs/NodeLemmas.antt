@@ -15,7 +15,7 @@ use Rattle.node_power.specs.declared.power.Power.{Power}
 use Rattle.node_power.specs.declared.power.Power.TheVariants.{On, Off, Lent}
 use Rattle.node_power.specs.Kinds as powers
 use Rattle.node_power.specs.Kinds.{Kind}
-use Rattle.net_world.specs.Nodes.{Stands, Faults, Ends, CutsIn}
+use Rattle.net_world.specs.Nodes.{Stands, Stays, Faults, Ends, CutsIn}
 
 pub stays : (on lost : Bool) → on ≡ true → lost ≡ false → (on && not lost) ≡ true
 stays true false h k = refl
@@ -63,6 +63,13 @@ pub off_ends : {C N E X D O : Type 0} (k : Kind C N E X D O) (past : List X) (e 
     → (fault ≡ NodeOff) × (k.is_up past ≡ false) → Stands k past node → Ends k past e node (Err fault)
 off_ends k past e fault node off s = rw off.0 (inl (record { off = off.1; why = refl; unchanged = s }))
 
+-- What is refused leaves a node as it was, where it leaves its core so.
+pub unchanged : {C N E X D O : Type 0} (k : Kind C N E X D O) (past : List X) (e : E) (node : Power C N) → Stays k past e node → k.is_up past ≡ true
+    → ((core : C) → k.core.Stays past e core → k.core.StandsFor past core) → Stands k past node
+unchanged k past e (On core) h up same = (same core h, up)
+unchanged k past e (Off notes) h up same = absurd h
+unchanged k past e Lent h up same = absurd h
+
 -- ---- its power
 
 -- A node of a world is one that may have no power.
@@ -70,6 +77,19 @@ pub weak : {C N E X D O : Type 0} (k : Kind C N E X D O) (past : List X) (node :
 weak k past (On core) s = s.0
 weak k past (Off notes) s = s
 weak k past Lent s = s
+
+-- What comes to the core that a node lends comes to the node;
+pub lent_ends : {C N E X D O : Type 0} {cut : X} (k : Kind C N E X D O) → Laws k cut → (past : List X) (e : E) (was : Power C N) (old new : C)
+    (result : Result O Fault) → Stands k past was → (powers.Stands k past was → powers.Shows k past was (Some old))
+    → (k.core.StandsFor past old → steps.Ends k.core past e old new result) → Ends k past e (On new) result
+lent_ends k l past e was old new result s lent stepped =
+    let shown = lent (weak k past was s) in
+    ends k l past e old new result shown.2 (stepped shown.1)
+
+-- and where it lends none, it is off.
+pub none_lent : {C N E X D O : Type 0} (k : Kind C N E X D O) (past : List X) (e : E) (fault : Fault) (was : Power C N) → Stands k past was
+    → (powers.Stands k past was → (fault ≡ NodeOff) × powers.Shows k past was None) → Ends k past e was (Err fault)
+none_lent k past e fault was s lent = off_ends k past e fault was (lent (weak k past was s)) s
 
 -- One that is off stands for each list that says so, and of which its notes say what they say of the other.
 pub relabel : {C N E X D O : Type 0} (k : Kind C N E X D O) (old new : List X) → k.is_up old ≡ false → k.is_up new ≡ false

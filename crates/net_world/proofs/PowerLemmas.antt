@@ -1,16 +1,16 @@
 -- A server's node loses its power, and is started again.
-use Rattle.std.proofs.Common.{◌≡◌, refl, sym, subst, inl, inr, ℕ, ◌+◌, ◌-◌, ◌^◌, arith, List, Result, Ok, Err}
+use Rattle.std.proofs.Common.{◌≡◌, refl, sym, subst, inl, inr, ℕ, ◌+◌, ◌^◌, arith, List, Result, Ok, Err}
 use Rattle.std.proofs.lemmas.Bool.{lt-ltb, le-ltb}
 use Rattle.fc_base.specs.declared.fault.Fault.{Fault}
 use Rattle.fc_base.specs.declared.fault.Fault.TheVariants.{NoMemory, LoadFault, SaveFault, BadNote, NumbersSpent}
 use Rattle.disk_model.specs.MemNotes.{Saved as Kept, note_of}
 use Rattle.disk_model.specs.Notes.{Note}
-use Rattle.server_core.specs.declared.note.Noted.{Noted}
+use Rattle.server_core.specs.declared.note.ServerNote.{ServerNote}
 use Rattle.server_core.specs.declared.server.Server.{Server}
 use Rattle.server_core.specs.History.{Opening}
 use Rattle.server_core.specs.Note.{Says}
 use Rattle.server_core.specs.Words.{boot, words_noted}
-use Rattle.server_core.specs.Serves.{NotOpened}
+use Rattle.server_core.specs.Ends.{NotOpened}
 use Rattle.server_core.specs.Hearing.{FrameEntry, packets_heard}
 use Rattle.server_core.specs.FrameEnds.{Opens, Restarts as Opened}
 use Rattle.node_power.specs.declared.power.Power.TheVariants.{On, Off}
@@ -18,7 +18,7 @@ use Rattle.node_power.specs.Kinds as nodes
 use Rattle.node_power.specs.ServerKind.{server_kind}
 use Rattle.net_world.specs.ServerNodes.{ServerNode, Stands, Restarts}
 
-says_same : (old new : Note) (n : Noted) → new ≡ old → Says old.bytes n → Says new.bytes n
+says_same : (old new : Note) (n : ServerNote) → new ≡ old → Says old.bytes n → Says new.bytes n
 says_same old new n h s = subst (λ (x : Note). Says x.bytes n) (sym h) s
 
 pub restart_ok : (o : Opening) (past : List FrameEntry) (notes : Kept) (server : Server Kept) (me : ℕ) → o.me ≡ me → Stands o past (Off notes)

@@ -11,7 +11,7 @@ use Rattle.disk_model.specs.MemNotes.{Saved as Kept, note_of}
 use Rattle.disk_model.specs.Notes.{Note}
 use Rattle.disk_model.specs.declared.left.Left.TheVariants.{Saved, LostNew}
 use Rattle.messages.specs.Ranges.{is_generation}
-use Rattle.client_core.specs.declared.noted.Noted.{Noted}
+use Rattle.client_core.specs.declared.note.ClientNote.{ClientNote}
 use Rattle.client_core.specs.History.{Opening}
 use Rattle.client_core.specs.Hearing.{FrameEntry, Renew, Cut, packets_heard}
 use Rattle.client_core.specs.Note.{Says, SaysOneThing, blank, is_blank}
@@ -28,7 +28,7 @@ no_states : (states : List State) → length states ≡ 0 → states ≡ []
 no_states [] h = refl
 no_states (s ∷ states) h = absurd (omega (arith, h))
 
-blank_is : (n : Noted) → is_blank n ≡ true → n ≡ blank
+blank_is : (n : ClientNote) → is_blank n ≡ true → n ≡ blank
 blank_is n h =
     let a = and_parts (n.generation == 0) _ h in
     let b = and_parts (n.runs == 0) _ a.1 in
@@ -39,11 +39,11 @@ blank_is n h =
     made g r a k = λ i. record { generation = g i; runs = r i; attempts = a i; kept = k i }
 
 -- No bytes say a note that says nothing.
-pub says_nothing : (bytes : List ℕ) (n : Noted) → bytes ≡ [] → is_blank n ≡ true → Says bytes n
+pub says_nothing : (bytes : List ℕ) (n : ClientNote) → bytes ≡ [] → is_blank n ≡ true → Says bytes n
 says_nothing bytes n none h = subst (Says bytes) (sym (blank_is n h)) (says_blank bytes none)
 
 -- And what no bytes say is that.
-said_is : SaysOneThing → (bytes : List ℕ) (n : Noted) → bytes ≡ [] → Says bytes n → is_blank n ≡ true
+said_is : SaysOneThing → (bytes : List ℕ) (n : ClientNote) → bytes ≡ [] → Says bytes n → is_blank n ≡ true
 said_is one bytes n none s = ap is_blank (one bytes n blank s (says_blank bytes none))
 
 -- Other notes with the same bytes stand for the same.
@@ -58,12 +58,12 @@ restand o past old new e h = (
 
 -- ---- a restart
 
-pub may_start : (mirror : Bool) (bytes : List ℕ) (n : Noted) → (mirror ≡ true → bytes ≢ []) → IsEmptyIfBlank bytes n → (mirror && is_blank n) ≡ false
+pub may_start : (mirror : Bool) (bytes : List ℕ) (n : ClientNote) → (mirror ≡ true → bytes ≢ []) → IsEmptyIfBlank bytes n → (mirror && is_blank n) ≡ false
 may_start false bytes n f e = refl
 may_start true bytes n f (inl none) = absurd (f refl none)
 may_start true bytes n f (inr written) = written
 
-bad_note : SaysOneThing → (mirror : Bool) (bytes : List ℕ) (n : Noted) → Says bytes n → IsBadNote mirror bytes → (mirror && is_blank n) ≡ true
+bad_note : SaysOneThing → (mirror : Bool) (bytes : List ℕ) (n : ClientNote) → Says bytes n → IsBadNote mirror bytes → (mirror && is_blank n) ≡ true
 bad_note one mirror bytes n s (inl none) = absurd (none n s)
 bad_note one mirror bytes n s (inr empty) = rw (empty.0, said_is one bytes n empty.1 s) refl
 
@@ -77,10 +77,10 @@ not_started one o past mirror old new _ h k = absurd k
 
 -- ---- a renewal
 
-pub may_renew : SaysOneThing → (bytes : List ℕ) (n : Noted) → bytes ≡ [] → Says bytes n → is_blank n ≡ true
+pub may_renew : SaysOneThing → (bytes : List ℕ) (n : ClientNote) → bytes ≡ [] → Says bytes n → is_blank n ≡ true
 may_renew one bytes n none s = said_is one bytes n none s
 
-written_note : (bytes : List ℕ) (n : Noted) → bytes ≢ [] → IsEmptyIfBlank bytes n → is_blank n ≡ false
+written_note : (bytes : List ℕ) (n : ClientNote) → bytes ≢ [] → IsEmptyIfBlank bytes n → is_blank n ≡ false
 written_note bytes n some (inl none) = absurd (some none)
 written_note bytes n some (inr written) = written
 

@@ -52,7 +52,7 @@ use Rattle.net_world.specs.ClientNodes.{handed_in}
 use Rattle.net_world.specs.Stands.{IsMirror, IsGreatest, StandsFor}
 use Rattle.net_world.specs.Serving.{entries, step_of, step_by, Serves, IsBarred, Refuses, Faults, ServerEnds}
 use Rattle.net_world.proofs.HearingLemmas.{nodes_hear_their_own}
-use Rattle.net_world.proofs.ServerNodeLemmas as of_nodes
+use Rattle.net_world.proofs.NodeLemmas.{unchanged}
 use Rattle.net_world.proofs.StandLemmas.{servers_stand}
 use Rattle.net_world.proofs.MetLemmas.{entry_again, HasMoved, server_stepped, server_kept}
 
@@ -177,7 +177,7 @@ refused w past s e fault old new stands h l (inr r) =
       on = is_there w past s l r.on;
       why = r.why;
       stands = server_stepped w past s (Met e NoSave) h.node [] old new stands h.moved nothing r.stands;
-      unchanged = λ d. server_kept w past s h.node old new stands h.moved (of_nodes.unchanged (opening_of s) (entries past s) e h.node r.unchanged r.on d);
+      unchanged = λ d. server_kept w past s h.node old new stands h.moved (unchanged (server_nodes (opening_of s)) (entries past s) e h.node r.unchanged r.on (λ core same. same d));
     })
 
 by_sort : (w : Setup) (past : List Change) (s : ℕ) (e : Input) (fault : Fault) (old new : World) → StandsFor w past old

@@ -4,17 +4,13 @@ use Rattle.disk_model.specs.declared.left.Left.{Left}
 use Rattle.disk_model.specs.Left.{is_lost}
 use Rattle.messages.specs.declared.frame.Frame.TheVariants.{Whole, Piece}
 use Rattle.messages.specs.Hearing.{Meaning, Says, Waits, Spoils, Strays, meaning, heard_by, with_entry}
-use Rattle.messages.specs.Senses.{is_drop}
 use Rattle.server_core.specs.declared.input.Input.{Input}
 use Rattle.server_core.specs.declared.input.Input.TheVariants as inputs
 use Rattle.server_core.specs.History as server
 use Rattle.server_core.specs.History.{Opening}
 use Rattle.server_core.specs.Words as words
 use Rattle.server_core.specs.Hearing.{FrameEntry, Met, Cut, rules, heard_at, packets_heard, is_up}
-use Rattle.server_core.specs.FrameAnswers.{sense}
-use Rattle.node_power.specs.declared.power.Power.TheVariants.{On, Off, Lent}
-use Rattle.net_world.specs.Nodes.{Stays}
-use Rattle.net_world.specs.ServerNodes.{ServerNode, server_nodes, Stands}
+use Rattle.net_world.specs.ServerNodes.{server_nodes}
 use Rattle.net_world.proofs.NodeLemmas.{Laws, stays}
 
 piece_stays : (o : Opening) (list : List server.Entry) (left : Left) (m : Meaning) → words.is_on list ≡ true → is_lost left ≡ false
@@ -38,10 +34,3 @@ laws o = record {
   off = λ past. refl;
   says = λ past notes s. s;
 }
-
--- What is refused leaves a server as it was, but where it drops a tag: that alone changes.
-pub unchanged : (o : Opening) (past : List FrameEntry) (e : Input) (node : ServerNode) → Stays (server_nodes o) past e node → is_up o past ≡ true
-    → is_drop (sense o past e) ≡ false → Stands o past node
-unchanged o past e (On server) h up d = (h d, up)
-unchanged o past e (Off notes) h up d = absurd h
-unchanged o past e Lent h up d = absurd h

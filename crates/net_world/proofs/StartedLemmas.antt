@@ -15,7 +15,7 @@ use Rattle.disk_model.specs.declared.left.Left.{Left}
 use Rattle.disk_model.specs.declared.left.Left.TheVariants as lefts
 use Rattle.disk_model.specs.Left.{has_new, is_lost, is_saved}
 use Rattle.client_core.specs.declared.call.Call.{Call}
-use Rattle.client_core.specs.declared.noted.Noted.{Noted}
+use Rattle.client_core.specs.declared.note.ClientNote.{ClientNote}
 use Rattle.client_core.specs.declared.peers.Peers.{Peers}
 use Rattle.client_core.specs.History as client
 use Rattle.client_core.specs.History.{Opening, Entry}
@@ -53,7 +53,7 @@ pub record IsOfGeneration (o : Opening) (list : List Entry) : Type 0 where
   pub on : is_on list ≡ true → nat_lt 0 (words_noted o list).generation ≡ true
   pub written : is_blank (words_noted o list) ≡ false → nat_lt 0 (words_noted o list).generation ≡ true
 
-met_written : (on : Bool) (p : Peers) (n : Noted) (c : Call) (left : Left) → (on ≡ true → nat_lt 0 n.generation ≡ true)
+met_written : (on : Bool) (p : Peers) (n : ClientNote) (c : Call) (left : Left) → (on ≡ true → nat_lt 0 n.generation ≡ true)
     → (is_blank n ≡ false → nat_lt 0 n.generation ≡ true)
     → is_blank (noted_after (has_new left) (due_by on p n c) n) ≡ false → nat_lt 0 (noted_after (has_new left) (due_by on p n c) n).generation ≡ true
 met_written true p n c left f g h = ap (λ (x : ℕ). nat_lt 0 x) (generation_stays (has_new left) (due_by true p n c) n) ∙ f refl
@@ -62,7 +62,7 @@ met_written false p n c left f g h = g h
 positive : (g : ℕ) → is_generation g ≡ true → nat_lt 0 g ≡ true
 positive g h = let low = (and_parts (nat_le 1 g) _ h).0 in grind (arith, nat_tests)
 
-renewed_positive : (b : Bool) (g : ℕ) (n : Noted) → is_generation g ≡ true → (b ≡ false → nat_lt 0 n.generation ≡ true)
+renewed_positive : (b : Bool) (g : ℕ) (n : ClientNote) → is_generation g ≡ true → (b ≡ false → nat_lt 0 n.generation ≡ true)
     → nat_lt 0 (if b then new_note g else n).generation ≡ true
 renewed_positive true g n h f = positive g h
 renewed_positive false g n h f = f refl
@@ -78,7 +78,7 @@ not_blank g left b h s e = by left (is_generation g) h s e
     by lefts.LostNew x f k y = absurd cc
     by lefts.LostOld x f k y = absurd cc
 
-renewed_written : (b : Bool) (g : ℕ) (n : Noted) → is_generation g ≡ true → (is_blank n ≡ false → nat_lt 0 n.generation ≡ true)
+renewed_written : (b : Bool) (g : ℕ) (n : ClientNote) → is_generation g ≡ true → (is_blank n ≡ false → nat_lt 0 n.generation ≡ true)
     → is_blank (if b then new_note g else n) ≡ false → nat_lt 0 (if b then new_note g else n).generation ≡ true
 renewed_written true g n h f e = positive g h
 renewed_written false g n h f e = f e

@@ -10,7 +10,7 @@ use Rattle.client_core.specs.declared.client.Client.{Client}
 use Rattle.client_core.specs.declared.input.Input.{Input}
 use Rattle.client_core.specs.declared.input.Input.TheVariants as inputs
 use Rattle.client_core.specs.History.{Opening}
-use Rattle.client_core.specs.declared.noted.Noted.{Noted}
+use Rattle.client_core.specs.declared.note.ClientNote.{ClientNote}
 use Rattle.client_core.specs.Note.{Says, is_blank}
 use Rattle.client_core.specs.Words.{words_noted}
 use Rattle.client_core.specs.Saves.{Addition}
@@ -36,7 +36,7 @@ HasNone (Off notes) = (note_of notes).bytes ≡ []
 HasNone _ = ⊥
 
 -- A note that says nothing has no bytes.
-abbrev pub IsEmptyIfBlank : List ℕ → Noted → Type 0
+abbrev pub IsEmptyIfBlank : List ℕ → ClientNote → Type 0
 IsEmptyIfBlank bytes n = (bytes ≡ []) ⊎ (is_blank n ≡ false)
 
 -- The notes say what the list says, without bytes where that is nothing.

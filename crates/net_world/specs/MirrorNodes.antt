@@ -5,7 +5,7 @@ use Rattle.fc_base.specs.declared.fault.Fault.TheVariants.{NoMemory, NodeOn}
 use Rattle.disk_model.specs.MemNotes.{Saved as Kept, note_of}
 use Rattle.messages.specs.declared.frame.Frame.{Frame}
 use Rattle.mirror_core.specs.declared.mirror.Mirror.{Mirror}
-use Rattle.mirror_core.specs.declared.noted.Noted.{Noted}
+use Rattle.mirror_core.specs.declared.note.MirrorNote.{MirrorNote}
 use Rattle.mirror_core.specs.History.{Entry, Restart}
 use Rattle.mirror_core.specs.Saves.{Addition}
 use Rattle.mirror_core.specs.Words.{is_on}
@@ -19,16 +19,16 @@ abbrev pub MirrorNode : Type 0
 MirrorNode = Power (Mirror Kept) Kept
 
 -- The kind of the mirror of a world whose note said this: one over notes in memory.
-abbrev pub mirror_nodes : Noted → Kind (Mirror Kept) Kept Frame Entry Addition (List (List ℕ))
+abbrev pub mirror_nodes : MirrorNote → Kind (Mirror Kept) Kept Frame Entry Addition (List (List ℕ))
 mirror_nodes o = mirror_kind note_of o
 
 -- For which lists it stands.
-abbrev pub Stands : Noted → List Entry → MirrorNode → Type 0
+abbrev pub Stands : MirrorNote → List Entry → MirrorNode → Type 0
 Stands o = nodes.Stands (mirror_nodes o)
 
 -- How a restart ends, which nothing hinders: the mirror runs; or it ran, or memory ran out, and
 -- nothing changes.
-abbrev pub Restarts : Noted → List Entry → MirrorNode → Result (Unit {0}) Fault → Type 0
+abbrev pub Restarts : MirrorNote → List Entry → MirrorNode → Result (Unit {0}) Fault → Type 0
 Restarts o past new (Ok _) = (is_on past ≡ false) × Stands o (Restart ∷ past) new
 Restarts o past new (Err NodeOn) = (is_on past ≡ true) × Stands o past new
 Restarts o past new (Err NoMemory) = (is_on past ≡ false) × Stands o past new

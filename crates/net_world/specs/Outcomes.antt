@@ -23,7 +23,7 @@ use Rattle.client_core.specs.declared.call.Call.TheVariants as calls
 use Rattle.client_core.specs.History as client
 use Rattle.client_core.specs.Words as clients
 use Rattle.client_core.specs.Note.{is_blank}
-use Rattle.client_core.specs.declared.noted.Noted.{Noted}
+use Rattle.client_core.specs.declared.note.ClientNote.{ClientNote}
 use Rattle.mirror_core.specs.History as mirror
 use Rattle.mirror_core.specs.Words as mirrors
 use Rattle.net_world.specs.Setup.{Setup}
@@ -145,7 +145,7 @@ cut Client = Ok (OfClient (Happens client.Cut))
 cut Mirror = Ok (OfMirror mirror.Cut)
 
 -- What the client's note says.
-abbrev pub noted_in : Setup → List Step → Noted
+abbrev pub noted_in : Setup → List Step → ClientNote
 noted_in w t = clients.words_noted (client_opening w) (of_client w t)
 
 -- A node is started again; a server saves its boot before, and a client with a mirror is started

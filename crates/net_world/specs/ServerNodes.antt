@@ -6,7 +6,7 @@ use Rattle.fc_base.specs.declared.fault.Fault.TheVariants.{NoSave, NumbersSpent}
 use Rattle.disk_model.specs.MemNotes.{Saved as Kept, note_of}
 use Rattle.disk_model.specs.declared.left.Left.TheVariants.{Saved}
 use Rattle.server_core.specs.declared.input.Input.{Input}
-use Rattle.server_core.specs.declared.note.Noted.{Noted}
+use Rattle.server_core.specs.declared.note.ServerNote.{ServerNote}
 use Rattle.server_core.specs.declared.outs.Outs.{Outs}
 use Rattle.server_core.specs.declared.server.Server.{Server}
 use Rattle.server_core.specs.History.{Opening}
@@ -38,7 +38,7 @@ Restarts o past =
     (Restart Saved)
 
 -- There is a save where a note leaves a boot above those that were used.
-abbrev pub boots : Noted → Result (Unit {0}) Fault
+abbrev pub boots : ServerNote → Result (Unit {0}) Fault
 boots n = if nat_lt (n.boot + 1) (2 ^ 64) then Ok tt else Err NoSave
 
 -- A restart whose boots are used up makes no save.

@@ -16,7 +16,7 @@ use Rattle.client_core.specs.Ranges.{packet_in}
 use Rattle.client_core.specs.Words.{words_noted}
 use Rattle.client_core.specs.Laws.{generations}
 use Rattle.client_core.specs.Packets as clients
-use Rattle.mirror_core.specs.declared.noted.Noted.{Noted as MirrorNoted}
+use Rattle.mirror_core.specs.declared.note.MirrorNote.{MirrorNote}
 use Rattle.mirror_core.specs.Note as mirror_note
 use Rattle.mirror_core.specs.History as mirror
 use Rattle.mirror_core.specs.Laws as mirror_laws
@@ -38,7 +38,7 @@ abbrev pub client_opening : Setup → client.Opening
 client_opening w = record { servers = w.servers; noted = blank }
 
 -- Its mirror does, too.
-abbrev pub mirror_opening : MirrorNoted
+abbrev pub mirror_opening : MirrorNote
 mirror_opening = mirror_note.blank
 
 -- The list of server s: its first restart, and what came to it since.

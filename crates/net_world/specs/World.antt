@@ -16,7 +16,7 @@ use Rattle.server_core.specs.declared.event.Event.TheVariants as events
 use Rattle.server_core.specs.declared.status.Status.{Status}
 use Rattle.server_core.specs.History as server
 use Rattle.server_core.specs.Answers as servers
-use Rattle.client_core.specs.declared.noted.Noted.{Noted}
+use Rattle.client_core.specs.declared.note.ClientNote.{ClientNote}
 use Rattle.client_core.specs.Words as clients
 use Rattle.net_world.specs.declared.told.WorldAnswer.{WorldAnswer}
 use Rattle.net_world.specs.declared.told.WorldAnswer.TheVariants as answers
@@ -46,7 +46,7 @@ abbrev pub frames : Setup → List Change → List (List ℕ)
 frames w past = map frame_spelling (frames_sent w (steps past))
 
 -- What the client's note says.
-abbrev pub client_note : Setup → List Change → Noted
+abbrev pub client_note : Setup → List Change → ClientNote
 client_note w past = clients.words_noted (client_opening w) (of_client w (trace w past))
 
 -- The state that the client keeps of a key, while it is on.

@@ -1,7 +1,7 @@
 //! The mirror of a world, which may be off.
 
 ghost use Rattle.std.specs.Prelude.{◌≡◌, ◌∷◌, [], List, IfOk, true, is_some};
-ghost use Rattle.mirror_core.specs.declared.noted.Noted.{Noted};
+ghost use Rattle.mirror_core.specs.declared.note.MirrorNote.{MirrorNote};
 ghost use Rattle.mirror_core.specs.Note.{blank};
 ghost use Rattle.mirror_core.specs.History.{Entry, Restart, Cut};
 ghost use Rattle.mirror_core.specs.Words.{is_on, due};
@@ -46,14 +46,14 @@ pub(crate) fn open(alloc: Global) -> Result<MirrorNode, AllocError>
 
 /// Whether it runs.
 pub(crate) fn runs(node: &MirrorNode) -> bool
-    ensures { (o : Noted) (past : List Entry) → Stands o past node.now → result ≡ is_on past }
+    ensures { (o : MirrorNote) (past : List Entry) → Stands o past node.now → result ≡ is_on past }
 {
     node.core().is_some()
 }
 
 /// A frame comes to it. `NodeOff`: it doesn't run. Any other fault is the mirror's own.
 pub(crate) fn deliver(node: &mut MirrorNode, frame: &Frame) -> Result<Frames, Fault>
-    ensures { (o : Noted) (past : List Entry) → Stands o past node.old →
+    ensures { (o : MirrorNote) (past : List Entry) → Stands o past node.old →
         Ends (mirror_nodes o) past frame.now node.new result }
 {
     node.on()?.deliver(frame)
@@ -61,7 +61,7 @@ pub(crate) fn deliver(node: &mut MirrorNode, frame: &Frame) -> Result<Frames, Fa
 
 /// Loses its power, where it has any.
 pub(crate) fn cut(node: &mut MirrorNode)
-    ensures { (o : Noted) (past : List Entry) → Stands o past node.old →
+    ensures { (o : MirrorNote) (past : List Entry) → Stands o past node.old →
         Stands o (Cut ∷ past) node.new }
 {
     let _was_on = node.cut();
@@ -71,7 +71,7 @@ pub(crate) fn cut(node: &mut MirrorNode)
 ///
 /// `NodeOn`: it runs. `NoMemory`. Nothing changes.
 pub(crate) fn restart(node: &mut MirrorNode, alloc: Global) -> Result<(), Fault>
-    ensures { (o : Noted) (past : List Entry) → Stands o past node.old →
+    ensures { (o : MirrorNote) (past : List Entry) → Stands o past node.old →
         Restarts o past node.new result }
 {
     node.restart(alloc, ())
@@ -85,7 +85,7 @@ pub(crate) fn cut_in_delivery(
     landed: bool,
     frame: &Frame,
 ) -> Result<(), Fault>
-    ensures { (o : Noted) (past : List Entry) → Stands o past node.old →
+    ensures { (o : MirrorNote) (past : List Entry) → Stands o past node.old →
         CutsIn (mirror_nodes o) past landed frame.now node.new result }
 {
     let Power::On(mirror) = node else {
@@ -103,7 +103,7 @@ pub(crate) fn cut_in_delivery(
 
 /// Loses its power once what a frame brings is saved.
 fn cut_behind_delivery(node: &mut MirrorNode, frame: &Frame) -> Result<(), Fault>
-    ensures { (o : Noted) (past : List Entry) → Stands o past node.old →
+    ensures { (o : MirrorNote) (past : List Entry) → Stands o past node.old →
         is_on past ≡ true → is_some (due o past frame.now) ≡ true →
         CutsIn (mirror_nodes o) past true frame.now node.new result }
 {

@@ -5,14 +5,14 @@ ghost use Rattle.std.specs.Option.{option_copied};
 ghost use Rattle.fc_base.specs.declared.limits.TheConstants.{MAX_SERVERS};
 ghost use Rattle.disk_model.specs.declared.left.Left.TheVariants.{Saved};
 ghost use Rattle.server_core.specs.declared.input.Input.TheVariants.{Deliver};
-ghost use Rattle.server_core.specs.declared.note.Noted.{Noted};
+ghost use Rattle.server_core.specs.declared.note.ServerNote.{ServerNote};
 ghost use Rattle.server_core.specs.FrameAnswers.{would_save};
 ghost use Rattle.server_core.specs.History.{Opening};
 ghost use Rattle.server_core.specs.Hearing.{FrameEntry, Restart, Cut, packets_heard, is_up};
 ghost use Rattle.server_core.specs.Note.{Says};
 ghost use Rattle.server_core.specs.Words.{is_on};
 ghost use Rattle.node_power.specs.Kinds.{Shows};
-ghost use Rattle.net_world.specs.Nodes.{Ends, CutsIn};
+ghost use Rattle.net_world.specs.Nodes.{CutsIn};
 ghost use Rattle.net_world.specs.ServerNodes.{server_nodes, no_save, boots, Stands, Restarts, CutsInRestart};
 ghost use Rattle.net_world.specs.Trace.{opening_of};
 
@@ -20,7 +20,7 @@ use disk_model::{MemNotes, Notes};
 use fc_base::{Fault, ServerNo};
 use messages::Frame;
 use node_power::Power;
-use server_core::{Input, Noted, Outs, Server, one_note};
+use server_core::{Input, Server, ServerNote, one_note};
 use std::alloc::{AllocError, Global};
 
 /// A server that runs, or the notes of one that is off.
@@ -51,15 +51,6 @@ pub(crate) fn server(node: &ServerNode) -> Option<&Server<MemNotes>>
         Shows (server_nodes o) past node.now (option_copied result) }
 {
     node.core()
-}
-
-/// Takes what comes. `NodeOff`: it doesn't run. Any other fault is the server's.
-#[inline(always)]
-pub(crate) fn step(node: &mut ServerNode, input: Input) -> Result<Outs, Fault>
-    ensures { (o : Opening) (past : List FrameEntry) → Stands o past node.old →
-        Ends (server_nodes o) past input node.new result }
-{
-    node.on()?.step(input)
 }
 
 /// Loses its power, where it has any.
@@ -111,10 +102,7 @@ fn cut_behind(node: &mut ServerNode, frame: Frame) -> Result<(), Fault>
         is_up o past ≡ true → would_save o past frame ≡ true →
         CutsIn (server_nodes o) past true (Deliver frame) node.new result }
 {
-    let outs = match step(node, Input::Deliver(frame)) {
-        Ok(outs) => outs,
-        Err(fault) => return Err(fault),
-    };
+    let outs = node.on()?.step(Input::Deliver(frame))?;
     let _unsent = outs;
     cut(node);
     Ok(())
@@ -161,10 +149,10 @@ fn try_restart(node: &mut ServerNode) -> Result<(), Fault>
 
 /// Whether a note leaves a boot above those that were used: `NoSave` where it doesn't.
 fn try_boot(bytes: &[u8]) -> Result<(), Fault>
-    ensures { (n : Noted) → Says bytes.now n → result ≡ boots n }
+    ensures { (n : ServerNote) → Says bytes.now n → result ≡ boots n }
 {
     one_note();
-    match Noted::decode(bytes) {
+    match ServerNote::decode(bytes) {
         Some(noted) => {
             if noted.boot < u64::MAX {
                 Ok(())

@@ -3,7 +3,7 @@ use Rattle.std.specs.Prelude.{ℕ, List}
 use Rattle.disk_model.specs.Notes.{Note}
 use Rattle.messages.specs.declared.frame.Frame.{Frame}
 use Rattle.mirror_core.specs.declared.mirror.Mirror.{Mirror}
-use Rattle.mirror_core.specs.declared.noted.Noted.{Noted}
+use Rattle.mirror_core.specs.declared.note.MirrorNote.{MirrorNote}
 use Rattle.mirror_core.specs.History.{Entry}
 use Rattle.mirror_core.specs.Note.{Says}
 use Rattle.mirror_core.specs.Saves.{Addition}
@@ -12,7 +12,7 @@ use Rattle.mirror_core.specs.Ends.{steps}
 use Rattle.node_power.specs.Kinds.{Kind}
 
 -- The kind of a mirror whose note said this.
-abbrev pub mirror_kind : {T : Type 0} → (T → Note) → Noted →
+abbrev pub mirror_kind : {T : Type 0} → (T → Note) → MirrorNote →
     Kind (Mirror T) T Frame Entry Addition (List (List ℕ))
 mirror_kind note o = record {
   core = steps note o;

@@ -2,7 +2,7 @@
 
 ghost use Rattle.std.specs.Prelude.{List, ℕ};
 ghost use Rattle.messages.specs.declared.frame.Frame.{Frame as SentFrame};
-ghost use Rattle.mirror_core.specs.declared.noted.Noted.{Noted as MirrorNoted};
+ghost use Rattle.mirror_core.specs.declared.note.MirrorNote.{MirrorNote};
 ghost use Rattle.mirror_core.specs.History.{Entry as MirrorEntry};
 ghost use Rattle.mirror_core.specs.Saves.{Addition as MirrorAddition};
 ghost use Rattle.mirror_core.specs.Stands as mirror;
@@ -17,7 +17,7 @@ use std::alloc::Global;
 impl<N: Notes + Drop> NodeCore<N> for Mirror<N> {
     type Seed = ();
 
-    ghost Opening = { MirrorNoted };
+    ghost Opening = { MirrorNote };
 
     ghost Input = { SentFrame };
 

@@ -12,7 +12,7 @@ use Rattle.fc_base.specs.declared.report.ReportParts.{ReportParts}
 use Rattle.fc_base.specs.declared.report.ReportEnd.{ReportEnd}
 use Rattle.fc_base.specs.declared.report.ReportEnd.TheVariants.{Whole, AtFault, ReadFault}
 use Rattle.recheck.specs.Report.{Tally, can_end, report_with}
-use Rattle.recheck.specs.Tally.{Noted}
+use Rattle.recheck.specs.Tally.{Counts}
 
 -- Behind an ascending list of numbers below a bound comes one that isn't below it.
 pub ascends_push : (xs : List ℕ) (end n : ℕ) → ascends xs ≡ true → list_all (λ x. nat_lt x end) xs ≡ true → end ≤ n → ascends (xs ++ n ∷ []) ≡ true
@@ -68,7 +68,7 @@ told_whole found AtFault e = e
 told_whole found (ReadFault block) e = e
 
 -- A tally's numbers make a report.
-pub told_by : (noted : Noted) (next checked faults : ℕ) (first items : List ℕ) (end : ReportEnd) (answer : Result ReportParts ReportParts) →
+pub told_by : (noted : Counts) (next checked faults : ℕ) (first items : List ℕ) (end : ReportEnd) (answer : Result ReportParts ReportParts) →
     record { next = next; found = record { checked = checked; faults = faults; first = items } } ≡ noted → first ≡ items → next ≤ MAX_BLOCKS → checked ≤ next →
     faults ≤ checked → Listed faults next items → can_end noted.found end ≡ true →
     answer ≡ (if is_report (record { checked = checked; faults = faults; first = first; end = end })

@@ -7,7 +7,7 @@ use Rattle.recheck.specs.Report.{Tally}
 use Rattle.recheck.specs.declared.tally.Tally.TheInside.{Inside}
 
 -- The tally of some blocks, and the first block that may come next.
-pub record Noted : Type 0 where
+pub record Counts : Type 0 where
   pub next : ℕ
   pub found : Tally
 

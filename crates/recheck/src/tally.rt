@@ -19,9 +19,9 @@ pub struct Tally {
 }
 
 impl Model for Tally {
-    ghost use Rattle.recheck.specs.Tally.{Noted, IsTally};
+    ghost use Rattle.recheck.specs.Tally.{Counts, IsTally};
 
-    ghost Value = { Noted };
+    ghost Value = { Counts };
 
     ghost view = { λ t. record {
       next = t.next;

@@ -22,7 +22,7 @@ use Rattle.client_core.specs.Life as lives
 use Rattle.client_core.specs.Life.{life}
 use Rattle.client_core.specs.declared.beginning.Beginning.{Beginning}
 use Rattle.client_core.specs.declared.beginning.Beginning.TheVariants as begins
-use Rattle.client_core.specs.declared.noted.Noted.{Noted}
+use Rattle.client_core.specs.declared.note.ClientNote.{ClientNote}
 use Rattle.client_core.specs.declared.peers.Peers.{Peers}
 use Rattle.client_core.specs.Begins.{jobs_refused, start_refused, begin_refused, begin_heard, begin_at}
 use Rattle.client_core.specs.Requests as requests
@@ -212,7 +212,7 @@ state_carries : (all : List Deed) (run attempt job s : ℕ) (x : Option State) �
 state_carries all run attempt job s None = (tt, tt)
 state_carries all run attempt job s (Some state) = (tt, tt)
 
-reply_carries : (all deeds : List Deed) (m : Bool) (n : Noted) (s : ℕ) (body : Body) → AreIn deeds all → AllCarry all (replies m n deeds s body)
+reply_carries : (all deeds : List Deed) (m : Bool) (n : ClientNote) (s : ℕ) (body : Body) → AreIn deeds all → AllCarry all (replies m n deeds s body)
 reply_carries all deeds m n s (bodies.JobsOk run jobs) old = start_carries all run s (begin_at run s deeds)
 reply_carries all deeds m n s (bodies.State jobs state) old = (tt, copy_carries all m state _)
 reply_carries all deeds m n s (bodies.NoState run job jobs) old = (tt, tt)
@@ -256,7 +256,7 @@ copies_carry all deeds true states =
     all_flat (λ p. Carries all p.body) (copy_again deeds) states (λ state. kept_carries all state (is_copied state.key deeds))
 copies_carry all deeds false states = tt
 
-tick_carries : (all deeds : List Deed) (ps : Peers) (n : Noted) → AreIn deeds all → AllCarry all (clients.all_again ps n deeds)
+tick_carries : (all deeds : List Deed) (ps : Peers) (n : ClientNote) → AreIn deeds all → AllCarry all (clients.all_again ps n deeds)
 tick_carries all deeds ps n old =
     let P : PacketParts → Type 0 = λ p. Carries all p.body in
     all_append P (fetch_again ps n.generation) _ (fetch_carries all (ps.mirror && (nat_lt 0 n.generation && not ps.granted)) n.generation)
@@ -267,7 +267,7 @@ tick_carries all deeds ps n old =
     (copies_carry all deeds ps.mirror n.kept))
 
 -- What an answered call sends is of what it does, or of what was done before.
-pub call_carries : (all deeds : List Deed) (ps : Peers) (n : Noted) (c : Call) → AreIn (deeds_of n c) all → AreIn deeds all
+pub call_carries : (all deeds : List Deed) (ps : Peers) (n : ClientNote) (c : Call) → AreIn (deeds_of n c) all → AreIn deeds all
     → AllCarry all (packets_for ps n deeds c)
 call_carries all deeds ps n (calls.Begin text) new old =
     all_map (λ p. Carries all p.body) (clients.to_server (bodies.Jobs (n.runs + 1) text)) (numbers_below ps.servers)

@@ -39,7 +39,7 @@ use Rattle.server_core.specs.History.{Opening}
 use Rattle.server_core.specs.Words as words
 use Rattle.server_core.specs.Answers as answers
 use Rattle.server_core.specs.Handles.{sent_alone}
-use Rattle.server_core.specs.Serves as whole
+use Rattle.server_core.specs.Ends as whole
 use Rattle.server_core.specs.Note.{spelling}
 use Rattle.server_core.specs.Hearing.{FrameEntry, Met, is_piece_for, rules, arrival, heard_at, packets_heard, assembly}
 use Rattle.server_core.specs.FrameAnswers.{sense, refusal, due, answered_entry, entry_heard}

@@ -164,23 +164,22 @@ work_elsewhere me now_boot (Some kept) None x h e = absurd h
 
 -- Requests that are of no check.
 abbrev pub IsUnchecked : Request → Type 0
-IsUnchecked (ToStage r text) = Unit {0}
-IsUnchecked (ToStart r) = Unit {0}
-IsUnchecked (ToVerify r a text) = Unit {0}
-IsUnchecked ToNobody = Unit {0}
-IsUnchecked _ = ⊥
+IsUnchecked (ToHold a state) = ⊥
+IsUnchecked (ToPassFully a j) = ⊥
+IsUnchecked (ToReport b a j report) = ⊥
+IsUnchecked _ = Unit {0}
 
 unchecked : (kept : CheckKept) (c : Check) (x : Request) → kept ≡ check_kept c → IsUnchecked x → kept ≡ check_kept (record c { since = x ∷ c.since })
 unchecked kept c (ToStage r text) h e = h
 unchecked kept c (ToStart r) h e = h
 unchecked kept c (ToVerify r a text) h e = h
-unchecked kept c (ToTrigger r act) h e = absurd e
-unchecked kept c (ToMark r j) h e = absurd e
-unchecked kept c (ToStop r) h e = absurd e
+unchecked kept c (ToTrigger r act) h e = h
+unchecked kept c (ToMark r j) h e = h
+unchecked kept c (ToStop r) h e = h
 unchecked kept c (ToHold a state) h e = absurd e
 unchecked kept c (ToPassFully a j) h e = absurd e
-unchecked kept c (ToIssue j) h e = absurd e
-unchecked kept c (ToEnd ticket end) h e = absurd e
+unchecked kept c (ToIssue j) h e = h
+unchecked kept c (ToEnd ticket end) h e = h
 unchecked kept c (ToReport b a j report) h e = absurd e
 unchecked kept c ToNobody h e = h
 

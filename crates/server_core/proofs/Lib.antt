@@ -45,6 +45,7 @@ pub mod BodyParts
 pub mod FollowLemmas
 pub mod RefusedLemmas
 pub mod ServeLemmas
+pub mod WriteLemmas
 pub mod StartedLemmas
 pub mod RestartLemmas
 pub mod LookLemmas

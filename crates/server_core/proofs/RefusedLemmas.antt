@@ -21,10 +21,11 @@ use Rattle.server_core.specs.KeptCheck.{CheckKept, check_kept, job_progress, rea
 use Rattle.server_core.specs.Stands.{MachineIs, WorkIs, OpenIs}
 use Rattle.server_core.specs.WordsAfter.{words_after}
 use Rattle.server_core.proofs.RowLemmas.{and_then, or_none, idle}
-use Rattle.server_core.proofs.EndLemmas.{other_job, unmarked, end_of_other_boot, check_of_other_boot}
+use Rattle.server_core.proofs.EndLemmas.{other_job, unmarked, end_of_other_boot}
 use Rattle.server_core.proofs.CheckedLemmas as checks
 use Rattle.server_core.proofs.CheckedLemmas.{kept_at, ready_is, unready}
-use Rattle.server_core.proofs.IdleLemmas.{work_elsewhere, check_elsewhere}
+use Rattle.server_core.proofs.IdleLemmas.{work_elsewhere}
+use Rattle.server_core.proofs.UndueLemmas.{of_run}
 
 -- ---- a ticket that names no open write
 
@@ -109,22 +110,10 @@ not_both true true fault e = cc
 
 pub refused_stays : (machine : Machine) (now : Now) (x : Request) (fault : Fault) → MachineIs machine now → refusal_of now x ≡ Some fault
     → MachineIs machine (words_after now x)
-refused_stays machine now ToNobody fault h e = record {
-  me = h.me;
-  boot_is = h.boot_is;
-  last_is = h.last_is;
-  staged_is = h.staged_is;
-  run_is = work_elsewhere now.server now.boot machine.run now.run ToNobody h.run_is tt;
-  check_is = check_elsewhere now.server now.boot machine.check now.check ToNobody h.check_is tt;
-}
-refused_stays machine now (ToEnd ticket end) fault h e = record {
-  me = h.me;
-  boot_is = h.boot_is;
-  last_is = h.last_is;
-  staged_is = h.staged_is;
-  run_is = end_stays now machine.run ticket end fault (ticket.boot == now.boot) (names_open now.run ticket) refl refl h.run_is e;
-  check_is = check_of_other_boot now.server now.boot machine.check now.check ticket end h.check_is;
-}
+refused_stays machine now ToNobody fault h e =
+    of_run machine now ToNobody machine.run h refl tt (work_elsewhere now.server now.boot machine.run now.run ToNobody h.run_is tt)
+refused_stays machine now (ToEnd ticket end) fault h e = of_run machine now (ToEnd ticket end) machine.run h refl tt
+    (end_stays now machine.run ticket end fault (ticket.boot == now.boot) (names_open now.run ticket) refl refl h.run_is e)
 refused_stays machine now (ToReport b a j r) fault h e = record {
   me = h.me;
   boot_is = h.boot_is;

@@ -66,7 +66,7 @@ pub stands : (origin : Origin) (stopped : Bool) (h : List window.Event) (old : R
     → StandsFor old h
 stands origin stopped h old is legal = subst (λ r. StandsFor r h) (sym is) (record { legal = legal; running_is = refl })
 
-no_marks : (b : Option Halt) (run i : ℕ) → marks_by b run (ToIssue i) ≡ []
+pub no_marks : (b : Option Halt) (run i : ℕ) → marks_by b run (ToIssue i) ≡ []
 no_marks (Some (Triggered act before)) run i = refl
 no_marks (Some Stopped) run i = refl
 no_marks None run i = refl

@@ -29,7 +29,7 @@ use Rattle.server_core.specs.WordsAfter.{IsDueFor, words_after}
 use Rattle.server_core.specs.Bounds.{AreShort, FramesAreShort}
 use Rattle.server_core.specs.Laws.{PacketsAreInRange}
 use Rattle.server_core.specs.Ranges.{IsInRange, OpensInRange, CameInRange}
-use Rattle.server_core.specs.Serves.{StandsFor, steps, answered_entry}
+use Rattle.server_core.specs.Ends.{StandsFor, steps, answered_entry}
 use Rattle.server_core.proofs.WorkLemmas.{unsaved}
 use Rattle.server_core.proofs.Looked.{looked_on}
 use Rattle.server_core.proofs.FollowLemmas.{follows}
@@ -40,20 +40,20 @@ is_up true e = refl
 is_up false e = cc
 
 -- What a server that is on keeps is kept of the words behind its list.
-pub keeps_now : {T : Type 0} (note : T → Note) (server : PacketServer T) (o : Opening) (past : List Entry) → server.down ≡ false → StandsFor note server o past
+pub keeps_now : {T : Type 0} (note : T → Note) (server : PacketServer T) (o : Opening) (past : List Entry) → server.durable.down ≡ false → StandsFor note server o past
     → (is_on past ≡ true) × MachineIs server.machine (now o past)
 keeps_now note server o past up s =
     let on = is_up (is_on past) (sym up ∙ s.on) in
     (on, subst (λ p. MachineIs server.machine (now o p)) (looked_on past on) s.keeps)
 
 -- It stands for the list with an event that made no save, where it keeps what is kept of the words behind it.
-pub stands_with : {T : Type 0} (note : T → Note) (server : PacketServer T) (m : Machine) (o : Opening) (past : List Entry) (e : Event) → server.down ≡ false
+pub stands_with : {T : Type 0} (note : T → Note) (server : PacketServer T) (m : Machine) (o : Opening) (past : List Entry) (e : Event) → server.durable.down ≡ false
     → StandsFor note server o past → is_on past ≡ true → due o past e ≡ None
     → MachineIs m (words_after (now o past) (request_of o.me e))
-    → StandsFor note (record { notes = server.notes; down = server.down; machine = m }) o (Met e NoSave ∷ past)
+    → StandsFor note (record { durable = server.durable; machine = m }) o (Met e NoSave ∷ past)
 stands_with note server m o past e up s on none k = record {
   on = up ∙ sym (ap (λ b. not (b && true)) on);
-  durable = subst (λ n. Says (note server.notes).bytes (record { boot = boot o past; last_run = n }))
+  durable = subst (λ n. Says (note server.durable.notes).bytes (record { boot = boot o past; last_run = n }))
       (sym (unsaved (due o past e) (last_run o past))) s.durable;
   keeps = subst (λ p. MachineIs m (now o p)) (sym (ap (λ b. if b then Met e NoSave ∷ past else shown_entries past) on))
       (subst (λ n. MachineIs m n) (sym (follows o past e on none)) k);
@@ -105,9 +105,9 @@ sendable frames ranges o past e h = record {
 -- ---- an event that is not due to record a run
 
 ends : {T : Type 0} (note : T → Note) (server : PacketServer T) (m : Machine) (o : Opening) (past : List Entry) (e : Event) (result : Result Outs Fault)
-    → server.down ≡ false → StandsFor note server o past → is_on past ≡ true → MachineIs server.machine (now o past)
+    → server.durable.down ≡ false → StandsFor note server o past → is_on past ≡ true → MachineIs server.machine (now o past)
     → due o past e ≡ None → IsSendable o past e → Handled (now o past) (request_of o.me e) server.machine m result
-    → Ends (steps note o) past e server (record { notes = server.notes; down = server.down; machine = m }) result
+    → Ends (steps note o) past e server (record { durable = server.durable; machine = m }) result
 ends note server m o past e (Ok outs) up s on k none can a =
     let free : refusal o past e ≡ None = ap (λ b. if b then refusal_of (now o past) (request_of o.me e) else Some Down) on ∙ a.free in
     let frames : outs.frames ≡ flat_map spelled_frames (packets o past (answered_entry o past e)) =
@@ -122,21 +122,21 @@ ends note server m o past e (Ok outs) up s on k none can a =
         short = λ i h. subst AreShort (sym frames) (can.short i h);
         ranges = can.ranges;
       };
-      leaves = subst (λ d. LeavesNote d (spelling (words_noted o (answered_entry o past e ∷ past))) (note server.notes) (note server.notes)) (sym none) refl;
-      stands = subst (λ d. StandsFor note (record { notes = server.notes; down = server.down; machine = m }) o (Met e (saved_for d) ∷ past)) (sym none)
+      leaves = subst (λ d. LeavesNote d (spelling (words_noted o (answered_entry o past e ∷ past))) (note server.durable.notes) (note server.durable.notes)) (sym none) refl;
+      stands = subst (λ d. StandsFor note (record { durable = server.durable; machine = m }) o (Met e (saved_for d) ∷ past)) (sym none)
           (stands_with note server m o past e up s on none a.left);
     }
 ends note server m o past e (Err fault) up s on k none can u = by_why u.why
   where
-    unchanged : StandsFor note (record { notes = server.notes; down = server.down; machine = m }) o past
+    unchanged : StandsFor note (record { durable = server.durable; machine = m }) o past
     unchanged = record { on = s.on; durable = s.durable; keeps = subst (λ x. MachineIs x (now o (shown_entries past))) (sym u.same) s.keeps }
 
     by_why : (fault ≡ NoMemory) ⊎ (refusal_of (now o past) (request_of o.me e) ≡ Some fault)
-        → Faults (steps note o) past e (sort_of fault) fault server (record { notes = server.notes; down = server.down; machine = m })
-    by_why (inl w) = subst (λ t. Faults (steps note o) past e t fault server (record { notes = server.notes; down = server.down; machine = m }))
+        → Faults (steps note o) past e (sort_of fault) fault server (record { durable = server.durable; machine = m })
+    by_why (inl w) = subst (λ t. Faults (steps note o) past e t fault server (record { durable = server.durable; machine = m }))
         (sym (ap sort_of w)) (record { why = w; same_note = refl; unchanged = unchanged })
     by_why (inr w) =
-        subst (λ t. Faults (steps note o) past e t fault server (record { notes = server.notes; down = server.down; machine = m }))
+        subst (λ t. Faults (steps note o) past e t fault server (record { durable = server.durable; machine = m }))
         (sym (refusal_sort (now o past) (request_of o.me e) fault w))
         (record {
           why = ap (λ b. if b then refusal_of (now o past) (request_of o.me e) else Some Down) on ∙ w;
@@ -147,11 +147,11 @@ ends note server m o past e (Err fault) up s on k none can u = by_why u.why
         })
 
 pub taken : {T : Type 0} (note : T → Note) (server : PacketServer T) (m : Machine) (o : Opening) (past : List Entry) (e : Event) (result : Result Outs Fault)
-    → server.down ≡ false → StandsFor note server o past
+    → server.durable.down ≡ false → StandsFor note server o past
     → EachNow server.machine (λ words. IsDueFor words (request_of server.machine.me e) None)
     → EachUndue server.machine (request_of server.machine.me e) (λ words. Handled words (request_of server.machine.me e) server.machine m result)
     → ((o : Opening) (past : List Entry) → IsSendable o past e)
-    → Ends (steps note o) past e server (record { notes = server.notes; down = server.down; machine = m }) result
+    → Ends (steps note o) past e server (record { durable = server.durable; machine = m }) result
 taken note server m o past e result up s undue handled can =
     let k = keeps_now note server o past up s in
     let me = k.1.me in
@@ -168,7 +168,7 @@ is_due_at words x None d = ap is_some (sym d)
 is_due_at words x (Some r) d = sym d.1
 
 pub saves_where_due : {T : Type 0} (note : T → Note) (server : PacketServer T) (o : Opening) (past : List Entry) (e : Event) (run : Option ℕ)
-    → server.down ≡ false → StandsFor note server o past
+    → server.durable.down ≡ false → StandsFor note server o past
     → EachNow server.machine (λ words. IsDueFor words (request_of server.machine.me e) run) → is_some run ≡ is_some (due o past e)
 saves_where_due note server o past e run up s d =
     let k = keeps_now note server o past up s in

@@ -19,7 +19,7 @@ use Rattle.server_core.specs.declared.event.Event.{Event}
 use Rattle.server_core.specs.declared.outs.Outs.{Outs}
 use Rattle.server_core.specs.declared.packet_server.PacketServer.{PacketServer}
 use Rattle.server_core.specs.History.{Opening, Entry, Met}
-use Rattle.server_core.specs.declared.note.Noted.{Noted}
+use Rattle.server_core.specs.declared.note.ServerNote.{ServerNote}
 use Rattle.server_core.specs.Note.{Says, spelling}
 use Rattle.server_core.specs.Request.{ToStart, request_of}
 use Rattle.server_core.specs.Run.{Work}
@@ -30,7 +30,7 @@ use Rattle.server_core.specs.Framed.{frames_to_client}
 use Rattle.server_core.specs.Stands.{MachineIs, EachNow}
 use Rattle.server_core.specs.WordsAfter.{IsDueFor}
 use Rattle.server_core.specs.Bounds.{AreShort}
-use Rattle.server_core.specs.Serves.{StandsFor, steps, Starts, Unstarted, answered_entry}
+use Rattle.server_core.specs.Ends.{StandsFor, steps, Starts, Unstarted, answered_entry}
 use Rattle.server_core.proofs.Due.{rests}
 use Rattle.server_core.proofs.FollowLemmas.{starts_follow}
 use Rattle.server_core.proofs.UndueLemmas.{no_act}
@@ -55,7 +55,7 @@ record IsStart (o : Opening) (past : List Entry) (e : Event) (run : ℕ) (s : St
 free_of : (o : Opening) (past : List Entry) (e : Event) (run : ℕ) (s : Staged) → IsStart o past e run s → refusal o past e ≡ None
 free_of o past e run s d = ap (λ b. if b then refusal_of (now o past) (request_of o.me e) else Some Down) d.on ∙ ap (refusal_of (now o past)) d.asks
 
-abbrev noted_as : ℕ → ℕ → Noted
+abbrev noted_as : ℕ → ℕ → ServerNote
 noted_as b run = record { boot = b; last_run = run }
 
 -- The durable bytes say the boot and a run that was recorded.
@@ -79,15 +79,15 @@ to_note o past e run s mine left new same d =
     by_left NoSave h = cc
 
 begun : {T : Type 0} (note : T → Note) (old new : PacketServer T) (o : Opening) (past : List Entry) (e : Event) (run : ℕ) (s : Staged) (outs : Outs)
-    → old.down ≡ false → StandsFor note old o past → MachineIs old.machine (now o past) → run < 2 ^ 64 → IsStart o past e run s
+    → old.durable.down ≡ false → StandsFor note old o past → MachineIs old.machine (now o past) → run < 2 ^ 64 → IsStart o past e run s
     → IsSendable o past e → Starts note run old new (Ok outs) → Answers (steps note o) past e old new outs
 begun note old new o past e run s outs up stands k fits d can p =
     let q = p.2 (now o past) s k d.words in
     let free = free_of o past e run s d in
     let last : last_run o (Met e Saved ∷ past) ≡ run = ap (λ x. last_run_after Saved x (last_run o past)) d.is ∙ d.run_is in
-    let bytes : (note new.notes).bytes ≡ spelling (record { boot = old.machine.boot; last_run = run }) = ap (λ (n : Note). n.bytes) p.0 in
-    let says = new_says (note old.notes).bytes (boot o past) old.machine.boot (last_run o past) run stands.durable k.boot_is fits
-    (note new.notes).bytes bytes in
+    let bytes : (note new.durable.notes).bytes ≡ spelling (record { boot = old.machine.boot; last_run = run }) = ap (λ (n : Note). n.bytes) p.0 in
+    let says = new_says (note old.durable.notes).bytes (boot o past) old.machine.boot (last_run o past) run stands.durable k.boot_is fits
+    (note new.durable.notes).bytes bytes in
     let frames : outs.frames ≡ flat_map spelled_frames (packets o past (answered_entry o past e)) =
     ap (λ (x : Outs). x.frames) q.0 ∙ ap (λ x. frames_to_client o.me (replies (now o past) x)) (sym d.asks)
     ∙ ap (λ r. flat_map spelled_frames (to_client o.me (sent_by false r (replies (now o past) (request_of o.me e))))) (sym free)
@@ -101,19 +101,19 @@ begun note old new o past e run s outs up stands k fits d can p =
         short = λ i h. subst AreShort (sym frames) (can.short i h);
         ranges = can.ranges;
       };
-      leaves = subst (λ x. LeavesNote x (spelling (words_noted o (Met e (saved_for x) ∷ past))) (note old.notes) (note new.notes)) (sym d.is)
-          (p.0 ∙ ap (λ n. record (note old.notes) { bytes = spelling n }) (to_note o past e run s old.machine.boot Saved refl k.boot_is d));
+      leaves = subst (λ x. LeavesNote x (spelling (words_noted o (Met e (saved_for x) ∷ past))) (note old.durable.notes) (note new.durable.notes)) (sym d.is)
+          (p.0 ∙ ap (λ n. record (note old.durable.notes) { bytes = spelling n }) (to_note o past e run s old.machine.boot Saved refl k.boot_is d));
       stands = subst (λ x. StandsFor note new o (Met e (saved_for x) ∷ past)) (sym d.is)
           (record {
             on = p.1 ∙ up ∙ sym (ap (λ b. not (b && true)) d.on);
-            durable = subst (λ n. Says (note new.notes).bytes (record { boot = boot o past; last_run = n })) (sym last) says;
+            durable = subst (λ n. Says (note new.durable.notes).bytes (record { boot = boot o past; last_run = n })) (sym last) says;
             keeps = subst (λ l. MachineIs new.machine (now o l)) (sym (ap (λ b. if b then Met e Saved ∷ past else shown_entries past) d.on))
                 (subst (λ n. MachineIs new.machine n) (sym (starts_follow o past e s d.is)) q.1);
           });
     }
 
 unbegun : {T : Type 0} (note : T → Note) (old new : PacketServer T) (o : Opening) (past : List Entry) (e : Event) (run : ℕ) (s : Staged) (t : FaultSort)
-    (fault : Fault) → old.down ≡ false → StandsFor note old o past → MachineIs old.machine (now o past) → run < 2 ^ 64 → IsStart o past e run s
+    (fault : Fault) → old.durable.down ≡ false → StandsFor note old o past → MachineIs old.machine (now o past) → run < 2 ^ 64 → IsStart o past e run s
     → Unstarted note run t fault old new → Faults (steps note o) past e t fault old new
 unbegun note old new o past e run s sorts.Memory fault up stands k fits d u = record {
   why = u.0;
@@ -127,7 +127,7 @@ unbegun note old new o past e run s sorts.Memory fault up stands k fits d u = re
 unbegun note old new o past e run s sorts.Refusal fault up stands k fits d u = absurd u
 unbegun note old new o past e run s sorts.Save fault up stands k fits d u = by_bytes u.1
   where
-    by_bytes : ((note new.notes).bytes ≡ (note old.notes).bytes) ⊎ ((note new.notes).bytes ≡ spelling (record { boot = old.machine.boot; last_run = run }))
+    by_bytes : ((note new.durable.notes).bytes ≡ (note old.durable.notes).bytes) ⊎ ((note new.durable.notes).bytes ≡ spelling (record { boot = old.machine.boot; last_run = run }))
         → Fails (steps note o) past e old new
     by_bytes (inl same) = record {
       cause = u.0;
@@ -139,7 +139,7 @@ unbegun note old new o past e run s sorts.Save fault up stands k fits d u = by_b
       bytes_are = same;
       stands = record {
         on = u.2 ∙ sym (ap (λ b. not (b && false)) d.on);
-        durable = subst (λ n. Says (note new.notes).bytes (record { boot = boot o past; last_run = n }))
+        durable = subst (λ n. Says (note new.durable.notes).bytes (record { boot = boot o past; last_run = n }))
             (sym (ap (λ x. last_run_after LostOld x (last_run o past)) d.is))
             (subst (λ bs. Says bs (record { boot = boot o past; last_run = last_run o past })) (sym same) stands.durable);
         keeps = subst (λ l. MachineIs new.machine (now o l)) (sym (ap (λ b. if b then past else shown_entries past) d.on))
@@ -156,23 +156,23 @@ unbegun note old new o past e run s sorts.Save fault up stands k fits d u = by_b
       bytes_are = new_bytes ∙ ap spelling (to_note o past e run s old.machine.boot LostNew refl k.boot_is d);
       stands = record {
         on = u.2 ∙ sym (ap (λ b. not (b && false)) d.on);
-        durable = subst (λ n. Says (note new.notes).bytes (record { boot = boot o past; last_run = n }))
+        durable = subst (λ n. Says (note new.durable.notes).bytes (record { boot = boot o past; last_run = n }))
             (sym (ap (λ x. last_run_after LostNew x (last_run o past)) d.is ∙ d.run_is))
-            (new_says (note old.notes).bytes (boot o past) old.machine.boot (last_run o past) run stands.durable k.boot_is fits
-            (note new.notes).bytes new_bytes);
+            (new_says (note old.durable.notes).bytes (boot o past) old.machine.boot (last_run o past) run stands.durable k.boot_is fits
+            (note new.durable.notes).bytes new_bytes);
         keeps = subst (λ l. MachineIs new.machine (now o l)) (sym (ap (λ b. if b then past else shown_entries past) d.on))
             (subst (λ m. MachineIs m (now o past)) (sym u.3) k);
       };
     }
 
 ends : {T : Type 0} (note : T → Note) (old new : PacketServer T) (o : Opening) (past : List Entry) (e : Event) (run : ℕ) (s : Staged)
-    (result : Result Outs Fault) → old.down ≡ false → StandsFor note old o past → MachineIs old.machine (now o past) → run < 2 ^ 64 → IsStart o past e run s
+    (result : Result Outs Fault) → old.durable.down ≡ false → StandsFor note old o past → MachineIs old.machine (now o past) → run < 2 ^ 64 → IsStart o past e run s
     → IsSendable o past e → Starts note run old new result → Ends (steps note o) past e old new result
 ends note old new o past e run s (Ok outs) up stands k fits d can p = begun note old new o past e run s outs up stands k fits d can p
 ends note old new o past e run s (Err fault) up stands k fits d can u = unbegun note old new o past e run s (sort_of fault) fault up stands k fits d u
 
 pub started : {T : Type 0} (note : T → Note) (old new : PacketServer T) (o : Opening) (past : List Entry) (e : Event) (run : ℕ) (result : Result Outs Fault)
-    → old.down ≡ false → StandsFor note old o past → is_run run ≡ true
+    → old.durable.down ≡ false → StandsFor note old o past → is_run run ≡ true
     → EachNow old.machine (λ words. IsDueFor words (request_of old.machine.me e) (Some run)) → Starts note run old new result → IsSendable o past e
     → Ends (steps note o) past e old new result
 started note old new o past e run result up stands range is p can =

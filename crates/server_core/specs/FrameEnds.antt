@@ -9,20 +9,20 @@ use Rattle.messages.specs.Senses.{is_drop}
 use Rattle.server_core.specs.declared.input.Input.{Input}
 use Rattle.server_core.specs.declared.outs.Outs.{Outs}
 use Rattle.server_core.specs.declared.server.Server.{Server}
-use Rattle.server_core.specs.declared.note.Noted.{Noted}
+use Rattle.server_core.specs.declared.note.ServerNote.{ServerNote}
 use Rattle.server_core.specs.History.{Opening}
 use Rattle.server_core.specs.Note.{Says, spelling}
 use Rattle.server_core.specs.Words as words
 use Rattle.server_core.specs.Words.{Staged}
 use Rattle.server_core.specs.Bounds.{AreShort}
 use Rattle.server_core.specs.Ranges.{OpensInRange, CameInRange}
-use Rattle.server_core.specs.Serves as whole
+use Rattle.server_core.specs.Ends as whole
 use Rattle.server_core.specs.Hearing.{FrameEntry, Met, Restart, packets_heard, assembly}
 use Rattle.server_core.specs.FrameAnswers.{sense, frames, refusal, due, issue, act, answered_entry}
 
 -- What a server's note says, by what is said of its notes.
 abbrev pub note_in : {T : Type 0} → (T → Note) → Server T → Note
-note_in note server = note server.core.notes
+note_in note server = note server.core.durable.notes
 
 -- A server stands for a list of frames where its core stands for the packets that are heard in it,
 -- and, while it is on, keeps what has come together of pieces.
@@ -58,7 +58,7 @@ steps note o = record {
 -- something, so there is such a list: the empty one. Now it has the next boot.
 pub record Restarts {T : Type 0} (note : T → Note) (me : ℕ) (notes : T)
     (server : Server T) : Type 0 where
-  pub said : Noted
+  pub said : ServerNote
   pub says : Says (note notes).bytes said
   pub leaves : note_in note server
       ≡ record (note notes) { bytes = spelling (record said { boot = said.boot + 1 }) }

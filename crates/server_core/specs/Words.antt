@@ -4,7 +4,7 @@ use Rattle.std.specs.Prelude.{ℕ, ◌+◌, ◌^◌, Bool, false, not, ◌&&◌,
 use Rattle.job_file.specs.declared.job.Job.{Job}
 use Rattle.job_file.specs.declared.job.Phase.TheVariants.{Write}
 use Rattle.server_core.specs.declared.event.Event.{Event}
-use Rattle.server_core.specs.declared.note.Noted.{Noted}
+use Rattle.server_core.specs.declared.note.ServerNote.{ServerNote}
 use Rattle.disk_model.specs.declared.left.Left.{Left}
 use Rattle.disk_model.specs.declared.left.Left.TheVariants.{NoSave, Saved, LostNew, LostOld}
 use Rattle.disk_model.specs.Left.{has_new, is_lost, is_saved}
@@ -129,7 +129,7 @@ abbrev mutual
   work o (Restart left ∷ past) = None
 
 -- What the note says: the boot and the last run.
-abbrev pub words_noted : Opening → List Entry → Noted
+abbrev pub words_noted : Opening → List Entry → ServerNote
 words_noted o past = record { boot = boot o past; last_run = last_run o past }
 
 -- The staged run: the greatest above the last run.

@@ -1,14 +1,10 @@
 //! A job of the present run.
 
-ghost use Rattle.std.specs.Prelude.{◌≡◌, None, false, OnErr};
-ghost use Rattle.engine.specs.Running.{EachHistory, StandsFor};
-ghost use Rattle.engine.specs.Answers.{ticket_answer};
-ghost use Rattle.server_core.specs.Run.{with_ticket};
+ghost use Rattle.std.specs.Prelude.{◌≡◌, None, false};
 ghost use Rattle.server_core.specs.Kept.{state_kept, taken_kept, stopped_kept};
 
-use crate::event::WriteEnd;
 use engine::{Engine, Ticket};
-use fc_base::{Fault, JobNo};
+use fc_base::JobNo;
 use messages::Act;
 use verify_state::VerifyState;
 
@@ -54,23 +50,6 @@ impl JobRun {
             Some(state) => Some(state),
             None if self.save => Some(self.engine.take()),
             None => None,
-        }
-    }
-
-    /// Notes how a write ended, where the ticket names an open write of the job.
-    pub(crate) fn end(&mut self, ticket: Ticket, end: WriteEnd) -> Result<(), Fault>
-        ensures answer { result
-            ≡ ticket_answer self.old.engine.origin self.old.engine.kept.open_writes ticket }
-        ensures history { EachHistory self.old.engine
-            (λ h. StandsFor self.new.engine (with_ticket result end ticket.seq h)) }
-        ensures origin { self.new.engine.origin ≡ self.old.engine.origin }
-        ensures stopped { self.new.engine.stopped ≡ self.old.engine.stopped }
-        ensures rest { self.new ≡ record self.old { engine = self.new.engine } }
-        ensures same { OnErr result (self.new ≡ self.old) }
-    {
-        match end {
-            WriteEnd::Done => self.engine.done(ticket),
-            WriteEnd::Failed => self.engine.failed(ticket),
         }
     }
 

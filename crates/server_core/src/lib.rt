@@ -32,7 +32,6 @@ mod server;
 mod staged;
 mod status;
 mod texts;
-mod work;
 
 pub use check_law::open_check_is_last;
 pub use event::{Event, WriteEnd};
@@ -42,7 +41,7 @@ pub use law::{
     legal_histories, looks_at_all, numbers_grow, one_taking, packets_are_in_range, quiet,
     refused_stays, starts, the_taken, the_untaken, with_was_heard, words_follow,
 };
-pub use note::{Noted, one_note};
+pub use note::{ServerNote, one_note};
 pub use open_law::tickets_tell_origins;
 pub use outs::Outs;
 pub use progress::Progress;

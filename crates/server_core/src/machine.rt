@@ -18,7 +18,6 @@ use crate::open_check::OpenCheck;
 use crate::replies::only;
 use crate::run::Run;
 use crate::staged::StagedSet;
-use crate::work;
 use engine::{Issue, Ticket};
 use fc_base::{Attempt, Fault, JobNo, RunNo, ServerNo};
 use messages::{Act, Asked, Body, Frames, Reason, Refusal};
@@ -39,6 +38,7 @@ pub(crate) struct Machine {
 
 impl Machine {
     ghost use Rattle.server_core.specs.Request.{ToIssue, ToEnd, ToTrigger, ToMark, ToStop};
+    ghost use Rattle.server_core.specs.Run.{is_open, is_unended};
     ghost use Rattle.server_core.specs.Answers.{issue_of, act_of, refusal_of};
     ghost use Rattle.server_core.specs.Replies.{replies, refuse, gone_or_unknown};
     ghost use Rattle.server_core.specs.Framed.{frames_to_client};
@@ -70,7 +70,10 @@ impl Machine {
         ensures left { EachNow self.old
             (λ now. MachineIs self.new (words_after now (ToIssue job))) }
     {
-        work::issue(&mut self.run, job)
+        match &mut self.run {
+            Some(run) => run.issue(job),
+            None => Issue::Stopped,
+        }
     }
 
     /// Notes how a write ended. A ticket of another boot is refused, and then one that names no open
@@ -86,9 +89,9 @@ impl Machine {
         if ticket.boot != self.boot {
             return Err(Fault::OldBoot);
         }
-        match work::end_write(&mut self.run, ticket, end) {
-            Ok(()) => Ok(()),
-            Err(_) => Err(Fault::NotInFlight),
+        match &mut self.run {
+            Some(run) => run.end_write(ticket, end),
+            None => Err(Fault::NotInFlight),
         }
     }
 
@@ -104,8 +107,13 @@ impl Machine {
         ensures same { OnErr result (self.new ≡ self.old) }
     {
         let frames = self.trigger_frames(run)?;
-        work::trigger(&mut self.run, run, act);
-        Ok(frames)
+        match &mut self.run {
+            Some(now) if now.is_writing(run) => {
+                now.take(act);
+                Ok(frames)
+            }
+            _ => Ok(frames),
+        }
     }
 
     /// Stops this run, where it is the present one and writes. Where memory runs out nothing changes.
@@ -117,12 +125,14 @@ impl Machine {
             (λ now. IfOk result (λ frames. MachineIs self.new (words_after now (ToStop run)))) }
         ensures same { OnErr result (self.new ≡ self.old) }
     {
-        let frames = match &self.run {
-            Some(now) if now.is(run) => only(self.alloc, self.me, Body::Stopped { run })?,
-            _ => self.gone_or_unknown(Asked::Stop, run)?,
-        };
-        work::stop(&mut self.run, run);
-        Ok(frames)
+        let frames = self.stop_frames(run)?;
+        match &mut self.run {
+            Some(now) if now.is_writing(run) => {
+                now.stop();
+                Ok(frames)
+            }
+            _ => Ok(frames),
+        }
     }
 
     /// Marks a job of this run, where it is the present one and was taken. The mark of the last job
@@ -132,7 +142,10 @@ impl Machine {
         ensures left { EachNow self.old
             (λ now. MachineIs self.new (words_after now (ToMark run job))) }
     {
-        work::mark(&mut self.run, run, job)
+        match &mut self.run {
+            Some(now) if now.is(run) => now.mark(job),
+            _ => Act::None,
+        }
     }
 
     /// What is sent in answer to a Trigger.
@@ -152,6 +165,38 @@ impl Machine {
                 Some(End::Taken(_)) | None => now.state_frames(self.alloc, self.me),
             },
             _ => self.gone_or_unknown(Asked::Trigger, run),
+        }
+    }
+
+    /// What is sent in answer to a Stop.
+    fn stop_frames(&self, run: RunNo) -> Result<Frames, AllocError>
+        requires { IsTrue (is_run run) }
+        ensures { EachNow self.now (λ now. IfOk result
+            (λ frames. frames ≡ frames_to_client now.server (replies now (ToStop run)))) }
+    {
+        match &self.run {
+            Some(now) if now.is(run) => only(self.alloc, self.me, Body::Stopped { run }),
+            _ => self.gone_or_unknown(Asked::Stop, run),
+        }
+    }
+
+    /// Whether some write of the present run is open.
+    fn is_open(&self) -> bool
+        ensures { EachNow self.now (λ now. result ≡ is_open now.run) }
+    {
+        match &self.run {
+            Some(run) => run.has_open(),
+            None => false,
+        }
+    }
+
+    /// Whether the present run writes, and a job of it has yet to end.
+    fn is_unended(&self) -> bool
+        ensures { EachNow self.now (λ now. result ≡ is_unended now.run) }
+    {
+        match &self.run {
+            Some(run) => run.end().is_none() && !run.have_ended(),
+            None => false,
         }
     }
 

@@ -13,14 +13,14 @@ const LENGTH: usize = 20;
 
 /// What a server's note says. A blank note says 0 and 0.
 #[derive(Clone, Copy, Debug, PartialEq, Eq)]
-pub struct Noted {
+pub struct ServerNote {
     /// How often the server was restarted.
     pub boot: u64,
     /// The greatest run that was started.
     pub last_run: RunNo,
 }
 
-impl Noted {
+impl ServerNote {
     /// The bytes of the note. They take no memory.
     pub fn encode(self) -> [u8; LENGTH]
         ensures { result ≡ spelling self }
@@ -33,11 +33,11 @@ impl Noted {
     }
 
     /// What these bytes say, `None` where they are no note. No bytes at all are a blank note.
-    pub fn decode(bytes: &[u8]) -> Option<Noted>
+    pub fn decode(bytes: &[u8]) -> Option<ServerNote>
         ensures { Reads bytes.now result }
     {
         if bytes.is_empty() {
-            return Some(Noted {
+            return Some(ServerNote {
                 boot: 0,
                 last_run: RunNo(0),
             });
@@ -48,7 +48,7 @@ impl Noted {
         }
         let (boot, rest) = split_u64(numbers);
         let (last_run, _) = split_u64(rest);
-        Some(Noted {
+        Some(ServerNote {
             boot,
             last_run: RunNo(last_run),
         })

@@ -47,6 +47,7 @@ impl Run {
     ghost use Rattle.server_core.specs.OpenWrites.{open_ticket};
     ghost use Rattle.server_core.specs.Request.{Request, ToIssue, ToEnd, ToTrigger, ToMark, ToStop};
     ghost use Rattle.server_core.specs.Kept.{RunIs, EachRun, GoesOn, open_answer, IsBegun, EachBegun};
+    ghost use Rattle.server_core.specs.Memory.{TakesNone};
 
     /// A run that begins: what is kept of its jobs is that of some run with no request yet.
     pub(crate) fn new(number: RunNo, jobs: Jobs, kept: Vec<JobRun>) -> Run
@@ -156,11 +157,15 @@ impl Run {
             result ≡ open_answer (names_open_of w ticket (slice_get w.jobs ticket.key.job))) }
         ensures left { GoesOn self.old self.new (ToEnd ticket end) }
         ensures same { OnErr result (self.new ≡ self.old) }
+        ensures memory { TakesNone result }
     {
         crate::law::legal_histories();
         let index = index_in(&ticket);
         if index < self.kept.as_slice().len() {
-            self.kept[index].end(ticket, end)
+            match end {
+                WriteEnd::Done => self.kept[index].engine.done(ticket),
+                WriteEnd::Failed => self.kept[index].engine.failed(ticket),
+            }
         } else {
             Err(Fault::NotInFlight)
         }

@@ -1,25 +1,23 @@
 //! A server over its durable note.
 
 ghost use Rattle.std.specs.Prelude.{◌≡◌, ◌<◌, false, List, Some, None, OnErr};
-ghost use Rattle.std.specs.Option.{option_copied, option_map};
 ghost use Rattle.fc_base.specs.declared.limits.TheConstants.{MAX_SERVERS};
 ghost use Rattle.messages.specs.declared.frame.Frame.TheVariants.{Piece as OfPiece};
 ghost use Rattle.server_core.specs.declared.input.Input.TheVariants.{Deliver, Issue as ToIssue, WriteDone as ToEnd, CheckDone as ToReport};
 ghost use Rattle.server_core.specs.Hearing.{is_piece_for};
 
+mod look;
+
 use crate::event::{Event, WriteEnd};
 use crate::input::Input;
+use crate::law::{frames_are_short, packets_are_in_range};
 use crate::outs::Outs;
 use crate::packet_server::PacketServer;
-use crate::progress::Progress;
-use crate::status::Status;
 use disk_model::Notes;
 use engine::{Issue, Ticket};
-use fc_base::{Attempt, CheckReport, Fault, JobNo, Seq, ServerNo};
-use job_file::Job;
+use fc_base::{Attempt, CheckReport, Fault, JobNo, ServerNo};
 use messages::{Assembly, Frame, Frames, Piece};
 use std::alloc::Global;
-use verify_state::VerifyState;
 
 /// A server.
 #[derive(Drop)]
@@ -32,12 +30,7 @@ pub struct Server<N> {
 impl<N: Notes> Server<N> {
     ghost use Rattle.server_core.specs.History.{Opening};
     ghost use Rattle.server_core.specs.Note.{Says};
-    ghost use Rattle.server_core.specs.Words.{is_on, words_noted};
-    ghost use Rattle.server_core.specs.Answers.{shown_entries, status, run_job, check_job};
-    ghost use Rattle.server_core.specs.Check.{progress};
-    ghost use Rattle.server_core.specs.KeptCheck.{progress_of};
-    ghost use Rattle.server_core.specs.Taken.{state_taken};
-    ghost use Rattle.server_core.specs.OpenWrites.{open_write};
+    ghost use Rattle.server_core.specs.Words.{words_noted};
     ghost use Rattle.server_core.specs.Hearing.{FrameEntry, packets_heard};
     ghost use Rattle.server_core.specs.FrameAnswers.{sense, would_save};
     ghost use Rattle.disk_model.specs.Steps.{Ends};
@@ -76,7 +69,11 @@ impl<N: Notes> Server<N> {
             core,
             pieces: _,
         } = self;
-        core.off()
+        let PacketServer {
+            durable,
+            machine: _,
+        } = core;
+        durable.into_notes()
     }
 
     /// The note that it keeps, as it is durable. Behind a failed save it is what that left.
@@ -85,75 +82,7 @@ impl<N: Notes> Server<N> {
         ensures says { (o : Opening) (past : List FrameEntry) → StandsFor N.note self.now o past →
             Says (N.note result.now).bytes (words_noted o (packets_heard o past)) }
     {
-        self.core.notes()
-    }
-
-    /// Whether it is on: no save has failed since it was restarted.
-    pub fn on(&self) -> bool
-        ensures { (o : Opening) (past : List FrameEntry) → StandsFor N.note self.now o past →
-            result ≡ is_on (packets_heard o past) }
-    {
-        self.core.on()
-    }
-
-    /// Its number.
-    pub fn me(&self) -> ServerNo
-        ensures { (o : Opening) (past : List FrameEntry) → StandsFor N.note self.now o past →
-            result ≡ o.me }
-    {
-        self.core.me()
-    }
-
-    /// How far it is: up to a failed save, where one has failed. Its boot and its last run are those of
-    /// the note.
-    pub fn status(&self) -> Status
-        ensures { (o : Opening) (past : List FrameEntry) → StandsFor N.note self.now o past →
-            result ≡ status o (shown_entries (packets_heard o past)) }
-    {
-        self.core.status()
-    }
-
-    /// A job of the present run: of that up to a failed save, where one has failed.
-    pub fn run_job(&self, job: JobNo) -> Option<&Job>
-        ensures { (o : Opening) (past : List FrameEntry) → StandsFor N.note self.now o past →
-            option_copied result ≡ run_job o (shown_entries (packets_heard o past)) job }
-    {
-        self.core.run_job(job)
-    }
-
-    /// The state that was taken of a job of the present run: up to a failed save, where one has failed.
-    pub fn taken(&self, job: JobNo) -> Option<&VerifyState>
-        ensures { (o : Opening) (past : List FrameEntry) → StandsFor N.note self.now o past →
-            option_copied result ≡ state_taken o (shown_entries (packets_heard o past)) job }
-    {
-        self.core.taken(job)
-    }
-
-    /// The ticket of this write of a job of the present run, where it is open, issued and neither done nor
-    /// failed: up to a failed save, where one has failed.
-    pub fn open_write(&self, job: JobNo, write: Seq) -> Option<Ticket>
-        ensures { (o : Opening) (past : List FrameEntry) → StandsFor N.note self.now o past →
-            result ≡ open_write o (shown_entries (packets_heard o past)) job write }
-    {
-        self.core.open_write(job, write)
-    }
-
-    /// A job of the open check: of that up to a failed save, where one has failed.
-    pub fn check_job(&self, job: JobNo) -> Option<&Job>
-        ensures { (o : Opening) (past : List FrameEntry) → StandsFor N.note self.now o past →
-            option_copied result ≡ check_job o (shown_entries (packets_heard o past)) job }
-    {
-        self.core.check_job(job)
-    }
-
-    /// How far the check of a job is, where it is one of the open check: of that up to a failed save, where
-    /// one has failed.
-    pub fn check_progress(&self, job: JobNo) -> Option<&Progress>
-        ensures { (o : Opening) (past : List FrameEntry) → StandsFor N.note self.now o past →
-            option_map progress_of (option_copied result)
-            ≡ progress o (shown_entries (packets_heard o past)) job }
-    {
-        self.core.check_progress(job)
+        self.core.durable.notes()
     }
 
     /// Whether the delivery of this frame would make a save: it is a Start that is due to record a run. No
@@ -208,7 +137,12 @@ impl<N: Notes> Server<N> {
             HearsInRange IsInRange (sense o past (ToIssue job)) (outs_of_issue result) }
         ensures memory { TakesNone result }
     {
-        self.core.issue(job)
+        if self.core.durable.is_down() {
+            return Err(Fault::Down);
+        }
+        frames_are_short();
+        packets_are_in_range();
+        Ok(self.core.machine.issue(job))
     }
 
     /// Takes the end of a write, as `step` does.
@@ -220,7 +154,12 @@ impl<N: Notes> Server<N> {
             HearsInRange IsInRange (sense o past (ToEnd ticket end)) (outs_of_end result) }
         ensures memory { TakesNone result }
     {
-        self.core.end_write(ticket, end)
+        if self.core.durable.is_down() {
+            return Err(Fault::Down);
+        }
+        frames_are_short();
+        packets_are_in_range();
+        self.core.machine.end_write(ticket, end)
     }
 
     /// Takes what a check found.
@@ -271,10 +210,10 @@ impl<N: Notes> Server<N> {
         ensures ranges { (o : Opening) (past : List FrameEntry) → StandsFor N.note self.old o past →
             HearsInRange IsInRange (sense o past (Deliver (OfPiece piece.now))) result }
     {
-        if !self.core.on() {
+        if !self.on() {
             return Err(Fault::Down);
         }
-        if !is_piece_for(self.core.me(), piece) {
+        if !is_piece_for(self.me(), piece) {
             return Err(Fault::Misdirected);
         }
         match self.pieces.look(piece) {

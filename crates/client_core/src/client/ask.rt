@@ -1,7 +1,7 @@
 //! What a client asks of its servers, and of its mirror.
 
 ghost use Rattle.std.specs.Prelude.{◌≡◌, List, is_some};
-ghost use Rattle.disk_model.specs.Steps.{Ends, Gives};
+ghost use Rattle.disk_model.specs.Steps.{Ends, EndsWithNumber};
 ghost use Rattle.client_core.specs.declared.input.Input.TheVariants as inputs;
 ghost use Rattle.client_core.specs.History.{Opening};
 ghost use Rattle.client_core.specs.Words.{words_noted};
@@ -22,7 +22,7 @@ impl<N: Notes> Client<N> {
     /// granted in this life; `NoMemory`, and nothing changes; `SaveFault`, and the client is down.
     pub fn begin(&mut self, text: &[u8]) -> Result<(RunNo, Frames), Fault>
         ensures { (o : Opening) (past : List FrameEntry) → StandsFor N.note self.old o past →
-            Gives (steps N.note o) past (inputs.Begin text.now)
+            EndsWithNumber (steps N.note o) past (inputs.Begin text.now)
             (words_noted o (packets_heard o past)).runs self.old self.new result }
     {
         frames_are_short();
@@ -66,7 +66,7 @@ impl<N: Notes> Client<N> {
     /// nothing changes; `SaveFault`, and the client is down.
     pub fn verify(&mut self, run: RunNo, text: &[u8]) -> Result<(Attempt, Frames), Fault>
         ensures { (o : Opening) (past : List FrameEntry) → StandsFor N.note self.old o past →
-            Gives (steps N.note o) past (inputs.Verify run text.now)
+            EndsWithNumber (steps N.note o) past (inputs.Verify run text.now)
             (words_noted o (packets_heard o past)).attempts self.old self.new result }
     {
         frames_are_short();

@@ -95,7 +95,7 @@ impl<N: Notes> Client<N> {
                 sent
             }
             Ok(None) => match self.pieces.take(piece) {
-                Ok(()) => Ok(Frames::new(self.alloc)),
+                Ok(()) => Ok(Frames::new(self.core.alloc)),
                 Err(_) => Err(Fault::NoMemory),
             },
             Err(Fault::FrameBadField) => {
@@ -113,10 +113,10 @@ impl<N: Notes> Client<N> {
         ensures { (o : Opening) (past : List FrameEntry) → StandsFor N.note self.now o past →
             IsSensed o past piece.now result }
     {
-        if !self.core.on() {
+        if !self.on() {
             return Err(Fault::Down);
         }
-        if !is_piece_for(self.core.servers(), piece) {
+        if !is_piece_for(self.core.peers.servers.count(), piece) {
             return Err(Fault::Misdirected);
         }
         match self.pieces.look(piece) {

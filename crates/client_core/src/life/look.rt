@@ -1,9 +1,9 @@
 //! How the requests of this life stand.
 
-ghost use Rattle.std.specs.Prelude.{◌≡◌, ◌<◌, ◌≤◌, List, length};
+ghost use Rattle.std.specs.Prelude.{◌≡◌, ◌<◌, ◌≤◌, length};
 ghost use Rattle.fc_base.specs.declared.limits.TheConstants.{MAX_SERVERS, MAX_TEXT};
 ghost use Rattle.client_core.specs.Begins.{begin_at};
-ghost use Rattle.client_core.specs.Life.{Deed, text_of};
+ghost use Rattle.client_core.specs.Life.{text_of};
 ghost use Rattle.client_core.specs.Lives.{EachLife};
 ghost use Rattle.client_core.specs.Packets.{is_copied};
 ghost use Rattle.client_core.specs.Outcomes.{request_outcome, outcome_at, all_ended};

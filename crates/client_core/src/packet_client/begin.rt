@@ -2,7 +2,7 @@
 
 ghost use Rattle.std.specs.Prelude.{◌≡◌, ◌≤◌, not, List, IsTrue, IfOk};
 ghost use Rattle.fc_base.specs.declared.limits.TheConstants.{MAX_SERVERS};
-ghost use Rattle.disk_model.specs.Steps.{Gives};
+ghost use Rattle.disk_model.specs.Steps.{EndsWithNumber};
 ghost use Rattle.client_core.specs.declared.call.Call.TheVariants.{Begin};
 ghost use Rattle.client_core.specs.Ends.{steps};
 ghost use Rattle.messages.specs.Ranges.{is_run, is_text};
@@ -16,7 +16,7 @@ ghost use Rattle.client_core.specs.Words.{words_noted, would_save};
 
 use super::PacketClient;
 use crate::frames::to_all;
-use crate::noted::notes_are_read_back;
+use crate::note::notes_are_read_back;
 use crate::refusal::{has_next, is_text};
 use disk_model::Notes;
 use fc_base::{Fault, RunNo};
@@ -30,7 +30,7 @@ impl<N: Notes> PacketClient<N> {
     /// and the client is down.
     pub(crate) fn begin(&mut self, text: &[u8]) -> Result<(RunNo, Frames), Fault>
         ensures { (o : Opening) (past : List Entry) → StandsFor N.note self.old o past →
-            Gives (steps N.note o) past (Begin text.now) (words_noted o past).runs
+            EndsWithNumber (steps N.note o) past (Begin text.now) (words_noted o past).runs
             self.old self.new result }
     {
         notes_are_read_back();
@@ -61,9 +61,10 @@ impl<N: Notes> PacketClient<N> {
     /// Why a run with this job file isn't begun.
     fn begin_refusal(&self, text: &[u8]) -> Option<Fault>
         ensures { result
-            ≡ refusal_by (not self.now.down) self.now.peers self.now.noted (Begin text.now) }
+            ≡ refusal_by (not self.now.durable.down) self.now.peers self.now.noted
+            (Begin text.now) }
     {
-        if self.down {
+        if self.durable.is_down() {
             return Some(Fault::Down);
         }
         if !is_text(text) {

@@ -15,7 +15,7 @@ ghost use Rattle.client_core.specs.Refusals.{refusal_by, faults_of_body};
 ghost use Rattle.client_core.specs.Stands.{StandsFor};
 
 use super::PacketClient;
-use crate::noted::notes_are_read_back;
+use crate::note::notes_are_read_back;
 use crate::refusal::new_state;
 use crate::replies::replies;
 use disk_model::Notes;
@@ -47,14 +47,15 @@ impl<N: Notes> PacketClient<N> {
 
     /// Takes what a server says, which isn't refused.
     fn hear(&mut self, server: u32, body: Body) -> Result<Frames, Fault>
-        requires up { self.old.down ≡ false }
+        requires up { self.old.durable.down ≡ false }
         requires server { server < MAX_SERVERS }
         requires body { IsTrue (is_body body) }
         requires state { KeepsState body }
         requires free { faults_of_body self.old.noted body ≡ [] }
         ensures { (o : Opening) (past : List Entry) (p : Parts) → p.body ≡ body →
             node_number p.from ≡ server →
-            refusal_by (not self.old.down) self.old.peers self.old.noted (Deliver p) ≡ None →
+            refusal_by (not self.old.durable.down) self.old.peers self.old.noted (Deliver p)
+            ≡ None →
             StandsFor N.note self.old o past →
             Ends (steps N.note o) past (Deliver p) self.old self.new result }
     {
@@ -87,14 +88,15 @@ impl<N: Notes> PacketClient<N> {
 
     /// Takes what the mirror says, which isn't refused. Nothing is replied.
     fn hear_mirror(&mut self, body: &Body) -> Result<Frames, Fault>
-        requires up { self.old.down ≡ false }
+        requires up { self.old.durable.down ≡ false }
         requires mirror { self.old.peers.mirror ≡ true }
         requires kind { IsTrue (is_of_mirror (kind_of body.now)) }
         requires state { KeepsState body.now }
         requires free { faults_of_body self.old.noted body.now ≡ [] }
         ensures { (o : Opening) (past : List Entry) (p : Parts) → p.body ≡ body.now →
             IsTrue (is_mirror p.from) → IsTrue (is_client p.to) →
-            refusal_by (not self.old.down) self.old.peers self.old.noted (Deliver p) ≡ None →
+            refusal_by (not self.old.durable.down) self.old.peers self.old.noted (Deliver p)
+            ≡ None →
             StandsFor N.note self.old o past →
             Ends (steps N.note o) past (Deliver p) self.old self.new result }
     {

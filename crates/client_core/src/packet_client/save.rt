@@ -58,17 +58,9 @@ impl<N: Notes> PacketClient<N> {
     fn save(&mut self) -> Result<(), Fault>
         ensures { Writes N.note self.old self.new result }
     {
-        let bytes = match self.noted.encode(self.alloc) {
-            Ok(bytes) => bytes,
-            Err(_) => return Err(Fault::NoMemory),
-        };
-        match self.notes.save(&bytes) {
-            Ok(()) => Ok(()),
-            Err(Fault::NoMemory) => Err(Fault::NoMemory),
-            Err(_) => {
-                self.down = true;
-                Err(Fault::SaveFault)
-            }
+        match self.noted.encode(self.alloc) {
+            Ok(bytes) => self.durable.save(&bytes),
+            Err(_) => Err(Fault::NoMemory),
         }
     }
 }

@@ -22,7 +22,7 @@ impl<N: Notes> PacketClient<N> {
         ensures { (o : Opening) (past : List Entry) → StandsFor N.note self.now o past →
             Ends (steps N.note o) past Tick self.now self.now result }
     {
-        if self.down {
+        if self.durable.is_down() {
             return Err(Fault::Down);
         }
         match all_again(self.alloc, &self.peers, &self.noted, &self.life) {

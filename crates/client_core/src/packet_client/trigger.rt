@@ -64,10 +64,10 @@ impl<N: Notes> PacketClient<N> {
     /// Why a run isn't triggered or stopped.
     fn run_refusal(&self, run: RunNo) -> Option<Fault>
         ensures why { result
-            ≡ refusal_by (not self.now.down) self.now.peers self.now.noted (Stop run) }
+            ≡ refusal_by (not self.now.durable.down) self.now.peers self.now.noted (Stop run) }
         ensures range { result ≡ None → IsTrue (is_run run) }
     {
-        if self.down {
+        if self.durable.is_down() {
             return Some(Fault::Down);
         }
         if !is_begun(&self.noted, run) {

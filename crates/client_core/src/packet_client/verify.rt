@@ -2,7 +2,7 @@
 
 ghost use Rattle.std.specs.Prelude.{◌≡◌, ◌≤◌, ◌∷◌, not, List, None, IsTrue, IfOk};
 ghost use Rattle.fc_base.specs.declared.limits.TheConstants.{MAX_SERVERS};
-ghost use Rattle.disk_model.specs.Steps.{Gives};
+ghost use Rattle.disk_model.specs.Steps.{EndsWithNumber};
 ghost use Rattle.client_core.specs.declared.call.Call.TheVariants.{Verify as Verifying};
 ghost use Rattle.client_core.specs.Ends.{steps};
 ghost use Rattle.messages.specs.Ranges.{is_attempt, is_run, is_text};
@@ -19,7 +19,7 @@ ghost use Rattle.client_core.specs.Words.{words_noted, would_save};
 use super::PacketClient;
 use crate::attempt_asked::AttemptAsked;
 use crate::frames::to_all;
-use crate::noted::notes_are_read_back;
+use crate::note::notes_are_read_back;
 use crate::refusal::{has_next, is_begun, is_text};
 use disk_model::Notes;
 use fc_base::{Attempt, Fault, RunNo};
@@ -34,8 +34,8 @@ impl<N: Notes> PacketClient<N> {
     /// `SaveFault`, and the client is down.
     pub(crate) fn verify(&mut self, run: RunNo, text: &[u8]) -> Result<(Attempt, Frames), Fault>
         ensures { (o : Opening) (past : List Entry) → StandsFor N.note self.old o past →
-            Gives (steps N.note o) past (Verifying run text.now) (words_noted o past).attempts
-            self.old self.new result }
+            EndsWithNumber (steps N.note o) past (Verifying run text.now)
+            (words_noted o past).attempts self.old self.new result }
     {
         notes_are_read_back();
         if let Some(fault) = self.verify_refusal(run, text) {
@@ -65,11 +65,11 @@ impl<N: Notes> PacketClient<N> {
     /// Why a run isn't verified by this job file.
     fn verify_refusal(&self, run: RunNo, text: &[u8]) -> Option<Fault>
         ensures why { result
-            ≡ refusal_by (not self.now.down) self.now.peers self.now.noted
+            ≡ refusal_by (not self.now.durable.down) self.now.peers self.now.noted
             (Verifying run text.now) }
         ensures range { result ≡ None → IsTrue (is_run run) }
     {
-        if self.down {
+        if self.durable.is_down() {
             return Some(Fault::Down);
         }
         if !is_begun(&self.noted, run) {

@@ -4,7 +4,7 @@ ghost use Rattle.std.specs.Prelude.{◌≡◌, [], false, List, Some, IsTrue};
 ghost use Rattle.disk_model.specs.Steps.{Ends};
 ghost use Rattle.messages.specs.Ranges.{is_generation};
 ghost use Rattle.messages.specs.declared.frame.Frame.{Frame as SaidFrame};
-ghost use Rattle.mirror_core.specs.declared.noted.Noted.{Noted as Opening};
+ghost use Rattle.mirror_core.specs.declared.note.MirrorNote.{MirrorNote as Opening};
 ghost use Rattle.mirror_core.specs.declared.request.Request.TheVariants.{Copy, Fetch};
 ghost use Rattle.mirror_core.specs.Ends.{steps};
 ghost use Rattle.mirror_core.specs.History.{Entry};
@@ -14,7 +14,7 @@ ghost use Rattle.mirror_core.specs.Stands.{StandsFor};
 
 use super::Mirror;
 use crate::frames::{copy_ok, granted};
-use crate::noted::notes_are_read_back;
+use crate::note::notes_are_read_back;
 use crate::request::Request;
 use disk_model::Notes;
 use fc_base::Fault;
@@ -42,7 +42,7 @@ impl<N: Notes> Mirror<N> {
 
     /// Keeps a state, unless it is kept, and reports that. It isn't refused.
     fn copy(&mut self, state: &VerifyState) -> Result<Frames, Fault>
-        requires up { self.old.down ≡ false }
+        requires up { self.old.durable.down ≡ false }
         requires free { faults_of_request self.old.noted (Copy state.now) ≡ [] }
         ensures { (o : Opening) (past : List Entry) (f : SaidFrame) →
             request_in f ≡ Some (Copy state.now) →
@@ -65,7 +65,7 @@ impl<N: Notes> Mirror<N> {
     /// Grants a generation, and sends a copy of each kept state. It isn't refused.
     fn fetch(&mut self, generation: u64) -> Result<Frames, Fault>
         requires range { IsTrue (is_generation generation) }
-        requires up { self.old.down ≡ false }
+        requires up { self.old.durable.down ≡ false }
         requires free { faults_of_request self.old.noted (Fetch generation) ≡ [] }
         ensures { (o : Opening) (past : List Entry) (f : SaidFrame) →
             request_in f ≡ Some (Fetch generation) →

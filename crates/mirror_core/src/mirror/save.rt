@@ -49,13 +49,6 @@ impl<N: Notes> Mirror<N> {
             Ok(bytes) => bytes,
             Err(_) => return Err(Fault::NoMemory),
         };
-        match self.notes.save(&bytes) {
-            Ok(()) => Ok(()),
-            Err(Fault::NoMemory) => Err(Fault::NoMemory),
-            Err(_) => {
-                self.down = true;
-                Err(Fault::SaveFault)
-            }
-        }
+        self.durable.save(&bytes)
     }
 }

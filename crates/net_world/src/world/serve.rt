@@ -8,7 +8,6 @@ ghost use Rattle.net_world.specs.Serving.{ServerEnds};
 
 use super::World;
 use crate::served::Served;
-use crate::server_node;
 use fc_base::{Fault, ServerNo};
 use server_core::{Input, Outs};
 
@@ -28,10 +27,7 @@ impl World {
         let Ok(first) = self.sent.settle() else {
             return Err(Fault::NoMemory);
         };
-        let outs = match server_node::step(&mut self.servers[server.0 as usize], input) {
-            Ok(outs) => outs,
-            Err(fault) => return Err(fault),
-        };
+        let outs = self.servers[server.0 as usize].on()?.step(input)?;
         let Outs { frames, issue, act } = outs;
         let sent = frames.len() as u64;
         self.sent.add(frames);

@@ -20,8 +20,8 @@ impl Machine {
     {
         match event {
             Event::Deliver(packet) => self.deliver(packet),
-            Event::Issue(job) => Outs::issued(self.alloc, Ok(self.hand_out(job))),
-            Event::WriteDone(ticket, end) => Outs::ended(self.alloc, self.hear_end(ticket, end)),
+            Event::Issue(job) => Outs::issued(self.alloc, Ok(self.issue(job))),
+            Event::WriteDone(ticket, end) => Outs::ended(self.alloc, self.end_write(ticket, end)),
             Event::CheckDone {
                 boot,
                 attempt,

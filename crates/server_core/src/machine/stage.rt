@@ -18,7 +18,6 @@ use super::Machine;
 use crate::replies::only;
 use crate::staged::StagedSet;
 use crate::texts::jobs_for;
-use crate::work;
 use fc_base::{Fault, RunNo, ServerNo};
 use job_file::Phase;
 use messages::{Asked, Body, Frames, Reason};
@@ -57,7 +56,7 @@ impl Machine {
         if let Some(jobs) = self.staged_jobs(run) {
             return unstaged(only(self.alloc, self.me, Body::JobsOk { run, jobs }));
         }
-        if work::is_open(&self.run) {
+        if self.is_open() {
             return unstaged(self.refuse(Asked::Jobs, Reason::Busy, run, 0));
         }
         match jobs_for(self.alloc, Phase::Write, text) {

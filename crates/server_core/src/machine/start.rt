@@ -17,7 +17,6 @@ use super::Machine;
 use crate::event::Event;
 use crate::job_run::JobRun;
 use crate::replies::only;
-use crate::work;
 use fc_base::{Fault, RunNo};
 use messages::{Asked, Body, Frames, Packet, Reason};
 use std::alloc::AllocError;
@@ -57,7 +56,7 @@ impl Machine {
         ensures { EachNow self.now
             (λ now. result ≡ is_some (due_by true now.last now.staged now.run (ToStart run))) }
     {
-        run > self.last_run && !work::is_open(&self.run) && self.staged_jobs(run).is_some()
+        run > self.last_run && !self.is_open() && self.staged_jobs(run).is_some()
     }
 
     /// What is sent in answer to a Start.
@@ -76,7 +75,7 @@ impl Machine {
         if self.staged_jobs(run).is_none() {
             return lacking(self.refuse(Asked::Start, Reason::NoJobs, run, 0));
         }
-        if work::is_open(&self.run) {
+        if self.is_open() {
             return lacking(self.refuse(Asked::Start, Reason::Busy, run, 0));
         }
         lacking(only(self.alloc, self.me, Body::Started { run }))

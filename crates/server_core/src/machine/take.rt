@@ -1,15 +1,12 @@
 //! What the client asks, and what the workers tell.
 
-ghost use Rattle.std.specs.Prelude.{◌≡◌, IsTrue, Ok};
+ghost use Rattle.std.specs.Prelude.{◌≡◌, IsTrue};
 ghost use Rattle.messages.specs.Ranges.{is_attempt as in_range, is_run};
-ghost use Rattle.server_core.specs.Request.{ToStage, ToStart, ToTrigger, ToMark, ToStop, ToVerify, ToHold, ToPassFully, ToIssue, ToEnd, ToReport};
-ghost use Rattle.server_core.specs.Handles.{Handled, EachUndue, outs_of_issue, outs_of_end};
-ghost use Rattle.server_core.specs.Memory.{TakesNone};
+ghost use Rattle.server_core.specs.Request.{ToStage, ToStart, ToTrigger, ToMark, ToStop, ToVerify, ToHold, ToPassFully, ToReport};
+ghost use Rattle.server_core.specs.Handles.{Handled, EachUndue};
 
 use super::Machine;
-use crate::event::WriteEnd;
 use crate::outs::Outs;
-use engine::{Issue, Ticket};
 use fc_base::{Attempt, CheckReport, Fault, JobNo, RunNo};
 use messages::{Act, Frames, Text};
 use verify_state::VerifyState;
@@ -105,26 +102,6 @@ impl Machine {
     {
         self.pass(attempt, job);
         Ok(Outs::sent(Frames::new(self.alloc)))
-    }
-
-    /// A worker asks for a write. What it is answered.
-    #[inline(always)]
-    pub(crate) fn hand_out(&mut self, job: JobNo) -> Issue
-        ensures { EachUndue self.old (ToIssue job)
-            (λ now. Handled now (ToIssue job) self.old self.new (outs_of_issue (Ok result))) }
-    {
-        self.issue(job)
-    }
-
-    /// A worker tells how a write ended.
-    #[inline(always)]
-    pub(crate) fn hear_end(&mut self, ticket: Ticket, end: WriteEnd) -> Result<(), Fault>
-        ensures handled { EachUndue self.old (ToEnd ticket end)
-            (λ now. Handled now (ToEnd ticket end) self.old self.new (outs_of_end result)) }
-        ensures memory { TakesNone result }
-    {
-        self.end_write(ticket, end)?;
-        Ok(())
     }
 
     /// A worker tells what a check found.

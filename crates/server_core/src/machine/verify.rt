@@ -19,7 +19,6 @@ use super::Machine;
 use crate::open_check::{OpenCheck, progress_of_jobs};
 use crate::replies::only;
 use crate::texts::jobs_for;
-use crate::work;
 use fc_base::{Attempt, Fault, JobNo, RunNo};
 use job_file::{Jobs, Phase};
 use messages::{Asked, Body, Frames, Reason, Refusal};
@@ -89,7 +88,7 @@ impl Machine {
             (opened_anew now.server now.boot now.run run attempt text.now))) }
         ensures memory { OnErr result (result ≡ Err NoMemory) }
     {
-        if work::is_open(&self.run) || work::is_unended(&self.run) {
+        if self.is_open() || self.is_unended() {
             return self.refuse_verify(Reason::Busy, run, attempt, 0);
         }
         match jobs_for(self.alloc, Phase::Read, text) {

@@ -4,7 +4,7 @@ use super::written::put_note;
 use crate::tests::shared::{
     Draft, Reader, Trouble, first_note, first_unlike_field, is_changed_note,
 };
-use client_core::Noted;
+use client_core::ClientNote;
 use std::alloc::Global;
 
 /// What stands before the states, field by field: how many bytes, and how many changes of one of them leave
@@ -36,14 +36,14 @@ impl Reader for NoteReader {
     /// Whether bytes are a note, which has to be written as just these bytes, or with generation 0 where it
     /// is from before there were generations.
     fn is_note(&self, bytes: &[u8]) -> Result<bool, Trouble> {
-        match Noted::decode(self.alloc, bytes)? {
+        match ClientNote::decode(self.alloc, bytes)? {
             Some(noted) => is_written_so(self.alloc, &noted, bytes),
             None => Ok(false),
         }
     }
 }
 
-fn is_written_so(alloc: Global, noted: &Noted, read: &[u8]) -> Result<bool, Trouble> {
+fn is_written_so(alloc: Global, noted: &ClientNote, read: &[u8]) -> Result<bool, Trouble> {
     let written = noted.encode(alloc)?;
     if is_written(read, written.as_slice()) {
         Ok(true)

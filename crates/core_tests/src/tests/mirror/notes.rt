@@ -2,7 +2,7 @@
 
 use crate::tests::shared::{Draft, Reader, Trouble, UnreadNotes, first_word, put_state, put_word};
 use fc_base::Fault;
-use mirror_core::{Mirror, Noted};
+use mirror_core::{Mirror, MirrorNote};
 use std::alloc::Global;
 
 /// Generation 3, and two states, of two jobs.
@@ -90,14 +90,14 @@ pub struct NoteReader {
 impl Reader for NoteReader {
     /// Whether bytes are a note, which has to be written as just these bytes.
     fn is_note(&self, bytes: &[u8]) -> Result<bool, Trouble> {
-        match Noted::decode(self.alloc, bytes)? {
+        match MirrorNote::decode(self.alloc, bytes)? {
             Some(noted) => is_written_so(self.alloc, &noted, bytes),
             None => Ok(false),
         }
     }
 }
 
-fn is_written_so(alloc: Global, noted: &Noted, bytes: &[u8]) -> Result<bool, Trouble> {
+fn is_written_so(alloc: Global, noted: &MirrorNote, bytes: &[u8]) -> Result<bool, Trouble> {
     if noted.encode(alloc)?.as_slice() == bytes {
         Ok(true)
     } else {

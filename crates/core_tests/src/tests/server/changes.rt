@@ -1,7 +1,7 @@
 //! A note that is cut short, and a note of which one byte is changed.
 
 use crate::tests::shared::{Draft, Reader, Trouble, first_note, is_changed_note};
-use server_core::Noted;
+use server_core::ServerNote;
 use std::alloc::Global;
 
 /// Boot 5, and run 3.
@@ -17,7 +17,7 @@ struct NoteReader;
 impl Reader for NoteReader {
     /// Whether bytes are a note, which has to be written as just these bytes.
     fn is_note(&self, bytes: &[u8]) -> Result<bool, Trouble> {
-        match Noted::decode(bytes) {
+        match ServerNote::decode(bytes) {
             Some(noted) if noted.encode().as_slice() == bytes => Ok(true),
             Some(_) => Err(Trouble::Changed),
             None => Ok(false),

@@ -1,7 +1,7 @@
 //! A story up to a save that fails, and what that leaves.
 
 use super::looks::is_look;
-use super::notes::{Noted, put_noted};
+use super::notes::{NoteNumbers, put_noted};
 use super::told::Told;
 use crate::tests::shared::{Draft, Life, Trouble, first_word};
 use fc_base::{Attempt, Fault, RunNo};
@@ -52,7 +52,7 @@ fn lost_at(
 fn lost_restart(
     life: &mut Life<Told>,
     alloc: Global,
-    noted: Noted,
+    noted: NoteNumbers,
 ) -> Result<Option<bool>, Trouble> {
     life.take_off();
     if life.open(&())? != Fault::SaveFault.number() {
@@ -66,7 +66,7 @@ fn lost_step(
     life: &mut Life<Told>,
     alloc: Global,
     event: &str,
-    noted: Noted,
+    noted: NoteNumbers,
 ) -> Result<Option<bool>, Trouble> {
     if life.take(event)? != Some(Fault::SaveFault) {
         return Ok(None);
@@ -76,14 +76,14 @@ fn lost_step(
 }
 
 /// Whether the notes say this, and the server is restarted over them.
-fn comes_back(life: &mut Life<Told>, alloc: Global, noted: Noted) -> Result<bool, Trouble> {
+fn comes_back(life: &mut Life<Told>, alloc: Global, noted: NoteNumbers) -> Result<bool, Trouble> {
     let said = still_says(life, alloc, noted)?;
     let fault = life.open(&())?;
     Ok(said && fault == 0 && shown(life) == Some(idle(restarted(noted))))
 }
 
 /// Whether the notes say this. Where memory ran out, they are asked once more.
-fn still_says(life: &mut Life<Told>, alloc: Global, noted: Noted) -> Result<bool, Trouble> {
+fn still_says(life: &mut Life<Told>, alloc: Global, noted: NoteNumbers) -> Result<bool, Trouble> {
     match still_says_once(life, alloc, noted) {
         Err(Trouble::NoMemory) => still_says_once(life, alloc, noted),
         answer => answer,
@@ -91,7 +91,11 @@ fn still_says(life: &mut Life<Told>, alloc: Global, noted: Noted) -> Result<bool
 }
 
 /// At boot 0 the notes are blank.
-fn still_says_once(life: &mut Life<Told>, alloc: Global, noted: Noted) -> Result<bool, Trouble> {
+fn still_says_once(
+    life: &mut Life<Told>,
+    alloc: Global,
+    noted: NoteNumbers,
+) -> Result<bool, Trouble> {
     let mut wanted = Draft::new(alloc);
     if noted.boot > 0 {
         put_noted(&mut wanted, noted);
@@ -109,13 +113,13 @@ fn shown(life: &Life<Told>) -> Option<Status> {
 }
 
 /// What the note of a server says that is on.
-fn note_of(life: &Life<Told>) -> Noted {
+fn note_of(life: &Life<Told>) -> NoteNumbers {
     match shown(life) {
-        Some(status) => Noted {
+        Some(status) => NoteNumbers {
             boot: status.boot,
             last_run: status.last_run.0,
         },
-        None => Noted {
+        None => NoteNumbers {
             boot: 0,
             last_run: 0,
         },
@@ -123,24 +127,24 @@ fn note_of(life: &Life<Told>) -> Noted {
 }
 
 /// What it says once the server is restarted.
-fn restarted(noted: Noted) -> Noted {
-    Noted {
+fn restarted(noted: NoteNumbers) -> NoteNumbers {
+    NoteNumbers {
         boot: noted.boot.saturating_add(1),
         last_run: noted.last_run,
     }
 }
 
 /// What it says once the run is started whose number stands first.
-fn started(noted: Noted, words: &str) -> Noted {
+fn started(noted: NoteNumbers, words: &str) -> NoteNumbers {
     let (run, _) = first_word(words);
-    Noted {
+    NoteNumbers {
         boot: noted.boot,
         last_run: run.parse::<u64>().unwrap_or(0),
     }
 }
 
 /// What a server shows that was just restarted.
-fn idle(noted: Noted) -> Status {
+fn idle(noted: NoteNumbers) -> Status {
     Status {
         boot: noted.boot,
         last_run: RunNo(noted.last_run),

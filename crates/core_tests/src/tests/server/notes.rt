@@ -7,13 +7,13 @@ use std::alloc::Global;
 
 /// What the note of a server says: its boot, and its last run.
 #[derive(Clone, Copy)]
-pub struct Noted {
+pub struct NoteNumbers {
     pub boot: u64,
     pub last_run: u64,
 }
 
 /// Puts the bytes of a note.
-pub fn put_noted(draft: &mut Draft, noted: Noted) {
+pub fn put_noted(draft: &mut Draft, noted: NoteNumbers) {
     draft.put(b"FCN1");
     draft.put_number(noted.boot, 8);
     draft.put_number(noted.last_run, 8);

@@ -2,7 +2,7 @@
 
 use super::calls::{asked_in, is_told};
 use super::looks;
-use super::notes::{Noted, put_noted};
+use super::notes::{NoteNumbers, put_noted};
 use crate::tests::shared::{Draft, Ends, Node, Trouble, first_word, next_u64};
 use disk_model::FaultNotes;
 use fc_base::{Attempt, Fault, RunNo, ServerNo};
@@ -120,7 +120,7 @@ impl Node for Told {
 
 fn put_numbers(draft: &mut Draft, boot: &str, last_run: &str) {
     match (boot.parse::<u64>(), last_run.parse::<u64>()) {
-        (Ok(boot), Ok(last_run)) => put_noted(draft, Noted { boot, last_run }),
+        (Ok(boot), Ok(last_run)) => put_noted(draft, NoteNumbers { boot, last_run }),
         _ => draft.give_up(),
     }
 }

@@ -23,7 +23,7 @@ returns-then-is_ok-clause-ends g c o past s =
     let p = c.in-Ok-Some.packet in
     let is = subst (IsSensed o past q) (c.in-Ok-Some.is ∙ ap Ok c.in-Ok-Some.field-0-is) (c.look.ensures o past s) in
     subst (λ rows. Ends (steps note o) past (Deliver (Piece q)) old
-    (record { alloc = old.alloc; core = c.deliver-sent.new.self; pieces = rows }) c.deliver-sent.result)
+    (record { core = c.deliver-sent.new.self; pieces = rows }) c.deliver-sent.result)
     (sym (c.drop.ensures ∙ ap (λ t. without_tag t old.pieces) c.tag.ensures))
     (given_answers note old c.deliver-sent.new.self o past q p c.deliver-sent.result c.frames_are_short.ensures c.keeps_its_ranges.ensures s is
     (c.deliver-sent.ensures o (packets_heard o past) s.core) (sym c.is_ok.ensures.value ∙ c.if-is_ok.true))

@@ -2,7 +2,7 @@ use Rattle.std.proofs.Common.{refl, sym, subst, ◌∙◌, ap, ◌+◌, ◌∷�
 use Rattle.std.proofs.lemmas.Result.{err_from_is_err_and}
 use Rattle.client_core.specs.declared.call.Call.TheVariants.{Begin}
 use Rattle.client_core.specs.declared.packet_client.PacketClient.{PacketClient}
-use Rattle.client_core.specs.declared.noted.Noted.{Noted}
+use Rattle.client_core.specs.declared.note.ClientNote.{ClientNote}
 use Rattle.messages.specs.declared.body.Body.TheVariants.{Jobs}
 use Rattle.client_core.specs.Framed.{frame_bytes}
 use Rattle.client_core.specs.Packets.{to_all}
@@ -57,7 +57,7 @@ returns g c = λ o past s.
     let free = sym c.begin_refusal.ensures ∙ c.in_default.is in
     let f = begin_free _ _ _ free in
     let stored = c.in_ok-use_run.ensures in (
-      ap (λ (n : Noted). n.runs + 1) (sym (free_now g.N.Notes.note old o past call f.0 s free).1),
+      ap (λ (n : ClientNote). n.runs + 1) (sym (free_now g.N.Notes.note old o past call f.0 s free).1),
       answers_stored g.N.Notes.note old c.use_run.new.self c.make_room_for_run.new.self c.begin.new.self NextRun o past call c.in-Ok.frames
           c.notes_are_read_back.ensures f.0 free refl
           (one_run true old.noted (next_left old.peers old.noted.generation old.noted.runs f.2)) c.in_ok-use_run.field-0 stored

@@ -3,7 +3,7 @@ use Rattle.std.proofs.lemmas.Result.{err_from_is_err_and}
 use Rattle.messages.specs.declared.body.Body.TheVariants.{Verify}
 use Rattle.client_core.specs.declared.call.Call.TheVariants.{Verify as Verifying}
 use Rattle.client_core.specs.declared.packet_client.PacketClient.{PacketClient}
-use Rattle.client_core.specs.declared.noted.Noted.{Noted}
+use Rattle.client_core.specs.declared.note.ClientNote.{ClientNote}
 use Rattle.client_core.specs.Framed.{frame_bytes}
 use Rattle.client_core.specs.Life.{Verifies}
 use Rattle.client_core.specs.Lives.{LifeIs, AttemptIs}
@@ -65,7 +65,7 @@ returns g c = λ o past s.
     let free = sym c.verify_refusal.ensures.why ∙ c.in_default.is in
     let f = verify_free _ _ _ _ free in
     let stored = c.in_ok-use_attempt.ensures in (
-      ap (λ (n : Noted). n.attempts + 1) (sym (free_now g.N.Notes.note old o past call f.0 s free).1),
+      ap (λ (n : ClientNote). n.attempts + 1) (sym (free_now g.N.Notes.note old o past call f.0 s free).1),
       answers_stored g.N.Notes.note old c.use_attempt.new.self c.make_room_for_attempt.new.self c.verify.new.self NextAttempt o past call c.in-Ok.frames
           c.notes_are_read_back.ensures f.0 free refl
           (one_attempt true old.noted (next_left old.peers old.noted.generation old.noted.attempts f.3)) c.in_ok-use_attempt.field-0 stored

@@ -9,7 +9,7 @@ pub returns : goal.returns
 returns g c =
     on_ok c.write_answer.result c.write_answer.ensures
     (λ wrote. record {
-      answer = result_bytes (note_kept c.take-answer.new.self.mirror.notes).bytes c.take-answer.result;
+      answer = result_bytes (note_kept c.take-answer.new.self.mirror.durable.notes).bytes c.take-answer.result;
       written = wrote;
       takes = λ o at h. body_taken note_kept o at (frame_in c.args.body.now) c.args.self.now.mirror c.take-answer.new.self.mirror c.take-answer.result h
           (c.take-answer.ensures o at.list h.0);

@@ -1,4 +1,5 @@
-use Rattle.std.proofs.Common.{refl, sym, ◌∙◌, subst, List, ℕ}
+use Rattle.std.proofs.Common.{sym, ◌∙◌, ap, subst, List, ℕ}
+use Rattle.disk_model.specs.declared.durable.Durable.{Durable}
 use Rattle.disk_model.specs.Notes.{Note}
 use Rattle.mirror_core.specs.Note.{Says, Reads}
 use Rattle.mirror_core.specs.Words.{words_noted}
@@ -10,13 +11,14 @@ returns-in-Ok-Some g c =
     let old = g.N.Notes.note c.args.notes in
     let says = subst (λ (l : List ℕ). Says l c.in-Ok-Some.noted) (c.deref.ensures.value ∙ loaded.1)
     (subst (Reads c.deref.result.now) c.in-Ok-Some.field-0-is c.in-Ok-Some.ensures.said) in
+    let same = ap (λ (d : Durable _). g.N.Notes.note d.notes) c.new.ensures ∙ loaded.0 in
     record {
-      same = loaded.0;
+      same = same;
       said = c.in-Ok-Some.noted;
       says = says;
       stands = λ o past said. record {
-        on = refl;
-        durable = subst (λ (n : Note). Says n.bytes (words_noted o past)) (sym loaded.0) said;
+        on = ap (λ (d : Durable _). d.down) c.new.ensures;
+        durable = subst (λ (n : Note). Says n.bytes (words_noted o past)) (sym same) said;
         knows = c.one_note.ensures old.bytes c.in-Ok-Some.noted (words_noted o past) says said;
       };
     }

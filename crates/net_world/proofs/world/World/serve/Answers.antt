@@ -1,6 +1,11 @@
-use Rattle.std.proofs.Common.{refl, sym, ◌∙◌, ap, ℕ, List, ◌++◌, length, append-nil}
+use Rattle.std.proofs.Common.{refl, sym, ◌∙◌, ap, ℕ, List, ◌++◌, length, append-nil, Ok, Err}
 use Rattle.std.proofs.lemmas.Bool.{ltb-true}
+use Rattle.std.proofs.lemmas.Result.{err_from_is_err_and}
+use Rattle.node_power.specs.declared.power.Power.TheVariants.{On}
 use Rattle.net_world.specs.Sending.{sent_in}
+use Rattle.net_world.specs.ServerNodes.{server_nodes}
+use Rattle.net_world.proofs.NodeLemmas.{lent_ends, none_lent}
+use Rattle.net_world.proofs.ServerNodeLemmas.{laws}
 use Rattle.net_world.proofs.ServeLemmas.{serve_ends, serve_fails, none_serves, lacks, node_at}
 use Rattle.net_world.proofs.world.World.serve.Goals as goal
 
@@ -12,15 +17,18 @@ pub returns-in_default : goal.returns-in_default
 returns-in_default c w past stands =
     lacks w past c.args.server c.args.input c.args.self.now _ stands c.settle.ensures.same refl refl refl refl
 
-pub returns-in-Err : goal.returns-in-Err
-returns-in-Err c w past stands =
+pub returns-in_err-self : goal.returns-in_err-self
+returns-in_err-self c w past stands =
     let l = ltb-true c.args.server (length c.args.self.now.servers.items) (sym c.has_server.ensures ∙ c.if-not-has_server.false) in
-    serve_fails w past c.args.server c.args.input c.in-Err.fault c.args.self.now _ stands
+    let p = err_from_is_err_and c.from_residual.result c.from_residual.ensures.1 in
+    let fault = c.in_err-self.field-0.0 in
+    let was = c.index_mut.result.now in
+    rw (p.1, p.2) (serve_fails w past c.args.server c.args.input fault c.args.self.now _ stands
     (record {
-      was = c.index_mut.result.now;
-      node = c.step.new.node;
-      was_is = node_at c.args.self.now.servers.items c.args.server c.server.inside.0 c.index_mut.result.now c.server.view_is l c.index_mut.ensures.value;
-      stepped = λ o es h. c.in-Err.ensures o es h;
+      was = was;
+      node = was;
+      was_is = node_at c.args.self.now.servers.items c.args.server c.server.inside.0 was c.server.view_is l c.index_mut.ensures.value;
+      stepped = λ o es h. none_lent (server_nodes o) es c.args.input fault was h (c.in_err-self.ensures.lent o es);
       moved = record {
         there = l;
         place = c.server.inside.0;
@@ -31,18 +39,45 @@ returns-in-Err c w past stands =
         files_are = refl;
         mirror_is = refl;
       };
-    })
+    }))
+
+pub returns-in_err-outs : goal.returns-in_err-outs
+returns-in_err-outs c w past stands =
+    let l = ltb-true c.args.server (length c.args.self.now.servers.items) (sym c.has_server.ensures ∙ c.if-not-has_server.false) in
+    let p = err_from_is_err_and c.from_residual-in_err-outs.result c.from_residual-in_err-outs.ensures.1 in
+    let fault = c.in_err-outs.field-0.0 in
+    let was = c.index_mut.result.now in
+    rw (p.1, p.2) (serve_fails w past c.args.server c.args.input fault c.args.self.now _ stands
+    (record {
+      was = was;
+      node = On c.step.new.self;
+      was_is = node_at c.args.self.now.servers.items c.args.server c.server.inside.0 was c.server.view_is l c.index_mut.ensures.value;
+      stepped = λ o es h. lent_ends (server_nodes o) (laws o) es c.args.input was c.in_ok-self.field-0.now c.step.new.self (Err fault) h
+          (c.in_ok-self.ensures.lent o es) (c.in_err-outs.ensures.ends o es);
+      moved = record {
+        there = l;
+        place = c.server.inside.0;
+        place_is = c.server.view_is;
+        set_is = refl;
+        sent_is = c.settle.ensures.same ∙ sym (append-nil (sent_in c.args.self.now.sent));
+        client_is = refl;
+        files_are = refl;
+        mirror_is = refl;
+      };
+    }))
 
 pub returns : goal.returns
 returns c w past stands =
     let l = ltb-true c.args.server (length c.args.self.now.servers.items) (sym c.has_server.ensures ∙ c.if-not-has_server.false) in
-    let outs = c.in-Ok-step.outs in
+    let outs = c.in_ok-outs.outs in
+    let was = c.index_mut.result.now in
     serve_ends w past c.args.server c.args.input outs _ c.args.self.now _ stands
     (record {
-      was = c.index_mut.result.now;
-      node = c.step.new.node;
-      was_is = node_at c.args.self.now.servers.items c.args.server c.server.inside.0 c.index_mut.result.now c.server.view_is l c.index_mut.ensures.value;
-      stepped = λ o es h. c.in-Ok-step.ensures o es h;
+      was = was;
+      node = On c.step.new.self;
+      was_is = node_at c.args.self.now.servers.items c.args.server c.server.inside.0 was c.server.view_is l c.index_mut.ensures.value;
+      stepped = λ o es h. lent_ends (server_nodes o) (laws o) es c.args.input was c.in_ok-self.field-0.now c.step.new.self (Ok outs) h
+          (c.in_ok-self.ensures.lent o es) (c.in_ok-outs.ensures.ends o es);
       moved = record {
         there = l;
         place = c.server.inside.0;

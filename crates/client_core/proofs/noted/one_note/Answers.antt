@@ -1,5 +1,0 @@
-use Rattle.client_core.proofs.NoteLemmas.{one_note}
-use Rattle.client_core.proofs.noted.one_note.Goals as goal
-
-pub returns : goal.returns
-returns c = one_note c.spelled_are_read.ensures

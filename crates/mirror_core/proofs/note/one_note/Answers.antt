@@ -1,0 +1,5 @@
+use Rattle.mirror_core.proofs.NoteLemmas.{one_note}
+use Rattle.mirror_core.proofs.note.one_note.Goals as goal
+
+pub returns : goal.returns
+returns c = one_note c.spelled_are_read.ensures

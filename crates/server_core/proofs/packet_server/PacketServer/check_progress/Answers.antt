@@ -1,6 +1,0 @@
--- How far the check of a job is is read from the words up to a failed save.
-use Rattle.server_core.specs.Answers.{now, shown_entries}
-use Rattle.server_core.proofs.packet_server.PacketServer.check_progress.Goals as goal
-
-pub returns : goal.returns
-returns g c o past stands = c.check_progress.ensures (now o (shown_entries past)) stands.keeps

@@ -1,6 +1,0 @@
--- A job of the present run is read from the words up to a failed save.
-use Rattle.server_core.specs.Answers.{now, shown_entries}
-use Rattle.server_core.proofs.packet_server.PacketServer.run_job.Goals as goal
-
-pub returns : goal.returns
-returns g c o past stands = c.run_job.ensures (now o (shown_entries past)) stands.keeps
