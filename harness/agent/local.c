@@ -16,12 +16,12 @@ enum { MAX_TEXT = 65536 };
 
 static atomic_bool has_ended_link;
 
-struct child start_own_drive(const struct hello *hello) {
+struct child start_own_drive(const struct hello *hello, bool cached) {
     static char text[MAX_TEXT];
     if (hello->text_length > sizeof text) give_up("the link", "no job is as the witness says");
     if (read_all(STDIN_FILENO, text, hello->text_length) != (ssize_t)hello->text_length) give_up("the link", "it ended within the job file");
     const struct job job = {.number = hello->job, .text = text, .text_length = hello->text_length};
-    return start_drive("write", hello->run, &job, CHILD_READS | CHILD_WRITES);
+    return start_drive("write", hello->run, &job, CHILD_READS | CHILD_WRITES | way_of_orders(hello->depth, cached));
 }
 
 /* Each notice that came back is one that this agent has told. */

@@ -8,7 +8,7 @@
 #include "hello.h"
 
 /* Reads the job's text, which stands behind the hello, and starts `drive write` by it. */
-struct child start_own_drive(const struct hello *hello);
+struct child start_own_drive(const struct hello *hello, bool cached);
 
 /* Hands what the witness gives back on to that `drive`, in a thread, until the link ends. */
 void hand_back(struct child *drive);

@@ -21,6 +21,7 @@
 static const char USAGE[] =
     "usage: drive-agent TARGET [OPTIONS]    on the machine under test; started by drive-witness --link\n"
     "  --flush N    tells writes as done behind a flush: N of them, or fewer where no other is out\n"
+    "  --queue N    has N writes at the target at once, at most: what else is ordered waits for one of them to end\n"
     "  --cpu N      runs on processor N alone, with its own `drive` where it has one\n"
     "  --yes        writes over what the target holds; what is mounted or in use it never writes\n"
     "  --torn       takes blocks that are larger than what the device writes whole\n"
@@ -29,14 +30,14 @@ static const char USAGE[] =
 
 struct settings {
     struct opening opening;
-    uint64_t flush;
+    uint64_t flush, queue;
     const char *cpu;
 };
 
 static struct settings read_settings(int count, char **words) {
     struct settings read = {0};
     const struct option all[] = {
-        {"--flush", 0, &read.flush, 0, 1}, {"--cpu", &read.cpu, 0, 0, 1}, {"--yes", 0, 0, &read.opening.yes, 1}, {"--torn", 0, 0, &read.opening.torn, 1}, {"--cached", 0, 0, &read.opening.cached, 1}, {0, 0, 0, 0, 0},
+        {"--flush", 0, &read.flush, 0, 1}, {"--queue", 0, &read.queue, 0, 1}, {"--cpu", &read.cpu, 0, 0, 1}, {"--yes", 0, 0, &read.opening.yes, 1}, {"--torn", 0, 0, &read.opening.torn, 1}, {"--cached", 0, 0, &read.opening.cached, 1}, {0, 0, 0, 0, 0},
     };
     bool asks = asks_for_help(count, words);
     if (asks || count < 2) {
@@ -114,12 +115,12 @@ static void write_for(const struct settings *settings, struct hello *hello) {
     int orders = STDIN_FILENO;
     struct target target = open_to_write(&settings->opening, &hello->region);
     if (hello->is_local) {
-        drive = start_own_drive(hello);
+        drive = start_own_drive(hello, settings->opening.cached);
         orders = drive.from;
         hand_back(&drive);
     }
-    struct executor executor = {.target = &target, .region = hello->region, .depth = hello->depth, .flush = settings->flush, .orders = orders, .whose = hello,
-                                .tell = tell_witness, .tell_last = take_last};
+    struct executor executor = {.target = &target, .region = hello->region, .depth = hello->depth, .flush = settings->flush, .queue = settings->queue, .may_share = true, .orders = orders,
+                                .whose = hello, .tell = tell_witness, .tell_last = take_last};
     welcome_witness(settings, &target, hello);
     carry_out(&executor);
 }

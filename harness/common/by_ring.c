@@ -14,8 +14,9 @@ struct run {
     struct ring *ring;
     struct iovec *pieces;
     struct ending *endings;                  /* to be told */
+    size_t *ready, first_ready;              /* a ring of the slots whose orders wait for room at the target */
     size_t *unflushed, *flushing;            /* slots that are written, and not told yet */
-    size_t told, unflushed_count, flushing_count, writing;
+    size_t told, ready_count, unflushed_count, flushing_count, writing;
     bool is_reading, is_over;
 };
 
@@ -42,10 +43,25 @@ static void take_orders(struct run *run, int answer) {
         return;
     }
     executor->slots.part += (size_t)answer;
-    while (next_order(&executor->slots, &slot)) {
+    for (; next_order(&executor->slots, &slot); run->ready_count++) run->ready[(run->first_ready + run->ready_count) % executor->slots.count] = slot;
+}
+
+/* Writes what was ordered, as far as the target has room. */
+static void write_if_due(struct run *run) {
+    struct executor *executor = run->executor;
+    for (; run->ready_count && run->writing < executor->queue; run->ready_count--, run->writing++) {
+        size_t slot = run->ready[run->first_ready];
+        run->first_ready = (run->first_ready + 1) % executor->slots.count;
         put_write(run->ring, slot, executor->target->fd, block_of(&executor->slots, slot), executor->region.block_size, place_of_slot(executor, slot));
-        run->writing++;
     }
+}
+
+/* Tells what has ended. It takes a moment: what is to be written goes to the target first. */
+static void tell_if_due(struct run *run) {
+    if (!run->told) return;
+    give_calls(run->ring);
+    run->executor->tell(run->executor->whose, run->endings, run->told);
+    run->told = 0;
 }
 
 static void take_write(struct run *run, size_t slot, int answer) {
@@ -84,6 +100,7 @@ void carry_out_by_ring(struct executor *executor, struct ring *ring) {
     size_t count = executor->slots.count;
     struct run run = {.executor = executor, .ring = ring};
     run.pieces = room_for(2 * count, sizeof *run.pieces), run.endings = room_for(count, sizeof *run.endings);
+    run.ready = room_for(count, sizeof *run.ready);
     run.unflushed = room_for(count, sizeof *run.unflushed), run.flushing = room_for(count, sizeof *run.flushing);
     while (read_if_due(&run), flush_if_due(&run), run.is_reading || run.writing || run.flushing_count) {
         uint64_t what;
@@ -94,8 +111,8 @@ void carry_out_by_ring(struct executor *executor, struct ring *ring) {
             else if (what == FLUSH) take_flush(&run, answer);
             else take_write(&run, (size_t)what, answer);
         }
-        if (run.told) executor->tell(executor->whose, run.endings, run.told);
-        run.told = 0;
+        write_if_due(&run);
+        tell_if_due(&run);
     }
-    free(run.pieces), free(run.endings), free(run.unflushed), free(run.flushing);
+    free(run.pieces), free(run.endings), free(run.ready), free(run.unflushed), free(run.flushing);
 }

@@ -8,8 +8,8 @@
 #include <string.h>
 #include <unistd.h>
 
-/* One thread reads the orders, and as many as the job's depth carry them out. All below is under
- * `lock`. */
+/* One thread reads the orders, and as many carry them out as writes may be at the target at once. All
+ * below is under `lock`. */
 struct pool {
     struct executor *executor;
     pthread_mutex_t lock;
@@ -106,11 +106,11 @@ static void make_pool(struct pool *pool, struct executor *executor) {
 
 void carry_out_by_threads(struct executor *executor) {
     struct pool pool;
-    pthread_t *threads = calloc(executor->depth, sizeof *threads);
+    pthread_t *threads = calloc(executor->queue, sizeof *threads);
     struct iovec *pieces = calloc(2 * executor->slots.count, sizeof *pieces);
     if (!threads || !pieces) give_up("memory", strerror(ENOMEM));
     make_pool(&pool, executor);
-    for (uint64_t at = 0; at < executor->depth; at++) {
+    for (uint64_t at = 0; at < executor->queue; at++) {
         int error = pthread_create(&threads[at], NULL, work, &pool);
         if (error) give_up("threads", strerror(error));
     }
@@ -120,6 +120,6 @@ void carry_out_by_threads(struct executor *executor) {
     pthread_cond_broadcast(&pool.changed);
     pthread_mutex_unlock(&pool.lock);
     end_stream(executor);
-    for (uint64_t at = 0; at < executor->depth; at++) pthread_join(threads[at], NULL);
+    for (uint64_t at = 0; at < executor->queue; at++) pthread_join(threads[at], NULL);
     free(threads), free(pieces), free(pool.waiting), free(pool.unflushed), free(pool.endings);
 }

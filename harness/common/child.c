@@ -7,6 +7,7 @@
 #include <fcntl.h>
 #include <signal.h>
 #include <string.h>
+#include <sys/socket.h>
 #include <sys/wait.h>
 #include <time.h>
 #include <unistd.h>
@@ -17,6 +18,10 @@ enum { PIPE_BYTES = 1 << 20 };
 void make_pipe(int ends[2]) {
     if (pipe2(ends, O_CLOEXEC)) give_up_by_errno("pipe");
     fcntl(ends[0], F_SETPIPE_SZ, PIPE_BYTES);
+}
+
+static void make_socket(int ends[2]) {
+    if (socketpair(AF_UNIX, SOCK_STREAM | SOCK_CLOEXEC, 0, ends)) give_up_by_errno("socketpair");
 }
 
 /* Puts an end of a pipe in the place of standard input or output. */
@@ -43,7 +48,7 @@ static _Noreturn void become(const char *program, char *const words[], int input
 struct child start_child(const char *program, char *const words[], int pipes) {
     int to[2] = {-1, -1}, from[2] = {-1, -1}, told[2], why;
     if (pipes & CHILD_READS) make_pipe(to);
-    if (pipes & CHILD_WRITES) make_pipe(from);
+    if (pipes & CHILD_WRITES) (pipes & CHILD_BY_SOCKET ? make_socket : make_pipe)(from);
     make_pipe(told);
     pid_t pid = fork();
     if (pid < 0) give_up_by_errno(program);

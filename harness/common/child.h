@@ -14,9 +14,11 @@ struct child {
 /* Makes a pipe that holds many blocks at once: its end to read from, and the one to write to. */
 void make_pipe(int ends[2]);
 
-/* Which of its ends are pipes; and whether it and what it starts are a group of processes of their
- * own, to which a terminal's signals don't go. */
-enum { CHILD_READS = 1, CHILD_WRITES = 2, CHILD_APART = 4 };
+/* Which of its ends are pipes; whether it and what it starts are a group of processes of their own,
+ * to which a terminal's signals don't go; and whether a socket takes the place of the pipe that it
+ * writes to. A pipe is locked while bytes are copied into it or out of it, so that who writes much
+ * waits for who reads it. A socket isn't, and takes longer for little. */
+enum { CHILD_READS = 1, CHILD_WRITES = 2, CHILD_APART = 4, CHILD_BY_SOCKET = 8 };
 
 /* Starts a program by its name, which is looked up in PATH, or by its path. Where it can't be run,
  * the harness gives up and says why. */

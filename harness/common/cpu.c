@@ -11,3 +11,9 @@ void stay_on(uint64_t cpu) {
     CPU_SET((size_t)cpu, &set);
     if (sched_setaffinity(0, sizeof set, &set)) give_up("--cpu", "there is no such processor");
 }
+
+size_t own_processors(void) {
+    cpu_set_t set;
+    /* (the call fails where the system has more of them than a set has room for) */
+    return sched_getaffinity(0, sizeof set, &set) ? CPU_SETSIZE : (size_t)CPU_COUNT(&set);
+}

@@ -1,6 +1,7 @@
 #include "drive.h"
 
 #include "bytes.h"
+#include "cpu.h"
 #include "say.h"
 #include "state.h"
 
@@ -31,10 +32,14 @@ void feed(const struct child *child, const void *bytes, size_t length) {
     if (write_all(child->to, &front, sizeof front) == 0) write_all(child->to, bytes, length);
 }
 
-void open_drive(struct drive *drive, uint64_t run, const struct job *job, uint64_t after) {
+int way_of_orders(uint64_t depth, bool cached) {
+    return cached && depth >= DEEP && own_processors() > 1 ? CHILD_BY_SOCKET : 0;
+}
+
+void open_drive(struct drive *drive, uint64_t run, const struct job *job, uint64_t after, int way) {
     *drive = (struct drive){.lock = PTHREAD_MUTEX_INITIALIZER, .changed = PTHREAD_COND_INITIALIZER};
     drive->after = after && after < job->total ? after : job->total;
-    drive->child = start_drive("write", run, job, CHILD_READS | CHILD_WRITES);
+    drive->child = start_drive("write", run, job, CHILD_READS | CHILD_WRITES | way);
 }
 
 /* Once `drive` has ended a notice reaches nobody, and what it said last says why. */

@@ -34,9 +34,13 @@ struct child start_drive(const char *command, uint64_t run, const struct job *jo
  * answer to say. */
 void feed(const struct child *child, const void *bytes, size_t length);
 
+/* How the orders of a job of this depth come best: by a pipe, 0, or where many go to memory alone by a
+ * socket, CHILD_BY_SOCKET. */
+int way_of_orders(uint64_t depth, bool cached);
+
 /* Starts `drive write`, which is to take the state once so many writes are done, or all of them
- * where that is 0. */
-void open_drive(struct drive *drive, uint64_t run, const struct job *job, uint64_t after);
+ * where that is 0. Its orders come by this way. */
+void open_drive(struct drive *drive, uint64_t run, const struct job *job, uint64_t after, int way);
 
 /* Tells it what became of writes, and that it is to take the state where enough are done or one has
  * failed. Behind that it is told nothing. */

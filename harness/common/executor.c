@@ -30,6 +30,7 @@ void carry_out(struct executor *executor) {
     /* (one more than are out at once: what stands behind the last order needs a place, too) */
     make_slots(&executor->slots, executor->region.block_size, executor->depth + 1);
     unsigned calls = (unsigned)executor->depth + 2; /* a read and a flush */
+    if (executor->queue == 0 || executor->queue > executor->depth) executor->queue = executor->depth;
     if (!executor->target->is_direct)
         carry_out_by_turns(executor);
     else if (open_ring(&ring, calls, executor->slots.blocks, executor->slots.count * executor->region.block_size)) {

@@ -1,7 +1,7 @@
 /* Carries out the orders that come on a stream, and tells what became of each: as many at once as
  * the job's depth, with one thread and the kernel's io_uring where it has that, and else with
- * threads. What only goes to memory (without O_DIRECT) is written in turn, by one thread: no write
- * waits for a device there, and a pool, the kernel's too, is slower by far. */
+ * threads. What only goes to memory (without O_DIRECT) is written by one thread, or by two in turns:
+ * no write waits for a device there, and a pool, the kernel's too, is slower by far. */
 #ifndef EXECUTOR_H
 #define EXECUTOR_H
 
@@ -16,6 +16,9 @@ struct ending {
     bool is_done;
 };
 
+/* A depth from which on it pays to do side by side what only goes to memory. */
+enum { DEEP = 16 };
+
 struct executor {
     const struct target *target;
     struct region region;
@@ -23,6 +26,10 @@ struct executor {
     /* So many writes are told as done behind one flush, or fewer where no other is out; 0: each as
      * soon as the target says so. */
     uint64_t flush;
+    /* So many writes are at the target at once, at most; what else was ordered waits here, and goes
+     * there as soon as one of them has ended. 0: as many as the depth. */
+    uint64_t queue;
+    bool may_share; /* two threads may share what goes to memory: the depth is a job's, and the only one's */
     int orders;     /* the stream that they come on */
     void *whose;    /* is given to these two */
     void (*tell)(void *whose, const struct ending *endings, size_t count);
@@ -32,8 +39,8 @@ struct executor {
 };
 
 /* Carries out all orders, and returns once the stream and the last write have ended. A write that
- * never comes back is waited for; the ends of the others and of the stream are told all the
- * same. */
+ * never comes back is waited for; the ends of the others and of the stream are told all the same,
+ * but for those of one thread in memory, which waits with it. */
 void carry_out(struct executor *executor);
 
 /* The ways, which share the calls below. */

@@ -79,10 +79,18 @@ void put_flush(struct ring *ring, uint64_t what, int fd) {
     next_call(ring, what, fd, IORING_OP_FSYNC)->fsync_flags = IORING_FSYNC_DATASYNC;
 }
 
-void await_ends(struct ring *ring) {
-    long given = syscall(SYS_io_uring_enter, ring->fd, ring->waiting, 1, IORING_ENTER_GETEVENTS, NULL, 0);
+static void enter(struct ring *ring, unsigned ends, unsigned flags) {
+    long given = syscall(SYS_io_uring_enter, ring->fd, ring->waiting, ends, flags, NULL, 0);
     if (given >= 0) ring->waiting -= (unsigned)given;
     if (given < 0 && errno != EINTR && errno != EAGAIN && errno != EBUSY) give_up_by_errno("io_uring");
+}
+
+void give_calls(struct ring *ring) {
+    if (ring->waiting) enter(ring, 0, 0);
+}
+
+void await_ends(struct ring *ring) {
+    enter(ring, 1, IORING_ENTER_GETEVENTS);
 }
 
 bool next_end(struct ring *ring, uint64_t *what, int *answer) {

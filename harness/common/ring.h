@@ -34,7 +34,10 @@ void put_read(struct ring *ring, uint64_t what, int fd, const struct iovec *piec
 void put_write(struct ring *ring, uint64_t what, int fd, const void *bytes, uint64_t length, uint64_t at);
 void put_flush(struct ring *ring, uint64_t what, int fd);
 
-/* Gives the kernel what was put there, and waits until a call has ended. */
+/* Gives the kernel what was put there. */
+void give_calls(struct ring *ring);
+
+/* The same, and waits until a call has ended. */
 void await_ends(struct ring *ring);
 
 /* The next call that has ended, and what it answered: a number of bytes, or an error as a negative

@@ -18,6 +18,7 @@ static const char USAGE[] =
     "  --keep COMMAND    has a shell run COMMAND with the state on its input, too\n"
     "  --cut COMMAND     has a shell run COMMAND once the state is kept\n"
     "  --flush N         tells writes as done behind a flush: N of them, or fewer where no other is out\n"
+    "  --queue N         has N writes at the target at once, at most: what else is ordered waits for one of them to end\n"
     "  --cpu N           runs on processor N alone, with `drive`: the turns between the two are cheaper\n"
     "  --yes             writes over what the target holds; what is mounted or in use it never writes\n"
     "  --torn            takes blocks that are larger than what the device writes whole\n"
@@ -47,6 +48,7 @@ struct options read_options(int count, char **words) {
         {"--keep", &read.keep, 0, 0, WRITE},
         {"--cut", &read.cut, 0, 0, WRITE},
         {"--flush", 0, &read.flush, 0, WRITE},
+        {"--queue", 0, &read.queue, 0, WRITE},
         {"--cpu", &read.cpu, 0, 0, WRITE},
         {"--yes", 0, 0, &read.opening.yes, WRITE},
         {"--torn", 0, 0, &read.opening.torn, WRITE},

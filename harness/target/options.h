@@ -16,6 +16,7 @@ struct options {
     uint64_t after; /* 0: at no number of writes */
     uint64_t run;   /* 0: the run of the state */
     uint64_t flush; /* 0: no write waits for a flush */
+    uint64_t queue; /* 0: as many writes at once as the job's depth */
     uint64_t unit;  /* 0: a block */
 };
 

@@ -68,8 +68,8 @@ int write_target(const struct options *options, const struct job *job) {
     uint64_t run = draw_number();
     put_aside(options->state);
     hold_signals();
-    open_drive(&drive, run, job, options->after);
-    executor = (struct executor){.target = &target, .region = region, .depth = job->depth, .flush = options->flush, .orders = drive.child.from, .whose = &drive,
+    open_drive(&drive, run, job, options->after, way_of_orders(job->depth, options->opening.cached));
+    executor = (struct executor){.target = &target, .region = region, .depth = job->depth, .flush = options->flush, .queue = options->queue, .may_share = true, .orders = drive.child.from, .whose = &drive,
                                  .tell = tell_these, .tell_last = tell_last};
     watch = (struct watch){&drive, job, options->trigger};
     start_executor(&executor);

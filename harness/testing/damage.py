@@ -38,14 +38,14 @@ def whole_runs():
 def lies():
     """Targets that lie, by what a log says that they did."""
     kinds = ("lost:5", "torn:7", "misdirected:6", "flipped:4", "late:9")
-    for depth in (1, 8, 64):
+    for depth, *options in ((1,), (8,), (64,), (64, "--queue", "5"), (64, "--cached")):
         job(f"lie{depth}.fio", writes=192, depth=depth)
         for lie in kinds:
             for file in ("lied", "ls", "log"):
                 if os.path.exists(file):
                     os.remove(file)
             env = {"LD_PRELOAD": LIAR, "LIE": lie, "LIE_LOG": os.path.abspath("log"), "LIE_TARGET": "/lied"}
-            tell(f"{lie} at depth {depth} is written", run("write", f"lie{depth}.fio", "lied", "ls", env=env)[0], 0)
+            tell(f"{lie} at depth {depth} is written", run("write", f"lie{depth}.fio", "lied", "ls", *options, env=env)[0], 0)
             rows = [line.split() for line in read("log").decode().splitlines()]
             last = {}
             for kind, block, number in rows:

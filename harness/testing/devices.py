@@ -38,6 +38,27 @@ def mounts():
     devices()
 
 
+def most_at_once(device, *options):
+    """Writes a job of depth 32 to a device, and returns how many writes that had at once at most, of
+    the moments that were looked at."""
+    most, ran = 0, subprocess.Popen([TARGET, "write", "deep.fio", device, "ds", "--torn", "--yes", *options], **QUIET)
+    while ran.poll() is None:
+        with open(f"/sys/block/{os.path.basename(device)}/inflight", encoding="ascii") as it:
+            most = max(most, int(it.read().split()[1]))
+    tell(f"a job of depth 32, {options}: the status", ran.returncode, 0)
+    check(f"a job of depth 32, {options}: the check", "deep.fio", device, "ds", [])
+    return most
+
+
+def queues(device):
+    """How many writes a device has at once: with --queue so many, and else more."""
+    job("deep.fio", writes=20_000, depth=32, more="x_window=64\n")
+    tell("at most so many as --queue says", most_at_once(device, "--queue", "3") in (2, 3), True)
+    tell("at most one", most_at_once(device, "--queue", "1"), 1)
+    tell("behind a flush, too", most_at_once(device, "--queue", "4", "--flush", "6") in (2, 3, 4, 5), True)
+    tell("more without --queue", most_at_once(device) > 8, True)
+
+
 def devices():
     """Loop devices."""
     write("disk", bytes(1 << 20))
@@ -49,6 +70,7 @@ def devices():
         tell("a device", run("write", "two.fio", device, "ds", "--torn")[0], 0)
         check("the check of a device", "two.fio", device, "ds", [])
         tell("a device that holds stamps", run("write", "two.fio", device, "ds", "--torn")[0], 0)
+        queues(device)
         job("large.fio", blocks=512)
         status, _, said = run("write", "large.fio", device, "ds", "--torn")
         tell("a device that is too short", (status, "shorter than the job's region" in said), (2, True))

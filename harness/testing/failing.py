@@ -6,31 +6,54 @@ import signal
 import subprocess
 import time
 
-from trying import LIAR, QUIET, TARGET, await_file, job, run, tell, tell_has, write
+from trying import LIAR, QUIET, TARGET, await_file, job, read, run, tell, tell_has, write
 
 
 def failures():
-    """Writes that fail."""
-    job("fail.fio", blocks=64, writes=512)
+    """Writes that fail, by threads and, in memory, by threads in turns."""
     env = {"LD_PRELOAD": LIAR, "LIE_TARGET": "/failing"}
-    for lie in ("failed:100", "doubtful:100", "short:100"):
-        status, printed, said = run("write", "fail.fio", "failing", "fs", env={**env, "LIE": lie})
-        tell(f"{lie}: the status", status, 2)
-        block = re.search(r"failing: write \d+ to block (\d+) failed: ", said)
-        tell(f"{lie}: which write it was", bool(block), True)
-        tell_has(f"{lie}: the state", said, "the state was taken there: fs")
-        torn = [block[1]] if block and lie.startswith("short") else []
-        _, printed, _ = run("check", "fail.fio", "failing", "fs")
-        tell_has(f"{lie}: no other fault", printed, f"faults {len(torn)} end whole first {' '.join(torn) or '-'}")
-        os.remove("failing")
-    stalled()
+    for depth, options in ((8, ()), (32, ("--cached",))):
+        job("fail.fio", blocks=64, writes=512, depth=depth)
+        for lie in ("failed:100", "doubtful:100", "short:100"):
+            what = " ".join((lie, *options))
+            status, printed, said = run("write", "fail.fio", "failing", "fs", *options, env={**env, "LIE": lie})
+            tell(f"{what}: the status", status, 2)
+            block = re.search(r"failing: write \d+ to block (\d+) failed: ", said)
+            tell(f"{what}: which write it was", bool(block), True)
+            tell_has(f"{what}: the state", said, "the state was taken there: fs")
+            torn = [block[1]] if block and lie.startswith("short") else []
+            _, printed, _ = run("check", "fail.fio", "failing", "fs")
+            tell_has(f"{what}: no other fault", printed, f"faults {len(torn)} end whole first {' '.join(torn) or '-'}")
+            os.remove("failing")
+        stalled(options)
+    held_back()
 
 
-def stalled():
+def held_back():
+    """Of a target from which no write comes back so many are at it as --queue says, and never more than
+    the depth."""
+    job("fail.fio", blocks=64, writes=512)
+    for queue, due in ((1, 1), (3, 3), (64, 8)):
+        env = {**os.environ, "LD_PRELOAD": LIAR, "LIE_TARGET": "/failing", "LIE": "stalled:1", "LIE_LOG": os.path.abspath("log")}
+        if os.path.exists("log"):
+            os.remove("log")
+        ran = subprocess.Popen([TARGET, "write", "fail.fio", "failing", "fs", "--queue", str(queue)], env=env, **QUIET)
+        await_file("log")
+        until = time.time() + 20
+        while len(read("log").splitlines()) < due and time.time() < until:
+            time.sleep(0.002)
+        time.sleep(0.2)
+        tell(f"writes at the target with --queue {queue}", len(read("log").splitlines()), due)
+        ran.terminate()
+        tell(f"SIGTERM with --queue {queue}: the status", ended(ran, 20), 0)
+
+
+def stalled(options):
     """A write that never comes back keeps neither the state nor the cut."""
     env = {**os.environ, "LD_PRELOAD": LIAR, "LIE_TARGET": "/failing", "LIE": "stalled:50"}
     for what, words in (("SIGTERM", []), ("a cut", ["--after", "45", "--cut", "touch cut-at-once"])):
-        ran = subprocess.Popen([TARGET, "write", "fail.fio", "failing", "fs", *words], env=env, **QUIET)
+        ran = subprocess.Popen([TARGET, "write", "fail.fio", "failing", "fs", *options, *words], env=env, **QUIET)
+        what = " ".join((what, *options))
         if not words:
             time.sleep(1)
             ran.terminate()
@@ -38,6 +61,7 @@ def stalled():
         _, printed, _ = run("check", "fail.fio", "failing", "fs")
         tell_has(f"a write that never comes back, and {what}: the check", printed, "faults 0 end whole first -")
     tell("the power was cut while it was out", os.path.exists("cut-at-once"), True)
+    os.remove("cut-at-once")
 
 
 def ended(ran, seconds):
@@ -51,15 +75,24 @@ def ended(ran, seconds):
 
 
 def kills():
-    """Who writes is killed at random moments, and the check has no false fault."""
+    """Who writes is killed at random moments, and the check has no false fault. In memory a job lasts
+    as long by so many more writes."""
     job("long.fio", blocks=4096, writes=8192)
+    job("deep.fio", blocks=4096, writes=1_000_000, depth=32)
+    killed_writers("long.fio", 50)
+    killed_writers("deep.fio", 30, "--cached")
+    threads()
+
+
+def killed_writers(job_file, turns, *options):
+    """Kills who writes so many times: in every second turn once its state is there."""
     chance, states = random.Random(1), 0
-    for turn in range(50):
+    for turn in range(turns):
         for file in ("ks", "ks.old", "trigger"):
             if os.path.exists(file):
                 os.remove(file)
         write("ks", "of an earlier run")
-        ran = subprocess.Popen([TARGET, "write", "long.fio", "killed", "ks", "--trigger", "trigger"], **QUIET)
+        ran = subprocess.Popen([TARGET, "write", job_file, "killed", "ks", "--trigger", "trigger", *options], **QUIET)
         await_file("ks.old")
         time.sleep(chance.uniform(0.01, 0.15))
         write("trigger", "")
@@ -71,9 +104,24 @@ def kills():
         ran.wait()
         if os.path.exists("ks"):
             states += 1
-            status, printed, _ = run("check", "long.fio", "killed", "ks")
-            tell(f"killed, turn {turn}", (status in (0, 3), "faults 0 end whole first -" in printed), (True, True))
-    tell("states were kept before a kill", states >= 25, True)
+            status, printed, _ = run("check", job_file, "killed", "ks")
+            tell(f"{job_file}, killed, turn {turn}", (status in (0, 3), "faults 0 end whole first -" in printed), (True, True))
+    tell(f"{job_file}: states were kept before a kill", states >= turns // 2, True)
+
+
+def threads():
+    """In memory two threads take turns where there are as many processors, and on one there is but
+    one; besides it the one that waits for the state, and the one that looks for a trigger."""
+    for options, due in (((), 2 + min(2, len(os.sched_getaffinity(0)))), (("--cpu", "0"), 3)):
+        ran = subprocess.Popen([TARGET, "write", "deep.fio", "killed", "ks", "--cached", *options], **QUIET)
+        until = time.time() + 10
+        while len(os.listdir(f"/proc/{ran.pid}/task")) != due and time.time() < until:
+            time.sleep(0.002)
+        tell(f"how many threads there are, {options}", len(os.listdir(f"/proc/{ran.pid}/task")), due)
+        ran.terminate()
+        tell(f"SIGTERM, {options}: the status", ended(ran, 20), 0)
+        _, printed, _ = run("check", "deep.fio", "killed", "ks")
+        tell_has(f"SIGTERM, {options}: the check", printed, "faults 0 end whole first -")
 
 
 def processors(pid):
