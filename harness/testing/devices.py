@@ -52,7 +52,7 @@ def most_at_once(device, *options):
 
 def queues(device):
     """How many writes a device has at once: with --queue so many, and else more."""
-    job("deep.fio", writes=20_000, depth=32, more="x_window=64\n")
+    job("deep.fio", writes=6_000, depth=32, more="x_window=64\n")
     tell("at most so many as --queue says", most_at_once(device, "--queue", "3") in (2, 3), True)
     tell("at most one", most_at_once(device, "--queue", "1"), 1)
     tell("behind a flush, too", most_at_once(device, "--queue", "4", "--flush", "6") in (2, 3, 4, 5), True)

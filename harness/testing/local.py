@@ -52,7 +52,7 @@ def local_kills():
     chance = random.Random(3)
     for turn in range(32):
         put_earlier_state("ks")
-        ran = begun("endless.fio", "ks", *link("lk", *(("--flush", "4") if turn % 3 == 1 else ())))
+        ran = begun("endless.fio", "ks", *link("lk", *{1: ("--flush", "4"), 2: ("--flush", "4", "--queue", "2")}.get(turn % 3, ())))
         await_file("ks.old")
         time.sleep(chance.uniform(0, 0.15))
         if turn % 4 == 3:

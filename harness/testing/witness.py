@@ -112,7 +112,7 @@ def random_kills():
     for turn in range(100):
         env = {**os.environ, **({"LD_PRELOAD": LIAR} if turn % 4 == 3 else {})}
         put_earlier_state("ks")
-        options = ("--flush", "4") if turn % 4 == 1 else ()
+        options = {1: ("--flush", "4"), 2: ("--queue", "3")}.get(turn % 4, ())
         ran = subprocess.Popen([WITNESS, "write", "endless.fio", "ks", *link("wk", *options)], stdout=subprocess.PIPE, stderr=subprocess.DEVNULL, text=True, env=env)
         await_file("ks.old")
         time.sleep(chance.uniform(0, 0.15))
