@@ -48,7 +48,6 @@ pub mod ServeLemmas
 pub mod WriteLemmas
 pub mod StartedLemmas
 pub mod RestartLemmas
-pub mod LookLemmas
 pub mod FrameEndLemmas
 pub mod UnsavedLemmas
 pub mod ShortLemmas

@@ -1,35 +1,39 @@
 -- Which lists of frames a server stands for, and how its step ends.
-use Rattle.std.specs.Prelude.{◌≡◌, ℕ, ◌+◌, true, false, List, ◌∷◌, map, Result, Ok, Err}
+use Rattle.std.specs.Prelude.{◌≡◌, ℕ, ◌+◌, List, ◌∷◌, map, Result, Ok, Err}
 use Rattle.fc_base.specs.declared.fault.Fault.{Fault}
 use Rattle.disk_model.specs.declared.left.Left.TheVariants.{Saved}
 use Rattle.disk_model.specs.Notes.{Note}
 use Rattle.disk_model.specs.Steps.{Steps}
 use Rattle.messages.specs.FrameBytes.{frame_spelling}
-use Rattle.messages.specs.Senses.{is_drop}
+use Rattle.hearing.specs.Hearers as hearers
+use Rattle.hearing.specs.Nodes as nodes
+use Rattle.hearing.specs.Nodes.{Node}
+use Rattle.server_core.specs.declared.event.Event.{Event}
 use Rattle.server_core.specs.declared.input.Input.{Input}
 use Rattle.server_core.specs.declared.outs.Outs.{Outs}
+use Rattle.server_core.specs.declared.packet_server.PacketServer.{PacketServer}
 use Rattle.server_core.specs.declared.server.Server.{Server}
 use Rattle.server_core.specs.declared.note.ServerNote.{ServerNote}
-use Rattle.server_core.specs.History.{Opening}
+use Rattle.server_core.specs.History.{Opening, Entry}
 use Rattle.server_core.specs.Note.{Says, spelling}
 use Rattle.server_core.specs.Words as words
 use Rattle.server_core.specs.Words.{Staged}
 use Rattle.server_core.specs.Bounds.{AreShort}
 use Rattle.server_core.specs.Ranges.{OpensInRange, CameInRange}
 use Rattle.server_core.specs.Ends as whole
-use Rattle.server_core.specs.Hearing.{FrameEntry, Met, Restart, packets_heard, assembly}
-use Rattle.server_core.specs.FrameAnswers.{sense, frames, refusal, due, issue, act, answered_entry}
+use Rattle.server_core.specs.Hearing.{FrameEntry, Met, Restart, arrival, coming_of, packets_heard}
+use Rattle.server_core.specs.FrameAnswers.{frames, issue, act, answered_entry}
+use Rattle.server_core.specs.HearingKind.{hearing_kind}
 
 -- What a server's note says, by what is said of its notes.
 abbrev pub note_in : {T : Type 0} → (T → Note) → Server T → Note
-note_in note server = note server.core.durable.notes
+note_in note server = note server.hearer.core.durable.notes
 
 -- A server stands for a list of frames where its core stands for the packets that are heard in it,
 -- and, while it is on, keeps what has come together of pieces.
-pub record StandsFor {T : Type 0} (note : T → Note) (server : Server T) (o : Opening)
-    (past : List FrameEntry) : Type 0 where
-  pub core : whole.StandsFor note server.core o (packets_heard o past)
-  pub pieces : words.is_on (packets_heard o past) ≡ true → server.pieces ≡ assembly o past
+abbrev pub StandsFor : {T : Type 0} → (T → Note) → Server T → Opening → List FrameEntry → Type 0
+StandsFor note server o past =
+    hearers.StandsFor (hearing_kind note o) (map coming_of past) server.hearer
 
 -- What is answered and sent is what the list says; and where the packets that were heard keep their
 -- ranges, the frames are few and short.
@@ -39,20 +43,23 @@ pub record Sends (o : Opening) (past : List FrameEntry) (e : Input) (outs : Outs
   pub act_is : outs.act ≡ act o past e
   pub short : OpensInRange o → CameInRange (packets_heard o past) → AreShort outs.frames
 
+-- A server as a node whose core hears frames.
+abbrev pub server_node : {T : Type 0} → (T → Note) → Opening →
+    Node (Server T) Input FrameEntry (PacketServer T) Event Entry Staged Outs
+server_node note o = record {
+  kind = hearing_kind note o;
+  hearer = λ server. server.hearer;
+  arrival = arrival;
+  coming = coming_of;
+  met = Met;
+  Sends = Sends o;
+}
+
 -- The steps of a server: its note, what its list says of what comes, and what is answered and sent.
 -- What is refused leaves it as it was, but where it drops a tag: that alone changes.
 abbrev pub steps : {T : Type 0} → (T → Note) → Opening →
     Steps (Server T) Input FrameEntry Staged Outs
-steps note o = record {
-  note = λ server. note_in note server;
-  StandsFor = λ past server. StandsFor note server o past;
-  refusal = refusal o;
-  due = due o;
-  met = Met;
-  spelled = λ past. spelling (words.words_noted o (packets_heard o past));
-  Sends = Sends o;
-  Stays = λ past e server. is_drop (sense o past e) ≡ false → StandsFor note server o past;
-}
+steps note o = nodes.steps (server_node note o)
 
 -- For each list whose words the note said, the server stands for it with the restart. The note said
 -- something, so there is such a list: the empty one. Now it has the next boot.

@@ -27,6 +27,7 @@ pub mod Sent
 pub mod Memory
 -- How a server stands for a list, and how its steps end.
 pub mod Ends
+pub mod HearingKind
 pub mod FrameEnds
 -- Calls inside a server, and what it keeps: no public contract cites these.
 pub mod Kept

@@ -6,6 +6,8 @@ ghost use Rattle.server_core.specs.declared.event.Event.TheVariants.{Deliver};
 ghost use Rattle.server_core.specs.Ends.{IsRead};
 ghost use Rattle.messages.specs.Ranges.{is_run};
 
+mod packet_core;
+
 use crate::event::Event;
 use crate::law::{frames_are_short, packets_are_in_range};
 use crate::machine::Machine;

@@ -1,10 +1,8 @@
 //! A server over its durable note.
 
-ghost use Rattle.std.specs.Prelude.{◌≡◌, ◌<◌, false, List, Some, None, OnErr};
+ghost use Rattle.std.specs.Prelude.{◌≡◌, ◌<◌, List};
 ghost use Rattle.fc_base.specs.declared.limits.TheConstants.{MAX_SERVERS};
-ghost use Rattle.messages.specs.declared.frame.Frame.TheVariants.{Piece as OfPiece};
 ghost use Rattle.server_core.specs.declared.input.Input.TheVariants.{Deliver, Issue as ToIssue, WriteDone as ToEnd, CheckDone as ToReport};
-ghost use Rattle.server_core.specs.Hearing.{is_piece_for};
 
 mod look;
 
@@ -16,15 +14,15 @@ use crate::packet_server::PacketServer;
 use disk_model::Notes;
 use engine::{Issue, Ticket};
 use fc_base::{Attempt, CheckReport, Fault, JobNo, ServerNo};
-use messages::{Assembly, Frame, Frames, Piece};
+use hearing::Hearer;
+use messages::{Assembly, Frame};
 use std::alloc::Global;
 
 /// A server.
 #[derive(Drop)]
 pub struct Server<N> {
     alloc: Global,
-    core: PacketServer<N>,
-    pieces: Assembly,
+    hearer: Hearer<PacketServer<N>>,
 }
 
 impl<N: Notes> Server<N> {
@@ -53,8 +51,7 @@ impl<N: Notes> Server<N> {
         let pieces = Assembly::new(alloc);
         Ok(Server {
             alloc,
-            core,
-            pieces,
+            hearer: Hearer { core, pieces },
         })
     }
 
@@ -64,11 +61,8 @@ impl<N: Notes> Server<N> {
         ensures says { (o : Opening) (past : List FrameEntry) → StandsFor N.note self o past →
             Says (N.note result).bytes (words_noted o (packets_heard o past)) }
     {
-        let Server {
-            alloc: _,
-            core,
-            pieces: _,
-        } = self;
+        let Server { alloc: _, hearer } = self;
+        let Hearer { core, pieces: _ } = hearer;
         let PacketServer {
             durable,
             machine: _,
@@ -82,7 +76,7 @@ impl<N: Notes> Server<N> {
         ensures says { (o : Opening) (past : List FrameEntry) → StandsFor N.note self.now o past →
             Says (N.note result.now).bytes (words_noted o (packets_heard o past)) }
     {
-        self.core.durable.notes()
+        self.hearer.core.durable.notes()
     }
 
     /// Whether the delivery of this frame would make a save: it is a Start that is due to record a run. No
@@ -92,7 +86,7 @@ impl<N: Notes> Server<N> {
             result ≡ would_save o past frame.now }
     {
         match frame {
-            Frame::Whole(packet) => self.core.would_save(packet),
+            Frame::Whole(packet) => self.hearer.core.would_save(packet),
             Frame::Piece(piece) => {
                 piece.keeps_its_ranges();
                 false
@@ -137,12 +131,12 @@ impl<N: Notes> Server<N> {
             HearsInRange IsInRange (sense o past (ToIssue job)) (outs_of_issue result) }
         ensures memory { TakesNone result }
     {
-        if self.core.durable.is_down() {
+        if self.hearer.core.durable.is_down() {
             return Err(Fault::Down);
         }
         frames_are_short();
         packets_are_in_range();
-        Ok(self.core.machine.issue(job))
+        Ok(self.hearer.core.machine.issue(job))
     }
 
     /// Takes the end of a write, as `step` does.
@@ -154,12 +148,12 @@ impl<N: Notes> Server<N> {
             HearsInRange IsInRange (sense o past (ToEnd ticket end)) (outs_of_end result) }
         ensures memory { TakesNone result }
     {
-        if self.core.durable.is_down() {
+        if self.hearer.core.durable.is_down() {
             return Err(Fault::Down);
         }
         frames_are_short();
         packets_are_in_range();
-        self.core.machine.end_write(ticket, end)
+        self.hearer.core.machine.end_write(ticket, end)
     }
 
     /// Takes what a check found.
@@ -178,7 +172,7 @@ impl<N: Notes> Server<N> {
             HearsInRange IsInRange (sense o past (ToReport boot attempt job report)) result }
     {
         let _in_range = report.parts();
-        self.core.step(Event::CheckDone {
+        self.hearer.core.step(Event::CheckDone {
             boot,
             attempt,
             job,
@@ -194,53 +188,6 @@ impl<N: Notes> Server<N> {
         ensures ranges { (o : Opening) (past : List FrameEntry) → StandsFor N.note self.old o past →
             HearsInRange IsInRange (sense o past (Deliver frame)) result }
     {
-        match frame {
-            Frame::Whole(packet) => {
-                packet.keeps_its_ranges();
-                self.core.step(Event::Deliver(packet))
-            }
-            Frame::Piece(piece) => self.join(&piece),
-        }
+        self.hearer.deliver(frame)
     }
-
-    /// Takes a piece: the packet that it completes, or else the piece alone.
-    fn join(&mut self, piece: &Piece) -> Result<Outs, Fault>
-        ensures ends { (o : Opening) (past : List FrameEntry) → StandsFor N.note self.old o past →
-            Ends (steps N.note o) past (Deliver (OfPiece piece.now)) self.old self.new result }
-        ensures ranges { (o : Opening) (past : List FrameEntry) → StandsFor N.note self.old o past →
-            HearsInRange IsInRange (sense o past (Deliver (OfPiece piece.now))) result }
-    {
-        if !self.on() {
-            return Err(Fault::Down);
-        }
-        if !is_piece_for(self.me(), piece) {
-            return Err(Fault::Misdirected);
-        }
-        match self.pieces.look(piece) {
-            Ok(Some(packet)) => {
-                packet.keeps_its_ranges();
-                let outs = self.core.step(Event::Deliver(packet));
-                if outs.is_ok() {
-                    self.pieces.drop(piece.tag());
-                }
-                outs
-            }
-            Ok(None) => match self.pieces.take(piece) {
-                Ok(()) => Ok(Outs::sent(Frames::new(self.alloc))),
-                Err(_) => Err(Fault::NoMemory),
-            },
-            Err(Fault::FrameBadField) => {
-                self.pieces.drop(piece.tag());
-                Err(Fault::FrameBadField)
-            }
-            Err(_) => Err(Fault::NoMemory),
-        }
-    }
-}
-
-/// Whether the piece is from the client to the server with this number, of a kind that the client sends.
-fn is_piece_for(me: ServerNo, piece: &Piece) -> bool
-    ensures { result ≡ is_piece_for me piece.now }
-{
-    piece.from().is_client() && piece.to().is_server(me) && piece.tag().whole.is_of_client()
 }

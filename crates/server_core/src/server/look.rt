@@ -28,7 +28,7 @@ impl<N: Notes> Server<N> {
         ensures { (o : Opening) (past : List FrameEntry) → StandsFor N.note self.now o past →
             result ≡ is_on (packets_heard o past) }
     {
-        !self.core.durable.is_down()
+        !self.hearer.core.durable.is_down()
     }
 
     /// Its number.
@@ -36,7 +36,7 @@ impl<N: Notes> Server<N> {
         ensures { (o : Opening) (past : List FrameEntry) → StandsFor N.note self.now o past →
             result ≡ o.me }
     {
-        self.core.machine.me
+        self.hearer.core.machine.me
     }
 
     /// How far it is: up to a failed save, where one has failed. Its boot and its last run are those of
@@ -45,7 +45,7 @@ impl<N: Notes> Server<N> {
         ensures { (o : Opening) (past : List FrameEntry) → StandsFor N.note self.now o past →
             result ≡ status o (shown_entries (packets_heard o past)) }
     {
-        self.core.machine.status()
+        self.hearer.core.machine.status()
     }
 
     /// A job of the present run: of that up to a failed save, where one has failed.
@@ -53,7 +53,7 @@ impl<N: Notes> Server<N> {
         ensures { (o : Opening) (past : List FrameEntry) → StandsFor N.note self.now o past →
             option_copied result ≡ run_job o (shown_entries (packets_heard o past)) job }
     {
-        self.core.machine.run_job(job)
+        self.hearer.core.machine.run_job(job)
     }
 
     /// The state that was taken of a job of the present run: up to a failed save, where one has failed.
@@ -61,7 +61,7 @@ impl<N: Notes> Server<N> {
         ensures { (o : Opening) (past : List FrameEntry) → StandsFor N.note self.now o past →
             option_copied result ≡ state_taken o (shown_entries (packets_heard o past)) job }
     {
-        self.core.machine.taken(job)
+        self.hearer.core.machine.taken(job)
     }
 
     /// The ticket of this write of a job of the present run, where it is open, issued and neither done nor
@@ -70,7 +70,7 @@ impl<N: Notes> Server<N> {
         ensures { (o : Opening) (past : List FrameEntry) → StandsFor N.note self.now o past →
             result ≡ open_write o (shown_entries (packets_heard o past)) job write }
     {
-        self.core.machine.open_write(job, write)
+        self.hearer.core.machine.open_write(job, write)
     }
 
     /// A job of the open check: of that up to a failed save, where one has failed.
@@ -78,7 +78,7 @@ impl<N: Notes> Server<N> {
         ensures { (o : Opening) (past : List FrameEntry) → StandsFor N.note self.now o past →
             option_copied result ≡ check_job o (shown_entries (packets_heard o past)) job }
     {
-        self.core.machine.check_job(job)
+        self.hearer.core.machine.check_job(job)
     }
 
     /// How far the check of a job is, where it is one of the open check: of that up to a failed save, where
@@ -88,6 +88,6 @@ impl<N: Notes> Server<N> {
             option_map progress_of (option_copied result)
             ≡ progress o (shown_entries (packets_heard o past)) job }
     {
-        self.core.machine.check_progress(job)
+        self.hearer.core.machine.check_progress(job)
     }
 }

@@ -1,23 +1,14 @@
--- A whole packet is heard as it comes.
-use Rattle.std.proofs.Common.{refl, sym, subst}
-use Rattle.disk_model.specs.Steps.{Ends}
-use Rattle.messages.specs.declared.frame.Frame.TheVariants.{Whole}
-use Rattle.server_core.specs.declared.event.Event.TheVariants as events
+-- A frame is taken by what hears in the server.
+use Rattle.std.specs.Prelude.{map}
 use Rattle.server_core.specs.declared.input.Input.TheVariants.{Deliver}
-use Rattle.server_core.specs.Hearing.{packets_heard}
-use Rattle.server_core.specs.FrameEnds.{steps}
-use Rattle.server_core.proofs.FrameEndLemmas.{whole_ends}
+use Rattle.server_core.specs.Hearing.{coming_of}
+use Rattle.server_core.proofs.FrameEndLemmas.{hearer_ends}
 use Rattle.server_core.proofs.server.Server.deliver.Goals as goal
 
-pub returns-in-Whole-clause-ends : goal.returns-in-Whole-clause-ends
-returns-in-Whole-clause-ends g c o past s =
-    let note = g.N.Notes.note in
-    let old = c.args.self.now in
-    let new = record old { core = c.step.new.self } in
-    let packet = c.in-Whole.packet in
-    subst (λ f. Ends (steps note o) past (Deliver f) old new c.step.result) (sym c.in-Whole.is)
-    (whole_ends note o past (Deliver (Whole packet)) (events.Deliver packet) old c.step.new.self c.step.result refl refl s
-    (c.step.ensures o (packets_heard o past) s.core))
+pub returns-clause-ends : goal.returns-clause-ends
+returns-clause-ends g c o past s =
+    hearer_ends g.N.Notes.note o past (Deliver c.args.frame) c.args.self.now (record c.args.self.now { hearer = c.deliver.new.self }) c.deliver.result
+    (c.deliver.ensures o (map coming_of past) s).0
 
-pub returns-in-Piece-clause-ranges : goal.returns-in-Piece-clause-ranges
-returns-in-Piece-clause-ranges g c o past s = rw c.in-Piece.is (c.join.ensures.ranges o past s)
+pub returns-clause-ranges : goal.returns-clause-ranges
+returns-clause-ranges g c o past s = (c.deliver.ensures o (map coming_of past) s).1

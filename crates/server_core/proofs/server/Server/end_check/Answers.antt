@@ -10,4 +10,4 @@ pub returns-clause-ends : goal.returns-clause-ends
 returns-clause-ends g c o past s =
     let a = c.args in
     whole_ends g.N.Notes.note o past (CheckDone a.boot a.attempt a.job a.report) (events.CheckDone a.boot a.attempt a.job a.report)
-    a.self.now c.step.new.self c.step.result refl refl s (c.step.ensures o (packets_heard o past) s.core)
+    a.self.now c.step.new.self c.step.result refl s (c.step.ensures o (packets_heard o past) s.core)

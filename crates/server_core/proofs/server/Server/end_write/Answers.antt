@@ -16,9 +16,9 @@ returns-clause-ends g c o past s =
     let new = c.end_write.new.self in
     let told = c.end_write in
     let e = events.WriteDone c.args.ticket c.args.end in
-    whole_ends note o past (WriteDone c.args.ticket c.args.end) e old (record old.core { machine = new }) (outs_of_end told.result) refl refl s
-    (taken note old.core new o (packets_heard o past) e (outs_of_end told.result) (sym c.is_down.ensures ∙ c.if-is_down.false) s.core
+    whole_ends note o past (WriteDone c.args.ticket c.args.end) e old (record old.hearer.core { machine = new }) (outs_of_end told.result) refl s
+    (taken note old.hearer.core new o (packets_heard o past) e (outs_of_end told.result) (sym c.is_down.ensures ∙ c.if-is_down.false) s.core
     (λ words k. refl)
-    (λ words k undue. end_handled words c.args.ticket c.args.end old.core.machine new told.result (told.ensures.answer words k) (told.ensures.left words k)
+    (λ words k undue. end_handled words c.args.ticket c.args.end old.hearer.core.machine new told.result (told.ensures.answer words k) (told.ensures.left words k)
     told.ensures.same)
     (λ o past. sendable c.frames_are_short.ensures c.packets_are_in_range.ensures o past e tt))

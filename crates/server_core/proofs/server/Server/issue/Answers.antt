@@ -16,8 +16,8 @@ returns-clause-ends g c o past s =
     let new = c.issue.new.self in
     let answer = c.issue.result in
     let e = events.Issue c.args.job in
-    whole_ends note o past (Issue c.args.job) e old (record old.core { machine = new }) (outs_of_issue (Ok answer)) refl refl s
-    (taken note old.core new o (packets_heard o past) e (outs_of_issue (Ok answer)) (sym c.is_down.ensures ∙ c.if-is_down.false) s.core
+    whole_ends note o past (Issue c.args.job) e old (record old.hearer.core { machine = new }) (outs_of_issue (Ok answer)) refl s
+    (taken note old.hearer.core new o (packets_heard o past) e (outs_of_issue (Ok answer)) (sym c.is_down.ensures ∙ c.if-is_down.false) s.core
     (λ words k. refl)
-    (λ words k undue. issue_handled words c.args.job old.core.machine new answer (c.issue.ensures.answer words k) (c.issue.ensures.left words k))
+    (λ words k undue. issue_handled words c.args.job old.hearer.core.machine new answer (c.issue.ensures.answer words k) (c.issue.ensures.left words k))
     (λ o past. sendable c.frames_are_short.ensures c.packets_are_in_range.ensures o past e tt))

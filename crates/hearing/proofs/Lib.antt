@@ -1,0 +1,2 @@
+pub mod HearerLemmas
+pub mod NodeLemmas

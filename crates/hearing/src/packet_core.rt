@@ -1,0 +1,51 @@
+//! A core over packets: that of a server, or of the client.
+
+ghost use Rattle.std.specs.Prelude.{◌≡◌, List};
+ghost use Rattle.disk_model.specs.Steps.{Ends};
+ghost use Rattle.hearing.specs.Hearers.{Kind, Laws};
+
+use fc_base::Fault;
+use messages::{Packet, Piece};
+
+/// A core over packets.
+pub trait PacketCore {
+    /// What it answers and sends.
+    type Outs;
+
+    /// What it was opened with.
+    ghost Opening: { Type 0 };
+
+    /// What comes to it.
+    ghost Event: { Type 0 };
+
+    /// The entries of its list.
+    ghost Entry: { Type 0 };
+
+    /// What it adds to its note.
+    ghost Addition: { Type 0 };
+
+    /// Its kind, where it was opened so.
+    ghost kind: { Opening → Kind Self Event Entry Addition Self.Outs };
+
+    /// Whether it is on: no save has failed since it was started.
+    fn is_up(&self) -> bool
+        ensures { (o : Opening) (past : List Entry) → (kind o).core.StandsFor past self.now →
+            result ≡ (kind o).is_on past };
+
+    /// Whether a piece is for it.
+    fn is_for(&self, piece: &Piece) -> bool
+        ensures { (o : Opening) (past : List Entry) → (kind o).core.StandsFor past self.now →
+            result ≡ (kind o).is_for piece.now };
+
+    /// Takes a packet.
+    fn take(&mut self, packet: Packet) -> Result<Self::Outs, Fault>
+        ensures { (o : Opening) (past : List Entry) → (kind o).core.StandsFor past self.old →
+            Ends (kind o).core past ((kind o).delivers packet) self.old self.new result };
+
+    /// What it answers to a piece that is kept: nothing.
+    fn nothing(&self) -> Self::Outs
+        ensures { (o : Opening) → result ≡ (kind o).nothing };
+
+    /// Its kind keeps the laws of hearing.
+    ghost keeps_laws: { (o : Opening) → Laws (kind o) };
+}

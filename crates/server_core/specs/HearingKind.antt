@@ -1,0 +1,36 @@
+-- What kind of core over packets a server has, so that it hears frames.
+use Rattle.std.specs.Prelude.{refl, []}
+use Rattle.disk_model.specs.Notes.{Note}
+use Rattle.hearing.specs.Hearers.{Kind, Laws}
+use Rattle.server_core.specs.declared.event.Event.{Event}
+use Rattle.server_core.specs.declared.event.Event.TheVariants.{Deliver}
+use Rattle.server_core.specs.declared.outs.Outs.{Outs}
+use Rattle.server_core.specs.declared.packet_server.PacketServer.{PacketServer}
+use Rattle.server_core.specs.History.{Opening, Entry}
+use Rattle.server_core.specs.Words.{Staged, is_on}
+use Rattle.server_core.specs.Ends.{steps}
+use Rattle.server_core.specs.Handles.{sent_alone}
+use Rattle.server_core.specs.Hearing.{is_piece_for, is_end}
+use Rattle.server_core.specs.Ranges.{IsInRange}
+
+-- The kind of the core of a server that was opened so.
+abbrev pub hearing_kind : {T : Type 0} → (T → Note) → Opening →
+    Kind (PacketServer T) Event Entry Staged Outs
+hearing_kind note o = record {
+  core = steps note o;
+  delivers = Deliver;
+  is_on = is_on;
+  is_for = is_piece_for o.me;
+  ends = is_end;
+  nothing = sent_alone [];
+  IsInRange = IsInRange;
+}
+
+-- It keeps the laws of hearing.
+pub hearing_laws : {T : Type 0} (note : T → Note) (o : Opening) → Laws (hearing_kind note o)
+hearing_laws note o = record {
+  goes_on = λ x left. refl;
+  on_behind = λ past x left. refl;
+  stays = λ past x core stands. stands;
+  in_range = λ p range. range;
+}
