@@ -1,5 +1,5 @@
 -- Which lists of frames a client stands for, and how its calls end.
-use Rattle.std.specs.Prelude.{◌≡◌, ◌≢◌, ℕ, ◌+◌, ◌*◌, Bool, true, false, List, [], ◌∷◌, map}
+use Rattle.std.specs.Prelude.{◌≡◌, ◌≢◌, ℕ, ◌+◌, ◌*◌, Bool, true, List, [], ◌∷◌, map}
 use Rattle.std.specs.Prelude.{Result, Ok, Err, IsTrue}
 use Rattle.fc_base.specs.declared.limits.TheConstants.{MAX_SERVERS}
 use Rattle.fc_base.specs.declared.fault.Fault.{Fault}
@@ -7,32 +7,36 @@ use Rattle.disk_model.specs.declared.left.Left.TheVariants.{Saved}
 use Rattle.disk_model.specs.Notes.{Note}
 use Rattle.disk_model.specs.Steps.{Steps}
 use Rattle.messages.specs.FrameBytes.{frame_spelling}
-use Rattle.messages.specs.Senses.{is_drop}
 use Rattle.messages.specs.Ranges.{is_generation}
+use Rattle.hearing.specs.Hearers as hearers
+use Rattle.hearing.specs.Nodes as nodes
+use Rattle.hearing.specs.Nodes.{Node}
+use Rattle.client_core.specs.declared.call.Call.{Call}
+use Rattle.client_core.specs.declared.packet_client.PacketClient.{PacketClient}
 use Rattle.client_core.specs.declared.client.Client.{Client}
 use Rattle.client_core.specs.declared.input.Input.{Input}
 use Rattle.client_core.specs.declared.input.Input.TheVariants.{Tick}
 use Rattle.client_core.specs.declared.note.ClientNote.{ClientNote}
-use Rattle.client_core.specs.History.{Opening}
+use Rattle.client_core.specs.History.{Opening, Entry}
 use Rattle.client_core.specs.Note.{Says, new_note, spelling}
 use Rattle.client_core.specs.Words as words
 use Rattle.client_core.specs.Saves.{Addition}
 use Rattle.client_core.specs.Bounds.{AreShort, requests, most_copies}
 use Rattle.client_core.specs.Ranges.{OpensInRange, CameInRange}
 use Rattle.client_core.specs.Stands as whole
-use Rattle.client_core.specs.Hearing.{FrameEntry, Met, Restart, Renew, packets_heard, assembly}
-use Rattle.client_core.specs.FrameAnswers.{sense, frames, refusal, due, answered_entry}
+use Rattle.client_core.specs.Hearing.{FrameEntry, Met, Restart, Renew, arrival, coming_of, packets_heard}
+use Rattle.client_core.specs.FrameAnswers.{frames, answered_entry}
+use Rattle.client_core.specs.HearingKind.{hearing_kind}
 
 -- What a client's note says, by what is said of its notes.
 abbrev pub note_in : {T : Type 0} → (T → Note) → Client T → Note
-note_in note client = note client.core.durable.notes
+note_in note client = note client.hearer.core.durable.notes
 
 -- A client stands for a list of frames where its core stands for the packets that are heard in it,
 -- and, while it is on, keeps what has come together of pieces.
-pub record StandsFor {T : Type 0} (note : T → Note) (client : Client T) (o : Opening)
-    (past : List FrameEntry) : Type 0 where
-  pub core : whole.StandsFor note client.core o (packets_heard o past)
-  pub pieces : words.is_on (packets_heard o past) ≡ true → client.pieces ≡ assembly o past
+abbrev pub StandsFor : {T : Type 0} → (T → Note) → Client T → Opening → List FrameEntry → Type 0
+StandsFor note client o past =
+    hearers.StandsFor (hearing_kind note o) (map coming_of past) client.hearer
 
 -- A tick sends at most one packet to each server for each request of this life, and those to the
 -- mirror; any other input at most 8 packets.
@@ -49,20 +53,23 @@ pub record Sends (o : Opening) (past : List FrameEntry) (e : Input)
   pub short : OpensInRange o → CameInRange (packets_heard o past)
       → AreShort (most_packets o past e) sent
 
+-- A client as a node whose core hears frames.
+abbrev pub client_node : {T : Type 0} → (T → Note) → Opening →
+    Node (Client T) Input FrameEntry (PacketClient T) Call Entry Addition (List (List ℕ))
+client_node note o = record {
+  kind = hearing_kind note o;
+  hearer = λ client. client.hearer;
+  arrival = arrival;
+  coming = coming_of;
+  met = Met;
+  Sends = Sends o;
+}
+
 -- The steps of a client: its note, what its list says of what comes, and what is sent. What is
 -- refused leaves it as it was, but where it drops a tag: that alone changes.
 abbrev pub steps : {T : Type 0} → (T → Note) → Opening →
     Steps (Client T) Input FrameEntry Addition (List (List ℕ))
-steps note o = record {
-  note = λ client. note_in note client;
-  StandsFor = λ past client. StandsFor note client o past;
-  refusal = refusal o;
-  due = due o;
-  met = Met;
-  spelled = λ past. spelling (words.words_noted o (packets_heard o past));
-  Sends = Sends o;
-  Stays = λ past e client. is_drop (sense o past e) ≡ false → StandsFor note client o past;
-}
+steps note o = nodes.steps (client_node note o)
 
 -- For each list of which the durable bytes say what it says, the client stands for that list with a
 -- restart. They say something, so there is such a list: the empty one; and with a mirror they

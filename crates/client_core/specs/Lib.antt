@@ -8,6 +8,7 @@ pub mod FrameAnswers
 pub mod FrameEnds
 pub mod Framed
 pub mod Hearing
+pub mod HearingKind
 pub mod History
 pub mod Laws
 pub mod Life
@@ -21,7 +22,6 @@ pub mod ReportKeys
 pub mod Reports
 pub mod Requests
 pub mod Saves
-pub mod Sensing
 pub mod Standing
 pub mod Stands
 pub mod Told

@@ -14,6 +14,7 @@ use crate::packet_client::PacketClient;
 use crate::received::Received;
 use disk_model::Notes;
 use fc_base::{Fault, Generation, Key, RunNo, ServerNo};
+use hearing::Hearer;
 use messages::Assembly;
 use std::alloc::Global;
 use verify_state::VerifyState;
@@ -21,8 +22,7 @@ use verify_state::VerifyState;
 /// A client.
 #[derive(Drop)]
 pub struct Client<N> {
-    core: PacketClient<N>,
-    pieces: Assembly,
+    hearer: Hearer<PacketClient<N>>,
 }
 
 impl<N: Notes> Client<N> {
@@ -59,8 +59,10 @@ impl<N: Notes> Client<N> {
         }
         match ClientNote::decode(alloc, &bytes) {
             Ok(Some(noted)) => Ok(Client {
-                core: PacketClient::new(alloc, servers, mirror, notes, noted),
-                pieces: Assembly::new(alloc),
+                hearer: Hearer {
+                    core: PacketClient::new(alloc, servers, mirror, notes, noted),
+                    pieces: Assembly::new(alloc),
+                },
             }),
             Ok(None) => Err((notes, Fault::BadNote)),
             Err(_) => Err((notes, Fault::NoMemory)),
@@ -99,8 +101,10 @@ impl<N: Notes> Client<N> {
         };
         match notes.save(&bytes) {
             Ok(()) => Ok(Client {
-                core: PacketClient::new(alloc, servers, true, notes, noted),
-                pieces: Assembly::new(alloc),
+                hearer: Hearer {
+                    core: PacketClient::new(alloc, servers, true, notes, noted),
+                    pieces: Assembly::new(alloc),
+                },
             }),
             Err(fault) => Err((notes, fault)),
         }
@@ -112,7 +116,8 @@ impl<N: Notes> Client<N> {
         ensures says { (o : Opening) (past : List FrameEntry) → StandsFor N.note self o past →
             Says (N.note result).bytes (words_noted o (packets_heard o past)) }
     {
-        let Client { core, pieces: _ } = self;
+        let Client { hearer } = self;
+        let Hearer { core, pieces: _ } = hearer;
         let PacketClient { durable, .. } = core;
         durable.into_notes()
     }
@@ -123,7 +128,7 @@ impl<N: Notes> Client<N> {
         ensures says { (o : Opening) (past : List FrameEntry) → StandsFor N.note self.now o past →
             Says (N.note result.now).bytes (words_noted o (packets_heard o past)) }
     {
-        self.core.durable.notes()
+        self.hearer.core.durable.notes()
     }
 
     /// Whether it is on: a client whose save failed is down until it is restarted.
@@ -131,7 +136,7 @@ impl<N: Notes> Client<N> {
         ensures { (o : Opening) (past : List FrameEntry) → StandsFor N.note self.now o past →
             result ≡ is_on (packets_heard o past) }
     {
-        !self.core.durable.is_down()
+        !self.hearer.core.durable.is_down()
     }
 
     /// The number up to which runs are used: without a generation, how many were begun. Where a save has
@@ -140,7 +145,7 @@ impl<N: Notes> Client<N> {
         ensures { (o : Opening) (past : List FrameEntry) → StandsFor N.note self.now o past →
             result ≡ (words_noted o (shown_entries (packets_heard o past))).runs }
     {
-        self.core.noted.runs
+        self.hearer.core.noted.runs
     }
 
     /// The number up to which attempts to verify are used, likewise. Where a save has failed, up to it.
@@ -148,7 +153,7 @@ impl<N: Notes> Client<N> {
         ensures { (o : Opening) (past : List FrameEntry) → StandsFor N.note self.now o past →
             result ≡ (words_noted o (shown_entries (packets_heard o past))).attempts }
     {
-        self.core.noted.attempts
+        self.hearer.core.noted.attempts
     }
 
     /// Whether its note says what a blank one says: nothing was begun, and no state is kept. Where a save
@@ -157,7 +162,7 @@ impl<N: Notes> Client<N> {
         ensures { (o : Opening) (past : List FrameEntry) → StandsFor N.note self.now o past →
             result ≡ is_blank (words_noted o (shown_entries (packets_heard o past))) }
     {
-        self.core.noted.is_blank()
+        self.hearer.core.noted.is_blank()
     }
 
     /// The kept state of a key. Where a save has failed, up to it.
@@ -165,7 +170,7 @@ impl<N: Notes> Client<N> {
         ensures { (o : Opening) (past : List FrameEntry) → StandsFor N.note self.now o past →
             option_copied result ≡ kept_state o (shown_entries (packets_heard o past)) key }
     {
-        self.core.noted.kept.get(key)
+        self.hearer.core.noted.kept.get(key)
     }
 
     /// The reports of this life, in order of arrival: of each attempt, server and job the first that
@@ -174,7 +179,7 @@ impl<N: Notes> Client<N> {
         ensures { (o : Opening) (past : List FrameEntry) → StandsFor N.note self.now o past →
             result.now ≡ reports (life o (shown_entries (packets_heard o past))) }
     {
-        self.core.life.reports.as_slice()
+        self.hearer.core.life.reports.as_slice()
     }
 
     /// How a request of this life stands at a server, by the number of its run or attempt. Where a save
@@ -183,9 +188,9 @@ impl<N: Notes> Client<N> {
         ensures { (o : Opening) (past : List FrameEntry) → StandsFor N.note self.now o past →
             result ≡ outcome o (shown_entries (packets_heard o past)) kind number server }
     {
-        let servers = self.core.peers.servers.count();
+        let servers = self.hearer.core.peers.servers.count();
         if server.0 < servers {
-            self.core.life.outcome(kind, number, server.0)
+            self.hearer.core.life.outcome(kind, number, server.0)
         } else {
             Outcome::None
         }
@@ -197,8 +202,8 @@ impl<N: Notes> Client<N> {
         ensures { (o : Opening) (past : List FrameEntry) → StandsFor N.note self.now o past →
             result ≡ is_settled o (shown_entries (packets_heard o past)) run }
     {
-        let servers = self.core.peers.servers.count();
-        self.core.life.settled(run, servers)
+        let servers = self.hearer.core.peers.servers.count();
+        self.hearer.core.life.settled(run, servers)
     }
 }
 

@@ -9,6 +9,7 @@ ghost use Rattle.client_core.specs.Words.{would_save};
 
 mod begin;
 mod deliver;
+mod packet_core;
 mod save;
 mod tick;
 mod trigger;

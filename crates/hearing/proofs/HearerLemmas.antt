@@ -10,7 +10,6 @@ use Rattle.fc_base.specs.Fault.{sort_of}
 use Rattle.disk_model.specs.declared.left.Left.{Left}
 use Rattle.disk_model.specs.declared.left.Left.TheVariants.{NoSave}
 use Rattle.disk_model.specs.Left.{saved_for, is_lost, bytes_left}
-use Rattle.disk_model.specs.Notes.{Note}
 use Rattle.disk_model.specs.Steps.{LeavesNote, Answers, Refuses, Faults, Ends, answered}
 use Rattle.disk_model.proofs.StepLemmas.{on_before, off_lost}
 use Rattle.messages.specs.declared.packet.PacketParts.{PacketParts}

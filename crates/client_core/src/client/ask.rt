@@ -26,7 +26,7 @@ impl<N: Notes> Client<N> {
             (words_noted o (packets_heard o past)).runs self.old self.new result }
     {
         frames_are_short();
-        self.core.begin(text)
+        self.hearer.core.begin(text)
     }
 
     /// Whether a run with this job file would be begun, and so make a save.
@@ -34,7 +34,7 @@ impl<N: Notes> Client<N> {
         ensures { (o : Opening) (past : List FrameEntry) → StandsFor N.note self.now o past →
             result ≡ is_some (due o past (inputs.Begin text.now)) }
     {
-        self.core.begin_would_save(text)
+        self.hearer.core.begin_would_save(text)
     }
 
     /// Triggers the verify states of a run at each server, which then is to do this.
@@ -45,7 +45,7 @@ impl<N: Notes> Client<N> {
             Ends (steps N.note o) past (inputs.Trigger run act) self.old self.new result }
     {
         frames_are_short();
-        self.core.trigger(run, act)
+        self.hearer.core.trigger(run, act)
     }
 
     /// Stops a run at each server, which issues no more writes of it.
@@ -56,7 +56,7 @@ impl<N: Notes> Client<N> {
             Ends (steps N.note o) past (inputs.Stop run) self.old self.new result }
     {
         frames_are_short();
-        self.core.stop(run)
+        self.hearer.core.stop(run)
     }
 
     /// Checks the files of a run by this job file at each server. The attempt's number is saved before
@@ -70,7 +70,7 @@ impl<N: Notes> Client<N> {
             (words_noted o (packets_heard o past)).attempts self.old self.new result }
     {
         frames_are_short();
-        self.core.verify(run, text)
+        self.hearer.core.verify(run, text)
     }
 
     /// Whether a run would be verified by this job file, and so make a save.
@@ -78,7 +78,7 @@ impl<N: Notes> Client<N> {
         ensures { (o : Opening) (past : List FrameEntry) → StandsFor N.note self.now o past →
             result ≡ is_some (due o past (inputs.Verify run text.now)) }
     {
-        self.core.verify_would_save(run, text)
+        self.hearer.core.verify_would_save(run, text)
     }
 
     /// Asks again for all that isn't answered: of the mirror the grant of the generation; of the servers, by
@@ -91,6 +91,6 @@ impl<N: Notes> Client<N> {
             Ends (steps N.note o) past inputs.Tick self.now self.now result }
     {
         frames_are_short();
-        self.core.tick()
+        self.hearer.core.tick()
     }
 }

@@ -9,5 +9,5 @@ use Rattle.client_core.proofs.client.Client.begin.Goals as goal
 pub returns : goal.returns
 returns g c o past s =
     whole_gives g.N.Notes.note o past (inputs.Begin c.args.text.now) (calls.Begin c.args.text.now)
-    (words_noted o (packets_heard o past)).runs c.args.self.now c.begin.new.self c.begin.result c.frames_are_short.ensures tt refl refl s
+    (words_noted o (packets_heard o past)).runs c.args.self.now c.begin.new.self c.begin.result c.frames_are_short.ensures tt refl s
     (c.begin.ensures o (packets_heard o past) s.core)

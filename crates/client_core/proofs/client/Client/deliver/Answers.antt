@@ -1,8 +1,15 @@
--- What is heard of a frame is within its ranges, whole or in pieces.
+-- A frame is taken by what hears in the client.
+use Rattle.std.specs.Prelude.{map}
+use Rattle.client_core.specs.declared.input.Input.TheVariants.{Deliver}
+use Rattle.client_core.specs.Hearing.{coming_of}
+use Rattle.client_core.proofs.FrameEndLemmas.{hearer_ends}
 use Rattle.client_core.proofs.client.Client.deliver.Goals as goal
 
-pub returns-in-Whole-clause-ranges : goal.returns-in-Whole-clause-ranges
-returns-in-Whole-clause-ranges g c o past s = rw c.in-Whole.is (c.take.ensures.ranges o past s)
+pub returns-clause-ends : goal.returns-clause-ends
+returns-clause-ends g c o past s =
+    let taken = c.deliver.ensures o (map coming_of past) s in
+    hearer_ends g.N.Notes.note o past (Deliver c.args.frame) c.args.self.now (record { hearer = c.deliver.new.self }) c.deliver.result
+    c.frames_are_short.ensures taken.1 taken.0
 
-pub returns-in-Piece-clause-ranges : goal.returns-in-Piece-clause-ranges
-returns-in-Piece-clause-ranges g c o past s = rw c.in-Piece.is (c.join.ensures.ranges o past s)
+pub returns-clause-ranges : goal.returns-clause-ranges
+returns-clause-ranges g c o past s = (c.deliver.ensures o (map coming_of past) s).1

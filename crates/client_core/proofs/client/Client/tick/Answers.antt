@@ -7,5 +7,5 @@ use Rattle.client_core.proofs.client.Client.tick.Goals as goal
 
 pub returns : goal.returns
 returns g c o past s =
-    whole_ends g.N.Notes.note o past (inputs.Tick) (calls.Tick) c.args.self.now c.args.self.now.core c.tick.result c.frames_are_short.ensures tt refl refl s
+    whole_ends g.N.Notes.note o past (inputs.Tick) (calls.Tick) c.args.self.now c.args.self.now.hearer.core c.tick.result c.frames_are_short.ensures tt refl s
     (c.tick.ensures o (packets_heard o past) s.core)

@@ -8,5 +8,5 @@ use Rattle.client_core.proofs.client.Client.trigger.Goals as goal
 pub returns : goal.returns
 returns g c o past s =
     whole_ends g.N.Notes.note o past (inputs.Trigger c.args.run c.args.act)
-    (calls.Trigger c.args.run c.args.act) c.args.self.now c.trigger.new.self c.trigger.result c.frames_are_short.ensures tt refl refl s
+    (calls.Trigger c.args.run c.args.act) c.args.self.now c.trigger.new.self c.trigger.result c.frames_are_short.ensures tt refl s
     (c.trigger.ensures o (packets_heard o past) s.core)

@@ -9,5 +9,5 @@ use Rattle.client_core.proofs.client.Client.verify.Goals as goal
 pub returns : goal.returns
 returns g c o past s =
     whole_gives g.N.Notes.note o past (inputs.Verify c.args.run c.args.text.now) (calls.Verify c.args.run c.args.text.now)
-    (words_noted o (packets_heard o past)).attempts c.args.self.now c.verify.new.self c.verify.result c.frames_are_short.ensures tt refl refl s
+    (words_noted o (packets_heard o past)).attempts c.args.self.now c.verify.new.self c.verify.result c.frames_are_short.ensures tt refl s
     (c.verify.ensures o (packets_heard o past) s.core)

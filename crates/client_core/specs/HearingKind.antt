@@ -1,0 +1,35 @@
+-- What kind of core over packets a client has, so that it hears frames.
+use Rattle.std.specs.Prelude.{refl, ℕ, List, []}
+use Rattle.disk_model.specs.Notes.{Note}
+use Rattle.hearing.specs.Hearers.{Kind, Laws}
+use Rattle.client_core.specs.declared.call.Call.{Call}
+use Rattle.client_core.specs.declared.call.Call.TheVariants.{Deliver}
+use Rattle.client_core.specs.declared.packet_client.PacketClient.{PacketClient}
+use Rattle.client_core.specs.History.{Opening, Entry}
+use Rattle.client_core.specs.Words.{is_on}
+use Rattle.client_core.specs.Saves.{Addition}
+use Rattle.client_core.specs.Ends.{steps}
+use Rattle.client_core.specs.Hearing.{is_piece_for, is_end}
+use Rattle.client_core.specs.Ranges.{IsInRange}
+
+-- The kind of the core of a client that was opened so.
+abbrev pub hearing_kind : {T : Type 0} → (T → Note) → Opening →
+    Kind (PacketClient T) Call Entry Addition (List (List ℕ))
+hearing_kind note o = record {
+  core = steps note o;
+  delivers = Deliver;
+  is_on = is_on;
+  is_for = is_piece_for o.servers;
+  ends = is_end;
+  nothing = [];
+  IsInRange = IsInRange;
+}
+
+-- It keeps the laws of hearing.
+pub hearing_laws : {T : Type 0} (note : T → Note) (o : Opening) → Laws (hearing_kind note o)
+hearing_laws note o = record {
+  goes_on = λ x left. refl;
+  on_behind = λ past x left. refl;
+  stays = λ past x core stands. stands;
+  in_range = λ p range. range;
+}
