@@ -41,11 +41,11 @@ opened_once note servers notes client h = h.stands (opening_by servers h.said) [
 
 -- It knew then what its note said.
 pub said_then : {T : Type 0} (note : T → Note) (servers : ℕ) (notes : T) (client : Client T) (h : Opens note servers false (note notes) client)
-    → client.core.noted ≡ h.said
+    → client.hearer.core.noted ≡ h.said
 said_then note servers notes client h = (opened_once note servers notes client h).core.knows
 
 pub seen_said : {T : Type 0} (note : T → Note) (servers : ℕ) (notes : T) (client seen : Client T) (h : Opens note servers false (note notes) client)
-    → seen ≡ client → seen.core.noted ≡ h.said
+    → seen ≡ client → seen.hearer.core.noted ≡ h.said
 seen_said note servers notes client seen h is = rw is (said_then note servers notes client h)
 
 pub new_cell : {T : Type 0} (note : T → Note) (servers : ℕ) (notes : T) (client seen : Client T) (h : Opens note servers false (note notes) client)

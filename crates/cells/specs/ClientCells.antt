@@ -21,7 +21,7 @@ pub record ClientLog : Type 0 where
 
 -- With how many servers, and over what note, a client was opened that was then so.
 abbrev pub opening_of : {T : Type 0} → ℕ → Client T → Opening
-opening_of servers client = record { servers = servers; noted = client.core.noted }
+opening_of servers client = record { servers = servers; noted = client.hearer.core.noted }
 
 -- The history makes this list by the rules.
 abbrev pub IsReplay : ClientLog → List FrameEntry → Type 0

@@ -72,7 +72,7 @@ impl<N: Notes + Drop> Model for ClientCell<N> {
           history = reverse c.history.items;
           failures = failures_of N.note c.power;
         }) c.power
-        × (c.is_blank ≡ says_nothing c.opened.value.core.noted) };
+        × (c.is_blank ≡ says_nothing c.opened.value.hearer.core.noted) };
 }
 
 impl<N: Notes + Drop> ClientCell<N> {
