@@ -1,8 +1,27 @@
-use Rattle.std.proofs.Common.{refl}
+use Rattle.std.proofs.Common.{refl, ap}
 use Rattle.std.proofs.lemmas.Result.{err_from_is_err_and}
 use Rattle.client_core.specs.declared.input.Input.TheVariants as inputs
-use Rattle.cells.proofs.ClientPowerLemmas.{unasked, heard, unanswered, sent_ends}
+use Rattle.cells.specs.declared.answer.Answer.TheVariants.{Run, Attempt}
+use Rattle.cells.proofs.ClientPowerLemmas.{unasked, heard, answered, unanswered, sent_ends}
 use Rattle.cells.proofs.client_cell.power.ask.Goals as goal
+
+pub returns-in_ok-run-in-Begin-clause-ends : goal.returns-in_ok-run-in-Begin-clause-ends
+returns-in_ok-run-in-Begin-clause-ends g c o past on s =
+    let read = c.as_slice in
+    let given = c.in_ok-run-in-Begin in
+    let ends = given.ensures o past s in
+    rw (c.in-Begin.is, ← read.ensures.value)
+    (answered g.N.Notes.note o past (inputs.Begin read.result.now) c.args.client.now c.begin.new.self
+    (record { answer = Run given.run'; frames = given.frames }) on (ap Run ends.0) tt ends.1)
+
+pub returns-in_ok-attempt-in-Verify-clause-ends : goal.returns-in_ok-attempt-in-Verify-clause-ends
+returns-in_ok-attempt-in-Verify-clause-ends g c o past on s =
+    let read = c.as_slice-in-Verify in
+    let given = c.in_ok-attempt-in-Verify in
+    let ends = given.ensures o past s in
+    rw (c.in-Verify.is, ← read.ensures.value)
+    (answered g.N.Notes.note o past (inputs.Verify c.in-Verify.run' read.result.now) c.args.client.now c.verify.new.self
+    (record { answer = Attempt given.attempt; frames = given.frames }) on (ap Attempt ends.0) tt ends.1)
 
 pub returns-in_err-run-in-Begin-clause-ends : goal.returns-in_err-run-in-Begin-clause-ends
 returns-in_err-run-in-Begin-clause-ends g c o past on s =
