@@ -12,3 +12,4 @@ pub mod MoveLemmas
 pub mod PowerLemmas
 pub mod ServerStarts
 pub mod StepLemmas
+pub mod Sending

@@ -17,18 +17,19 @@ use Rattle.cells.specs.ClientRules.{core}
 -- The kind of a client that was opened so.
 abbrev pub client_kind : {T : Type 0} → (T → Note) → Opening →
     Kind (Client T) T Input FrameEntry Addition (List (List ℕ))
-client_kind note o = record {
-  node = nodes.client_kind note o;
-  core = core o;
-  InRange = λ past. CameInRange (packets_heard o past);
+client_kind note opening = record {
+  node = nodes.client_kind note opening;
+  core = core opening;
+  InRange = λ past. CameInRange (packets_heard opening past);
   SendsFew = λ past e sent.
-      OpensInRange o → CameInRange (packets_heard o past) → AreShort (most_packets o past e) sent;
+      OpensInRange opening → CameInRange (packets_heard opening past) →
+      AreShort (most_packets opening past e) sent;
 }
 
 -- A cut of a client is one as of any node.
-pub client_is_cut : {T : Type 0} (note : T → Note) (o : Opening) (past : List FrameEntry) →
-    IsCut (client_kind note o) past
-client_is_cut note o past = record {
+pub client_is_cut : {T : Type 0} (note : T → Note) (opening : Opening) (past : List FrameEntry) →
+    IsCut (client_kind note opening) past
+client_is_cut note opening past = record {
   same_up = refl;
   sends_none = refl;
   off = refl;

@@ -37,29 +37,30 @@ ask_of _ = Nothing
 
 -- A begin is answered by its run, a verify by its attempt.
 abbrev pub answer_to : Opening → List FrameEntry → Input → Answer
-answer_to o past (inputs.Begin text) = Run ((words_noted o (packets_heard o past)).runs + 1)
-answer_to o past (inputs.Verify run text) =
-    Attempt ((words_noted o (packets_heard o past)).attempts + 1)
-answer_to o past _ = Plain
+answer_to opening past (inputs.Begin text) =
+    Run ((words_noted opening (packets_heard opening past)).runs + 1)
+answer_to opening past (inputs.Verify run text) =
+    Attempt ((words_noted opening (packets_heard opening past)).attempts + 1)
+answer_to opening past _ = Plain
 
 -- What is known of the core of a client, which asks nothing of its caller. A restart is one without
 -- a mirror, and saves nothing; a renewal and the loss of a note are never added.
 abbrev pub core : Opening → CoreRules Input FrameEntry
-core o = record {
+core opening = record {
   asked = ask_of;
-  is_up = is_up o;
-  refusal = answers.refusal o;
+  is_up = is_up opening;
+  refusal = answers.refusal opening;
   spent = λ past. None;
-  said = λ past e. record { answer = answer_to o past e; act = acts.None };
-  answered = answers.answered_entry o;
+  said = λ past e. record { answer = answer_to opening past e; act = acts.None };
+  answered = answers.answered_entry opening;
   dropped = λ e. Met e NoSave;
-  unsaved = λ past e left. option_map (λ addition. Met e left) (answers.due o past e);
+  unsaved = λ past e left. option_map (λ addition. Met e left) (answers.due opening past e);
   cut = Cut;
   started = Restart false;
   unstarted = λ left. None;
-  frames = answers.frames o;
+  frames = answers.frames opening;
 }
 
 -- The rules of a client that opens by a restart without a mirror.
 abbrev pub rules : Opening → Rules Input FrameEntry
-rules o = rules_of (core o)
+rules opening = rules_of (core opening)

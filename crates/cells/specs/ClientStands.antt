@@ -19,7 +19,7 @@ use Rattle.cells.specs.declared.client_cell.outs.ClientOuts.{ClientOuts}
 -- says what the list says.
 abbrev pub Stands : {T : Type 0} → (T → Note) → Opening → List FrameEntry → Power (Client T) T
     → Type 0
-Stands note o past power = nodes.Stands (client_kind note o).node past power
+Stands note opening past power = nodes.Stands (client_kind note opening).node past power
 
 -- How often the device of its note has failed.
 abbrev pub failures_of : {T : Type 0} → (T → Note) → Power (Client T) T → ℕ

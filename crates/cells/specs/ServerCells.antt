@@ -23,13 +23,13 @@ pub record ServerLog : Type 0 where
 
 -- It was opened over a note that says of no boot and no run.
 abbrev pub is_blank : Opening → Bool
-is_blank o = (o.boot == 0) && (o.last == 0)
+is_blank opening = (opening.boot == 0) && (opening.last == 0)
 
 -- A history is numbered, and makes this list by the rules of a server that was opened so.
-pub record Replays (o : Opening) (history : List HistoryEntry)
+pub record Replays (opening : Opening) (history : List HistoryEntry)
     (past : List FrameEntry) : Type 0 where
   pub numbered : IsNumbered history
-  pub made : Makes (rules o) history past
+  pub made : Makes (rules opening) history past
 
 -- That of the cell does.
 abbrev pub IsReplay : ServerLog → List FrameEntry → Type 0
@@ -42,9 +42,9 @@ pub record AreCounted (applied : List ℕ) (history : List HistoryEntry) : Type 
 
 -- What is true of every cell: the server stands for a list that its history makes, in which all is
 -- in its ranges, and the events of each seat are numbered and counted.
-pub record IsCell {T : Type 0} (note : T → Note) (o : Opening) (power : Power (Server T) T)
+pub record IsCell {T : Type 0} (note : T → Note) (opening : Opening) (power : Power (Server T) T)
     (history : List HistoryEntry) (applied : List ℕ) : Type 0 where
-  pub kept : IsKept (server_kind note o) history power
+  pub kept : IsKept (server_kind note opening) history power
   pub numbered : IsNumbered history
-  pub opens : OpensInRange o
+  pub opens : OpensInRange opening
   pub counted : AreCounted applied history

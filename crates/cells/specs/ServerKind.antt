@@ -17,17 +17,18 @@ use Rattle.cells.specs.ServerRules.{core}
 -- The kind of a server that was opened so.
 abbrev pub server_kind : {T : Type 0} → (T → Note) → Opening →
     Kind (Server T) T Input FrameEntry Staged Outs
-server_kind note o = record {
-  node = nodes.server_kind note o;
-  core = core o;
-  InRange = λ past. CameInRange (packets_heard o past);
-  SendsFew = λ past e sent. OpensInRange o → CameInRange (packets_heard o past) → AreShort sent;
+server_kind note opening = record {
+  node = nodes.server_kind note opening;
+  core = core opening;
+  InRange = λ past. CameInRange (packets_heard opening past);
+  SendsFew = λ past e sent. OpensInRange opening → CameInRange (packets_heard opening past) →
+      AreShort sent;
 }
 
 -- A cut of a server is one as of any node.
-pub server_is_cut : {T : Type 0} (note : T → Note) (o : Opening) (past : List FrameEntry) →
-    IsCut (server_kind note o) past
-server_is_cut note o past = record {
+pub server_is_cut : {T : Type 0} (note : T → Note) (opening : Opening) (past : List FrameEntry) →
+    IsCut (server_kind note opening) past
+server_is_cut note opening past = record {
   same_up = refl;
   sends_none = refl;
   off = refl;

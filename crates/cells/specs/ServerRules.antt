@@ -48,22 +48,26 @@ answer_of (Some issue) = Issued issue
 
 -- What is known of the core of a server.
 abbrev pub core : Opening → CoreRules Input FrameEntry
-core o = record {
+core opening = record {
   asked = ask_of;
-  is_up = is_up o;
-  refusal = answers.refusal o;
-  spent = λ past. if has_boot o (packets_heard o past) then None else Some NumbersSpent;
+  is_up = is_up opening;
+  refusal = answers.refusal opening;
+  spent = λ past. if has_boot opening (packets_heard opening past) then None else Some NumbersSpent;
   said = λ past e.
-      record { answer = answer_of (answers.issue o past e); act = answers.act o past e };
-  answered = answers.answered_entry o;
+      record {
+        answer = answer_of (answers.issue opening past e);
+        act =
+            answers.act opening past e;
+      };
+  answered = answers.answered_entry opening;
   dropped = λ e. Met e NoSave;
-  unsaved = λ past e left. option_map (λ began. Met e left) (answers.due o past e);
+  unsaved = λ past e left. option_map (λ began. Met e left) (answers.due opening past e);
   cut = Cut;
   started = Restart Saved;
   unstarted = λ left. Some (Restart left);
-  frames = answers.frames o;
+  frames = answers.frames opening;
 }
 
 -- The rules of a server that opens by a restart.
 abbrev pub rules : Opening → Rules Input FrameEntry
-rules o = rules_of (core o)
+rules opening = rules_of (core opening)

@@ -18,7 +18,7 @@ use Rattle.cells.specs.ServerRules.{answer_of}
 -- says what the list says.
 abbrev pub Stands : {T : Type 0} → (T → Note) → Opening → List FrameEntry → Power (Server T) T
     → Type 0
-Stands note o past power = nodes.Stands (server_kind note o).node past power
+Stands note opening past power = nodes.Stands (server_kind note opening).node past power
 
 -- How often the device of its note has failed.
 abbrev pub failures_of : {T : Type 0} → (T → Note) → Power (Server T) T → ℕ

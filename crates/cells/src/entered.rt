@@ -29,8 +29,9 @@ pub fn make_room<N: Drop, C: NodeCore<N>>(
     frames: usize,
     bytes: usize,
 ) -> Result<(), Fault>
-    ensures ready { (o : C.Opening) (past : List C.Entry) → Stands (C.kind o) past power.now →
-        IsReady ((C.kind o).is_up past) result }
+    ensures ready { (opening : C.Opening) (past : List C.Entry) →
+        Stands (C.kind opening) past power.now →
+        IsReady ((C.kind opening).is_up past) result }
     ensures place { OnOk result (1 ≤ history.new.room) }
     ensures room { OnOk result (HasRoom hub.new.room frames bytes) }
     ensures items { history.new.items ≡ history.old.items }

@@ -38,3 +38,4 @@ mod AllTicksLemmas
 mod TriggerLemmas
 mod UnaskedLemmas
 mod WithinLemmas
+pub mod Sending

@@ -19,23 +19,24 @@ is_request _ = true
 
 -- How many requests were made in this life.
 abbrev pub requests : Opening → List Entry → ℕ
-requests o past = length (filter is_request (life o past))
+requests opening past = length (filter is_request (life opening past))
 
 -- How many packets a tick sends to the mirror at most: one, and one for each kept state.
 abbrev pub most_copies : Opening → List Entry → ℕ
-most_copies o past = if has_mirror past then 1 + length (words_noted o past).kept else 0
+most_copies opening past = if has_mirror past then 1 + length (words_noted opening past).kept else 0
 
 -- A tick sends at most one packet to each server for each request of this life, and those to the
 -- mirror; any other call at most 8 packets.
 abbrev pub most_packets : Opening → List Entry → Call → ℕ
-most_packets o past Tick = o.servers * requests o past + most_copies o past
-most_packets o past _ = MAX_SERVERS
+most_packets opening past Tick = opening.servers * requests opening past + most_copies opening past
+most_packets opening past _ = MAX_SERVERS
 
 -- A call sends no more.
 abbrev pub PacketsAreFew : Type 0
 PacketsAreFew =
-    (o : Opening) (past : List Entry) (c : Call) (left : Left) →
-    o.servers ≤ MAX_SERVERS → length (packets o past (Met c left)) ≤ most_packets o past c
+    (opening : Opening) (past : List Entry) (c : Call) (left : Left) →
+    opening.servers ≤ MAX_SERVERS →
+    length (packets opening past (Met c left)) ≤ most_packets opening past c
 
 -- The frames are those of at most so many packets: 17 for each, of together 17,233 bytes.
 pub record AreShort (most : ℕ) (frames : List (List ℕ)) : Type 0 where
@@ -45,6 +46,6 @@ pub record AreShort (most : ℕ) (frames : List (List ℕ)) : Type 0 where
 -- What a call sends is short, where what came is within its ranges.
 abbrev pub FramesAreShort : Type 0
 FramesAreShort =
-    (o : Opening) (past : List Entry) (c : Call) (left : Left) →
-    OpensInRange o → CameInRange (Met c left ∷ past) →
-    AreShort (most_packets o past c) (frame_bytes (packets o past (Met c left)))
+    (opening : Opening) (past : List Entry) (c : Call) (left : Left) →
+    OpensInRange opening → CameInRange (Met c left ∷ past) →
+    AreShort (most_packets opening past c) (frame_bytes (packets opening past (Met c left)))

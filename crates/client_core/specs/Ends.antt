@@ -18,21 +18,22 @@ use Rattle.client_core.specs.Stands.{StandsFor}
 
 -- What an answered call leaves in the list: it saved, where it was due to.
 abbrev pub answered_entry : Opening → List Entry → Call → Entry
-answered_entry o past c = Met c (saved_for (due o past c))
+answered_entry opening past c = Met c (saved_for (due opening past c))
 
 -- The steps of a client that takes packets: its note, what its list says of a call, and what is
 -- sent. A refused call leaves it as it was.
 abbrev pub steps : {T : Type 0} → (T → Note) → Opening →
     Steps (PacketClient T) Call Entry Addition (List (List ℕ))
-steps note o = record {
+steps note opening = record {
   note = λ client. note client.durable.notes;
-  StandsFor = λ past client. StandsFor note client o past;
-  refusal = refusal o;
-  due = due o;
+  StandsFor = λ past client. StandsFor note client opening past;
+  refusal = refusal opening;
+  due = due opening;
   met = Met;
-  spelled = λ past. spelling (words_noted o past);
-  Sends = λ past c frames. frames ≡ frame_bytes (packets o past (answered_entry o past c));
-  Stays = λ past c client. StandsFor note client o past;
+  spelled = λ past. spelling (words_noted opening past);
+  Sends = λ past c frames.
+      frames ≡ frame_bytes (packets opening past (answered_entry opening past c));
+  Stays = λ past c client. StandsFor note client opening past;
 }
 
 -- The save of what is noted so, and what it leaves of a client.

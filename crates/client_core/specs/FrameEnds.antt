@@ -35,41 +35,42 @@ note_in note client = note client.hearer.core.durable.notes
 -- A client stands for a list of frames where its core stands for the packets that are heard in it,
 -- and, while it is on, keeps what has come together of pieces.
 abbrev pub StandsFor : {T : Type 0} → (T → Note) → Client T → Opening → List FrameEntry → Type 0
-StandsFor note client o past =
-    hearers.StandsFor (hearing_kind note o) (map coming_of past) client.hearer
+StandsFor note client opening past =
+    hearers.StandsFor (hearing_kind note opening) (map coming_of past) client.hearer
 
 -- A tick sends at most one packet to each server for each request of this life, and those to the
 -- mirror; any other input at most 8 packets.
 abbrev pub most_packets : Opening → List FrameEntry → Input → ℕ
-most_packets o past Tick =
-    o.servers * requests o (packets_heard o past) + most_copies o (packets_heard o past)
-most_packets o past _ = MAX_SERVERS
+most_packets opening past Tick =
+    opening.servers * requests opening (packets_heard opening past)
+    + most_copies opening (packets_heard opening past)
+most_packets opening past _ = MAX_SERVERS
 
 -- The frames that are sent are those of the list; and where the packets that were heard keep their
 -- ranges, they are few and short.
-pub record Sends (o : Opening) (past : List FrameEntry) (e : Input)
+pub record Sends (opening : Opening) (past : List FrameEntry) (e : Input)
     (sent : List (List ℕ)) : Type 0 where
-  pub frames_are : sent ≡ map frame_spelling (frames o past (answered_entry o past e))
-  pub short : OpensInRange o → CameInRange (packets_heard o past)
-      → AreShort (most_packets o past e) sent
+  pub frames_are : sent ≡ map frame_spelling (frames opening past (answered_entry opening past e))
+  pub short : OpensInRange opening → CameInRange (packets_heard opening past)
+      → AreShort (most_packets opening past e) sent
 
 -- A client as a node whose core hears frames.
 abbrev pub client_node : {T : Type 0} → (T → Note) → Opening →
     Node (Client T) Input FrameEntry (PacketClient T) Call Entry Addition (List (List ℕ))
-client_node note o = record {
-  kind = hearing_kind note o;
+client_node note opening = record {
+  kind = hearing_kind note opening;
   hearer = λ client. client.hearer;
   arrival = arrival;
   coming = coming_of;
   met = Met;
-  Sends = Sends o;
+  Sends = Sends opening;
 }
 
 -- The steps of a client: its note, what its list says of what comes, and what is sent. What is
 -- refused leaves it as it was, but where it drops a tag: that alone changes.
 abbrev pub steps : {T : Type 0} → (T → Note) → Opening →
     Steps (Client T) Input FrameEntry Addition (List (List ℕ))
-steps note o = nodes.steps (client_node note o)
+steps note opening = nodes.steps (client_node note opening)
 
 -- For each list of which the durable bytes say what it says, the client stands for that list with a
 -- restart. They say something, so there is such a list: the empty one; and with a mirror they
@@ -81,9 +82,9 @@ pub record Opens {T : Type 0} (note : T → Note) (servers : ℕ) (mirror : Bool
   pub said : ClientNote
   pub says : Says old.bytes said
   pub stands :
-      (o : Opening) (past : List FrameEntry) → o.servers ≡ servers →
-      Says old.bytes (words.words_noted o (packets_heard o past)) →
-      StandsFor note client o (Restart mirror ∷ past)
+      (opening : Opening) (past : List FrameEntry) → opening.servers ≡ servers →
+      Says old.bytes (words.words_noted opening (packets_heard opening past)) →
+      StandsFor note client opening (Restart mirror ∷ past)
 
 -- A client is opened, or the notes come back with the reason.
 abbrev pub Restarts : {T : Type 0} → (T → Note) → ℕ → Bool → Note → Result (Client T) (T × Fault)
@@ -99,9 +100,9 @@ pub record BeginsAnew {T : Type 0} (note : T → Note) (servers g : ℕ) (old : 
   pub empty : old.bytes ≡ []
   pub leaves : note_in note client ≡ record old { bytes = spelling (new_note g) }
   pub stands :
-      (o : Opening) (past : List FrameEntry) → o.servers ≡ servers →
-      Says old.bytes (words.words_noted o (packets_heard o past)) →
-      StandsFor note client o (Renew g Saved ∷ past)
+      (opening : Opening) (past : List FrameEntry) → opening.servers ≡ servers →
+      Says old.bytes (words.words_noted opening (packets_heard opening past)) →
+      StandsFor note client opening (Renew g Saved ∷ past)
 
 -- A client is renewed, or the notes come back with the reason.
 abbrev pub Renews : {T : Type 0} → (T → Note) → ℕ → ℕ → Note → Result (Client T) (T × Fault)

@@ -40,12 +40,12 @@ is_end history.Lose = true
 
 -- How a client hears.
 abbrev pub rules : Opening → Rules Call history.Entry Left
-rules o = record {
+rules opening = record {
   delivers = calls.Deliver;
   met = history.Met;
-  refusal = refusal o;
+  refusal = refusal opening;
   is_on = is_on;
-  is_for = is_piece_for o.servers;
+  is_for = is_piece_for opening.servers;
   ends = is_end;
 }
 
@@ -68,16 +68,16 @@ coming_of Lose = Happens history.Lose
 
 -- What a client has heard.
 abbrev pub heard_at : Opening → List FrameEntry → Heard history.Entry
-heard_at o past = heard (rules o) (map coming_of past)
+heard_at opening past = heard (rules opening) (map coming_of past)
 
 -- The list of packets that a list of frames says.
 abbrev pub packets_heard : Opening → List FrameEntry → List history.Entry
-packets_heard o past = (heard_at o past).entries
+packets_heard opening past = (heard_at opening past).entries
 
 -- It is on, by the list.
 abbrev pub is_up : Opening → List FrameEntry → Bool
-is_up o past = is_on (packets_heard o past)
+is_up opening past = is_on (packets_heard opening past)
 
 -- What has come together of pieces.
 abbrev pub assembly : Opening → List FrameEntry → List Row
-assembly o past = (heard_at o past).rows
+assembly opening past = (heard_at opening past).rows

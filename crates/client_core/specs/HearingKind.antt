@@ -15,19 +15,20 @@ use Rattle.client_core.specs.Ranges.{IsInRange}
 -- The kind of the core of a client that was opened so.
 abbrev pub hearing_kind : {T : Type 0} → (T → Note) → Opening →
     Kind (PacketClient T) Call Entry Addition (List (List ℕ))
-hearing_kind note o = record {
-  core = steps note o;
+hearing_kind note opening = record {
+  core = steps note opening;
   delivers = Deliver;
   is_on = is_on;
-  is_for = is_piece_for o.servers;
+  is_for = is_piece_for opening.servers;
   ends = is_end;
   nothing = [];
   IsInRange = IsInRange;
 }
 
 -- It keeps the laws of hearing.
-pub hearing_laws : {T : Type 0} (note : T → Note) (o : Opening) → Laws (hearing_kind note o)
-hearing_laws note o = record {
+pub hearing_laws : {T : Type 0} (note : T → Note) (opening : Opening) →
+    Laws (hearing_kind note opening)
+hearing_laws note opening = record {
   goes_on = λ x left. refl;
   on_behind = λ past x left. refl;
   stays = λ past x core stands. stands;

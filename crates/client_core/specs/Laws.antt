@@ -44,17 +44,17 @@ loses_nothing (_ ∷ past) = loses_nothing past
 -- A kept state is never replaced, whatever comes but the loss of the note.
 abbrev pub FirstKeptStays : Type 0
 FirstKeptStays =
-    (o : Opening) (newer past : List Entry) (key : Key) (state : State) →
+    (opening : Opening) (newer past : List Entry) (key : Key) (state : State) →
     IsTrue (loses_nothing newer) →
-    kept_state o past key ≡ Some state → kept_state o (newer ++ past) key ≡ Some state
+    kept_state opening past key ≡ Some state → kept_state opening (newer ++ past) key ≡ Some state
 
 -- A state that is kept, and was not at the opening, came in a State from its server, or in a Copy
 -- from the mirror.
 abbrev pub KeptWasSent : Type 0
 KeptWasSent =
-    (o : Opening) (past : List Entry) (key : Key) (state : State) →
-    kept_state o past key ≡ Some state →
-    (kept_state o [] key ≡ Some state)
+    (opening : Opening) (past : List Entry) (key : Key) (state : State) →
+    kept_state opening past key ≡ Some state →
+    (kept_state opening [] key ≡ Some state)
     ⊎ (((jobs : ℕ) × Contains (packets_come past)
     (from_server (bodies.State jobs state) key.server))
     ⊎ Contains (packets_come past) (from_mirror (bodies.Copy state)))
@@ -63,38 +63,38 @@ KeptWasSent =
 -- from the mirror.
 abbrev pub NotedWasSent : Type 0
 NotedWasSent =
-    (o : Opening) (past : List Entry) (state : State) → Contains (words_noted o past).kept state →
-    Contains o.noted.kept state
+    (opening : Opening) (past : List Entry) (state : State) →
+    Contains (words_noted opening past).kept state → Contains opening.noted.kept state
     ⊎ (((jobs : ℕ) × Contains (packets_come past)
     (from_server (bodies.State jobs state) state.key.server))
     ⊎ Contains (packets_come past) (from_mirror (bodies.Copy state)))
 
 -- After the loss of its note a client goes on as one that opens with a blank note.
-pub record GoesOnAsBlank (o : Opening) (newer past : List Entry) : Type 0 where
-  pub noted_is : words_noted o (newer ++ Lose ∷ past)
-      ≡ words_noted (record o { noted = blank }) newer
-  pub life_is : life o (newer ++ Lose ∷ past) ≡ life (record o { noted = blank }) newer
-  pub done_is : deeds_done o (newer ++ Lose ∷ past)
-      ≡ deeds_done (record o { noted = blank }) newer ++ deeds_done o past
+pub record GoesOnAsBlank (opening : Opening) (newer past : List Entry) : Type 0 where
+  pub noted_is : words_noted opening (newer ++ Lose ∷ past)
+      ≡ words_noted (record opening { noted = blank }) newer
+  pub life_is : life opening (newer ++ Lose ∷ past) ≡ life (record opening { noted = blank }) newer
+  pub done_is : deeds_done opening (newer ++ Lose ∷ past)
+      ≡ deeds_done (record opening { noted = blank }) newer ++ deeds_done opening past
 
 -- Behind the loss of its note a client goes on as one with a blank note.
 abbrev pub LossBeginsAnew : Type 0
-LossBeginsAnew = (o : Opening) (newer past : List Entry) → GoesOnAsBlank o newer past
+LossBeginsAnew = (opening : Opening) (newer past : List Entry) → GoesOnAsBlank opening newer past
 
 -- Each Saved that is sent has the kept state of its key.
 abbrev pub SavedIsKept : Type 0
 SavedIsKept =
-    (o : Opening) (past : List Entry) (entry : Entry) (p : PacketParts) (attempt : ℕ)
+    (opening : Opening) (past : List Entry) (entry : Entry) (p : PacketParts) (attempt : ℕ)
     (state : State) →
-    Contains (packets o past entry) p → p.body ≡ bodies.Saved attempt state
-    → kept_state o past state.key ≡ Some state
+    Contains (packets opening past entry) p → p.body ≡ bodies.Saved attempt state
+    → kept_state opening past state.key ≡ Some state
 
 -- Each Copy that is sent has a state of the note before, or of the State that has just come.
 abbrev pub CopiesAreOfStates : Type 0
 CopiesAreOfStates =
-    (o : Opening) (past : List Entry) (entry : Entry) (p : PacketParts) (state : State) →
-    Contains (packets o past entry) p → p.body ≡ bodies.Copy state →
-    Contains (words_noted o past).kept state
+    (opening : Opening) (past : List Entry) (entry : Entry) (p : PacketParts) (state : State) →
+    Contains (packets opening past entry) p → p.body ≡ bodies.Copy state →
+    Contains (words_noted opening past).kept state
     ⊎ ((server jobs : ℕ) × Contains (packet_in entry)
     (from_server (bodies.State jobs state) server))
 
@@ -102,10 +102,11 @@ CopiesAreOfStates =
 -- none.
 abbrev pub AcksAreFor : Type 0
 AcksAreFor =
-    (o : Opening) (past : List Entry) (entry : Entry) (run server job : ℕ) →
-    Contains (packets o past entry) (to_server (bodies.StateAck run job) server) →
+    (opening : Opening) (past : List Entry) (entry : Entry) (run server job : ℕ) →
+    Contains (packets opening past entry) (to_server (bodies.StateAck run job) server) →
     ((state : State)
-    × (kept_state o (entry ∷ past) (record { run = run; server = server; job = job }) ≡ Some state))
+    × (kept_state opening (entry ∷ past) (record { run = run; server = server; job = job })
+    ≡ Some state))
     ⊎ ((jobs : ℕ) × Contains (packet_in entry) (from_server (bodies.NoState run job jobs) server))
 
 -- The run that a deed begins.
@@ -135,14 +136,15 @@ pub record AreFresh (first last : ℕ) (numbers : List ℕ) : Type 0 where
 -- No run is given twice, whatever was cut and failed to be saved, where the note isn't lost.
 abbrev pub RunsAreFresh : Type 0
 RunsAreFresh =
-    (o : Opening) (past : List Entry) → IsTrue (loses_nothing past) →
-    AreFresh o.noted.runs (words_noted o past).runs (runs_in (deeds_done o past))
+    (opening : Opening) (past : List Entry) → IsTrue (loses_nothing past) →
+    AreFresh opening.noted.runs (words_noted opening past).runs (runs_in (deeds_done opening past))
 
 -- No attempt is given twice.
 abbrev pub AttemptsAreFresh : Type 0
 AttemptsAreFresh =
-    (o : Opening) (past : List Entry) → IsTrue (loses_nothing past) →
-    AreFresh o.noted.attempts (words_noted o past).attempts (attempts_in (deeds_done o past))
+    (opening : Opening) (past : List Entry) → IsTrue (loses_nothing past) →
+    AreFresh opening.noted.attempts (words_noted opening past).attempts
+    (attempts_in (deeds_done opening past))
 
 -- The generations of the renewals, the newest first.
 abbrev pub generations : List Entry → List ℕ
@@ -153,43 +155,44 @@ generations (_ ∷ past) = generations past
 -- The client is one with a mirror: a blank note opens it, each restart has the mirror and a note of
 -- a generation, and no two renewals are of one.
 abbrev pub is_mirrored : Opening → List Entry → Bool
-is_mirrored o [] = is_blank o.noted
-is_mirrored o (Restart mirror ∷ past) =
-    (mirror && nat_lt 0 (words_noted o past).generation) && is_mirrored o past
-is_mirrored o (Renew g left ∷ past) =
-    (is_generation g && not (has (generations past) g)) && is_mirrored o past
-is_mirrored o (_ ∷ past) = is_mirrored o past
+is_mirrored opening [] = is_blank opening.noted
+is_mirrored opening (Restart mirror ∷ past) =
+    (mirror && nat_lt 0 (words_noted opening past).generation) && is_mirrored opening past
+is_mirrored opening (Renew g left ∷ past) =
+    (is_generation g && not (has (generations past) g)) && is_mirrored opening past
+is_mirrored opening (_ ∷ past) = is_mirrored opening past
 
 -- The note isn't lost, or the client is one with a mirror.
 abbrev pub KeepsNumbersApart : Opening → List Entry → Type 0
-KeepsNumbersApart o past = IsTrue (loses_nothing past) ⊎ IsTrue (is_mirrored o past)
+KeepsNumbersApart opening past = IsTrue (loses_nothing past) ⊎ IsTrue (is_mirrored opening past)
 
 -- No number is given twice, whatever was lost, where the client is one with a mirror.
-pub record AreGivenOnce (o : Opening) (past : List Entry) : Type 0 where
-  pub runs : IsTrue (is_distinct (runs_in (deeds_done o past)))
-  pub attempts : IsTrue (is_distinct (attempts_in (deeds_done o past)))
+pub record AreGivenOnce (opening : Opening) (past : List Entry) : Type 0 where
+  pub runs : IsTrue (is_distinct (runs_in (deeds_done opening past)))
+  pub attempts : IsTrue (is_distinct (attempts_in (deeds_done opening past)))
 
 -- Where numbers are kept apart, no run and no attempt is given twice.
 abbrev pub NumbersAreGivenOnce : Type 0
 NumbersAreGivenOnce =
-    (o : Opening) (past : List Entry) → KeepsNumbersApart o past → AreGivenOnce o past
+    (opening : Opening) (past : List Entry) → KeepsNumbersApart opening past →
+    AreGivenOnce opening past
 
 -- All Jobs packets of a run carry the same text, to whichever servers they go.
 abbrev pub OneTextOfARun : Type 0
 OneTextOfARun =
-    (o : Opening) (past : List Entry) (p q : PacketParts) (run : ℕ) (text other : List ℕ) →
-    KeepsNumbersApart o past →
-    Contains (sent_packets o past) p → p.body ≡ bodies.Jobs run text →
-    Contains (sent_packets o past) q → q.body ≡ bodies.Jobs run other → text ≡ other
+    (opening : Opening) (past : List Entry) (p q : PacketParts) (run : ℕ) (text other : List ℕ) →
+    KeepsNumbersApart opening past →
+    Contains (sent_packets opening past) p → p.body ≡ bodies.Jobs run text →
+    Contains (sent_packets opening past) q → q.body ≡ bodies.Jobs run other → text ≡ other
 
 -- All Verify packets of an attempt carry the same run and text.
 abbrev pub OneTextOfAnAttempt : Type 0
 OneTextOfAnAttempt =
-    (o : Opening) (past : List Entry) (p q : PacketParts) (attempt run run_there : ℕ)
+    (opening : Opening) (past : List Entry) (p q : PacketParts) (attempt run run_there : ℕ)
     (text other : List ℕ) →
-    KeepsNumbersApart o past →
-    Contains (sent_packets o past) p → p.body ≡ bodies.Verify run attempt text →
-    Contains (sent_packets o past) q → q.body ≡ bodies.Verify run_there attempt other →
+    KeepsNumbersApart opening past →
+    Contains (sent_packets opening past) p → p.body ≡ bodies.Verify run attempt text →
+    Contains (sent_packets opening past) q → q.body ≡ bodies.Verify run_there attempt other →
     (run ≡ run_there) × (text ≡ other)
 
 -- A client that is on answers its looks from all that came.
@@ -199,15 +202,15 @@ LooksAtAll = (past : List Entry) → is_on past ≡ true → shown_entries past 
 -- A tick asks again and changes nothing.
 abbrev pub TickOnlyLooks : Type 0
 TickOnlyLooks =
-    (o : Opening) (past : List Entry) (left : Left) →
-    (words_noted o (Met Tick left ∷ past) ≡ words_noted o past)
-    × (life o (Met Tick left ∷ past) ≡ life o past)
+    (opening : Opening) (past : List Entry) (left : Left) →
+    (words_noted opening (Met Tick left ∷ past) ≡ words_noted opening past)
+    × (life opening (Met Tick left ∷ past) ≡ life opening past)
 
 -- A note that keeps its ranges goes on to, where the packets that come keep theirs.
 abbrev pub NotesKeepRanges : Type 0
 NotesKeepRanges =
-    (o : Opening) (past : List Entry) → IsNoted o.noted → CameInRange past
-    → IsNoted (words_noted o past)
+    (opening : Opening) (past : List Entry) → IsNoted opening.noted → CameInRange past
+    → IsNoted (words_noted opening past)
 
 -- A state of the job is kept, or the server has said that there is none.
 abbrev pub HasAnswer : ClientNote → List PacketParts → ℕ → ℕ → ℕ → Type 0
@@ -232,9 +235,9 @@ pub record EndsWell (n : ClientNote) (packets : List PacketParts) (run server : 
 -- A trigger ends well at a server only so.
 abbrev pub TriggersEndWell : Type 0
 TriggersEndWell =
-    (o : Opening) (past : List Entry) (run server : ℕ) →
-    trigger_at run server (life o past) ≡ Served
-    → EndsWell (words_noted o past) (packets_come past) run server
+    (opening : Opening) (past : List Entry) (run server : ℕ) →
+    trigger_at run server (life opening past) ≡ Served
+    → EndsWell (words_noted opening past) (packets_come past) run server
 
 -- The kinds of packets that are for servers.
 abbrev pub is_for_server : PacketKind → Bool
@@ -269,19 +272,21 @@ GoesToMirror mirror p =
 -- for it.
 abbrev pub PacketsGoToPeers : Type 0
 PacketsGoToPeers =
-    (o : Opening) (past : List Entry) (entry : Entry) (p : PacketParts) →
-    Contains (packets o past entry) p → GoesToServer o.servers p ⊎ GoesToMirror (has_mirror past) p
+    (opening : Opening) (past : List Entry) (entry : Entry) (p : PacketParts) →
+    Contains (packets opening past entry) p →
+    GoesToServer opening.servers p ⊎ GoesToMirror (has_mirror past) p
 
 -- The packets that a client sends are within the ranges of packets, where what came is within its.
 abbrev pub PacketsAreInRange : Type 0
 PacketsAreInRange =
-    (o : Opening) (past : List Entry) (entry : Entry) →
-    OpensInRange o → CameInRange (entry ∷ past) → AllByRecursion IsPacket (packets o past entry)
+    (opening : Opening) (past : List Entry) (entry : Entry) →
+    OpensInRange opening → CameInRange (entry ∷ past) → AllByRecursion IsPacket (packets opening past entry)
 
 -- The reports of this life came from their servers.
 abbrev pub ReportsCame : Type 0
 ReportsCame =
-    (o : Opening) (past : List Entry) (r : Received) → Contains (reports (life o past)) r →
+    (opening : Opening) (past : List Entry) (r : Received) →
+    Contains (reports (life opening past)) r →
     (jobs : ℕ)
     × Contains (packets_come past) (from_server
     (bodies.Report r.run r.attempt r.job jobs r.report) r.server)
@@ -295,4 +300,5 @@ has_distinct_reports (r ∷ rs) =
 -- So it is with those of this life.
 abbrev pub OneReportEach : Type 0
 OneReportEach =
-    (o : Opening) (past : List Entry) → IsTrue (has_distinct_reports (reports (life o past)))
+    (opening : Opening) (past : List Entry) →
+    IsTrue (has_distinct_reports (reports (life opening past)))

@@ -30,25 +30,27 @@ deeds_of n Tick = []
 
 -- All that was done since the last restart: requests, texts and reports are lost by a cut.
 abbrev pub life : Opening → List Entry → List Deed
-life o [] = []
-life o (Met c left ∷ past) =
-    if is_answered o past c left then deeds_of (words_noted o past) c ++ life o past
-    else life o past
-life o (Cut ∷ past) = []
-life o (Restart mirror ∷ past) = []
-life o (Renew g left ∷ past) = []
-life o (Lose ∷ past) = []
+life opening [] = []
+life opening (Met c left ∷ past) =
+    if is_answered opening past c left then deeds_of (words_noted opening past) c
+    ++ life opening past
+    else life opening past
+life opening (Cut ∷ past) = []
+life opening (Restart mirror ∷ past) = []
+life opening (Renew g left ∷ past) = []
+life opening (Lose ∷ past) = []
 
 -- All that was ever done.
 abbrev pub deeds_done : Opening → List Entry → List Deed
-deeds_done o [] = []
-deeds_done o (Met c left ∷ past) =
-    if is_answered o past c left then deeds_of (words_noted o past) c ++ deeds_done o past
-    else deeds_done o past
-deeds_done o (Cut ∷ past) = deeds_done o past
-deeds_done o (Restart mirror ∷ past) = deeds_done o past
-deeds_done o (Renew g left ∷ past) = deeds_done o past
-deeds_done o (Lose ∷ past) = deeds_done o past
+deeds_done opening [] = []
+deeds_done opening (Met c left ∷ past) =
+    if is_answered opening past c left then deeds_of (words_noted opening past) c
+    ++ deeds_done opening past
+    else deeds_done opening past
+deeds_done opening (Cut ∷ past) = deeds_done opening past
+deeds_done opening (Restart mirror ∷ past) = deeds_done opening past
+deeds_done opening (Renew g left ∷ past) = deeds_done opening past
+deeds_done opening (Lose ∷ past) = deeds_done opening past
 
 -- The text with which a run was last begun, empty where it wasn't.
 abbrev pub text_of : ℕ → List Deed → List ℕ

@@ -38,8 +38,9 @@ outcome_at kinds.Verify attempt server deeds = request_outcome (verify_at attemp
 
 -- There is none at a server that the client doesn't drive.
 abbrev pub outcome : Opening → List Entry → RequestKind → ℕ → ℕ → Outcome
-outcome o past kind number server =
-    if nat_lt server o.servers then outcome_at kind number server (life o past) else outcomes.None
+outcome opening past kind number server =
+    if nat_lt server opening.servers then outcome_at kind number server (life opening past)
+    else outcomes.None
 
 -- The request has ended, well or not.
 abbrev pub has_ended : Outcome → Bool
@@ -56,4 +57,4 @@ all_ended run deeds servers =
 
 -- It has ended at every server: a local trigger waits for it.
 abbrev pub is_settled : Opening → List Entry → ℕ → Bool
-is_settled o past run = all_ended run (life o past) o.servers
+is_settled opening past run = all_ended run (life opening past) opening.servers

@@ -164,15 +164,16 @@ packets_for peers n deeds Tick = all_again peers n deeds
 
 -- The packets that an event sends.
 abbrev pub packets : Opening → List Entry → Entry → List PacketParts
-packets o past (Met c left) =
-    if is_answered o past c left then packets_for (peers o past) (words_noted o past)
-    (life o past) c else []
-packets o past Cut = []
-packets o past (Restart mirror) = []
-packets o past (Renew g left) = []
-packets o past Lose = []
+packets opening past (Met c left) =
+    if is_answered opening past c left
+    then packets_for (peers opening past) (words_noted opening past)
+    (life opening past) c else []
+packets opening past Cut = []
+packets opening past (Restart mirror) = []
+packets opening past (Renew g left) = []
+packets opening past Lose = []
 
 -- All packets that were ever sent, the oldest first.
 abbrev pub sent_packets : Opening → List Entry → List PacketParts
-sent_packets o [] = []
-sent_packets o (entry ∷ past) = sent_packets o past ++ packets o past entry
+sent_packets opening [] = []
+sent_packets opening (entry ∷ past) = sent_packets opening past ++ packets opening past entry

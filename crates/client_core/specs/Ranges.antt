@@ -29,6 +29,6 @@ abbrev pub CameInRange : List Entry → Type 0
 CameInRange past = AllByRecursion IsPacket (packets_come past)
 
 -- A client drives at most 8 servers, and its note keeps its ranges.
-pub record OpensInRange (o : Opening) : Type 0 where
-  pub servers : o.servers ≤ MAX_SERVERS
-  pub note : IsNoted o.noted
+pub record OpensInRange (opening : Opening) : Type 0 where
+  pub servers : opening.servers ≤ MAX_SERVERS
+  pub note : IsNoted opening.noted

@@ -16,14 +16,14 @@ use Rattle.client_core.specs.Words.{is_on, words_noted, peers, shown_entries}
 -- A client stands for a list where it is on as the list says, drives at most 8 servers, where the
 -- durable bytes say what the list says, and where it knows of its peers and of its note, and keeps
 -- of its requests, what it did before the first failed save.
-pub record StandsFor {T : Type 0} (note : T → Note) (client : PacketClient T) (o : Opening)
+pub record StandsFor {T : Type 0} (note : T → Note) (client : PacketClient T) (opening : Opening)
     (past : List Entry) : Type 0 where
   pub on : client.durable.down ≡ not (is_on past)
-  pub peers : client.peers ≡ peers o (shown_entries past)
-  pub few : o.servers ≤ MAX_SERVERS
-  pub durable : Says (note client.durable.notes).bytes (words_noted o past)
-  pub knows : client.noted ≡ words_noted o (shown_entries past)
-  pub lives : LifeIs client.life (life o (shown_entries past))
+  pub peers : client.peers ≡ peers opening (shown_entries past)
+  pub few : opening.servers ≤ MAX_SERVERS
+  pub durable : Says (note client.durable.notes).bytes (words_noted opening past)
+  pub knows : client.noted ≡ words_noted opening (shown_entries past)
+  pub lives : LifeIs client.life (life opening (shown_entries past))
 
 -- The bytes are no note; or they are empty, and with a mirror a client isn't restarted over such.
 abbrev pub IsBadNote : Bool → List ℕ → Type 0

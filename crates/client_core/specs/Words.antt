@@ -85,41 +85,43 @@ renewed_after new g n = if new && may_renew g n then new_note g else n
 -- What the note says: what it said at the opening, and what was added by each save that left the
 -- new bytes; the generation of a renewal; and nothing once it is lost.
 abbrev pub words_noted : Opening → List Entry → ClientNote
-words_noted o [] = o.noted
-words_noted o (Met c left ∷ past) =
+words_noted opening [] = opening.noted
+words_noted opening (Met c left ∷ past) =
     noted_after (has_new left)
-    (due_by (is_on past) (peers_at o.servers past (words_noted o past).generation)
-    (words_noted o past) c)
-    (words_noted o past)
-words_noted o (Cut ∷ past) = words_noted o past
-words_noted o (Restart mirror ∷ past) = words_noted o past
-words_noted o (Renew g left ∷ past) = renewed_after (has_new left) g (words_noted o past)
-words_noted o (Lose ∷ past) = blank
+    (due_by (is_on past) (peers_at opening.servers past (words_noted opening past).generation)
+    (words_noted opening past) c)
+    (words_noted opening past)
+words_noted opening (Cut ∷ past) = words_noted opening past
+words_noted opening (Restart mirror ∷ past) = words_noted opening past
+words_noted opening (Renew g left ∷ past) =
+    renewed_after (has_new left) g (words_noted opening past)
+words_noted opening (Lose ∷ past) = blank
 
 -- With whom the client is: its servers, whether it has a mirror, and whether this granted the
 -- generation of its note.
 abbrev pub peers : Opening → List Entry → Peers
-peers o past = peers_at o.servers past (words_noted o past).generation
+peers opening past = peers_at opening.servers past (words_noted opening past).generation
 
 -- Why a call is refused.
 abbrev pub refusal : Opening → List Entry → Call → Option Fault
-refusal o past c = refusal_by (is_on past) (peers o past) (words_noted o past) c
+refusal opening past c = refusal_by (is_on past) (peers opening past) (words_noted opening past) c
 
 -- What a call is due to add to the note.
 abbrev pub due : Opening → List Entry → Call → Option Addition
-due o past c = due_by (is_on past) (peers o past) (words_noted o past) c
+due opening past c = due_by (is_on past) (peers opening past) (words_noted opening past) c
 
 -- A call makes a save where it is due to add something.
 abbrev pub would_save : Opening → List Entry → Call → Bool
-would_save o past c = is_some (due o past c)
+would_save opening past c = is_some (due opening past c)
 
 -- The call is answered: it isn't refused, and its save, where it makes one, answered Ok.
 abbrev pub is_answered : Opening → List Entry → Call → Left → Bool
-is_answered o past c left = is_none (refusal o past c) && is_answer (due o past c) left
+is_answered opening past c left =
+    is_none (refusal opening past c) && is_answer (due opening past c) left
 
 -- The kept state of a key: that of the opening, else the first that came and was saved.
 abbrev pub kept_state : Opening → List Entry → Key → Option State
-kept_state o past key = kept_of key (words_noted o past).kept
+kept_state opening past key = kept_of key (words_noted opening past).kept
 
 -- What the calls that only look answer from: all that came, but for what came from a failed save
 -- on.

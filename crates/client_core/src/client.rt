@@ -113,8 +113,9 @@ impl<N: Notes> Client<N> {
     /// The notes of a client that is taken off.
     pub fn off(self) -> N
         ensures note { N.note result ≡ note_in N.note self }
-        ensures says { (o : Opening) (past : List FrameEntry) → StandsFor N.note self o past →
-            Says (N.note result).bytes (words_noted o (packets_heard o past)) }
+        ensures says { (opening : Opening) (past : List FrameEntry) →
+            StandsFor N.note self opening past →
+            Says (N.note result).bytes (words_noted opening (packets_heard opening past)) }
     {
         let Client { hearer } = self;
         let Hearer { core, pieces: _ } = hearer;
@@ -125,16 +126,18 @@ impl<N: Notes> Client<N> {
     /// The note that it keeps, as it is durable. Behind a failed save it is what that left.
     pub fn notes(&self) -> &N
         ensures note { N.note result.now ≡ note_in N.note self.now }
-        ensures says { (o : Opening) (past : List FrameEntry) → StandsFor N.note self.now o past →
-            Says (N.note result.now).bytes (words_noted o (packets_heard o past)) }
+        ensures says { (opening : Opening) (past : List FrameEntry) →
+            StandsFor N.note self.now opening past →
+            Says (N.note result.now).bytes (words_noted opening (packets_heard opening past)) }
     {
         self.hearer.core.durable.notes()
     }
 
     /// Whether it is on: a client whose save failed is down until it is restarted.
     pub fn on(&self) -> bool
-        ensures { (o : Opening) (past : List FrameEntry) → StandsFor N.note self.now o past →
-            result ≡ is_on (packets_heard o past) }
+        ensures { (opening : Opening) (past : List FrameEntry) →
+            StandsFor N.note self.now opening past →
+            result ≡ is_on (packets_heard opening past) }
     {
         !self.hearer.core.durable.is_down()
     }
@@ -142,16 +145,18 @@ impl<N: Notes> Client<N> {
     /// The number up to which runs are used: without a generation, how many were begun. Where a save has
     /// failed, up to it.
     pub fn runs_used(&self) -> u64
-        ensures { (o : Opening) (past : List FrameEntry) → StandsFor N.note self.now o past →
-            result ≡ (words_noted o (shown_entries (packets_heard o past))).runs }
+        ensures { (opening : Opening) (past : List FrameEntry) →
+            StandsFor N.note self.now opening past →
+            result ≡ (words_noted opening (shown_entries (packets_heard opening past))).runs }
     {
         self.hearer.core.noted.runs
     }
 
     /// The number up to which attempts to verify are used, likewise. Where a save has failed, up to it.
     pub fn attempts_used(&self) -> u64
-        ensures { (o : Opening) (past : List FrameEntry) → StandsFor N.note self.now o past →
-            result ≡ (words_noted o (shown_entries (packets_heard o past))).attempts }
+        ensures { (opening : Opening) (past : List FrameEntry) →
+            StandsFor N.note self.now opening past →
+            result ≡ (words_noted opening (shown_entries (packets_heard opening past))).attempts }
     {
         self.hearer.core.noted.attempts
     }
@@ -159,16 +164,19 @@ impl<N: Notes> Client<N> {
     /// Whether its note says what a blank one says: nothing was begun, and no state is kept. Where a save
     /// has failed, up to it.
     pub fn is_blank(&self) -> bool
-        ensures { (o : Opening) (past : List FrameEntry) → StandsFor N.note self.now o past →
-            result ≡ is_blank (words_noted o (shown_entries (packets_heard o past))) }
+        ensures { (opening : Opening) (past : List FrameEntry) →
+            StandsFor N.note self.now opening past →
+            result ≡ is_blank (words_noted opening (shown_entries (packets_heard opening past))) }
     {
         self.hearer.core.noted.is_blank()
     }
 
     /// The kept state of a key. Where a save has failed, up to it.
     pub fn saved(&self, key: Key) -> Option<&VerifyState>
-        ensures { (o : Opening) (past : List FrameEntry) → StandsFor N.note self.now o past →
-            option_copied result ≡ kept_state o (shown_entries (packets_heard o past)) key }
+        ensures { (opening : Opening) (past : List FrameEntry) →
+            StandsFor N.note self.now opening past →
+            option_copied result ≡ kept_state opening
+            (shown_entries (packets_heard opening past)) key }
     {
         self.hearer.core.noted.kept.get(key)
     }
@@ -176,8 +184,9 @@ impl<N: Notes> Client<N> {
     /// The reports of this life, in order of arrival: of each attempt, server and job the first that
     /// counted. Where a save has failed, those up to it.
     pub fn reports(&self) -> &[Received]
-        ensures { (o : Opening) (past : List FrameEntry) → StandsFor N.note self.now o past →
-            result.now ≡ reports (life o (shown_entries (packets_heard o past))) }
+        ensures { (opening : Opening) (past : List FrameEntry) →
+            StandsFor N.note self.now opening past →
+            result.now ≡ reports (life opening (shown_entries (packets_heard opening past))) }
     {
         self.hearer.core.life.reports.as_slice()
     }
@@ -185,8 +194,10 @@ impl<N: Notes> Client<N> {
     /// How a request of this life stands at a server, by the number of its run or attempt. Where a save
     /// has failed, up to it.
     pub fn outcome(&self, kind: RequestKind, number: u64, server: ServerNo) -> Outcome
-        ensures { (o : Opening) (past : List FrameEntry) → StandsFor N.note self.now o past →
-            result ≡ outcome o (shown_entries (packets_heard o past)) kind number server }
+        ensures { (opening : Opening) (past : List FrameEntry) →
+            StandsFor N.note self.now opening past →
+            result ≡ outcome opening
+            (shown_entries (packets_heard opening past)) kind number server }
     {
         let servers = self.hearer.core.peers.servers.count();
         if server.0 < servers {
@@ -199,8 +210,9 @@ impl<N: Notes> Client<N> {
     /// Whether the trigger of a run has ended at every server: a local trigger waits for it. Where a save
     /// has failed, up to it.
     pub fn settled(&self, run: RunNo) -> bool
-        ensures { (o : Opening) (past : List FrameEntry) → StandsFor N.note self.now o past →
-            result ≡ is_settled o (shown_entries (packets_heard o past)) run }
+        ensures { (opening : Opening) (past : List FrameEntry) →
+            StandsFor N.note self.now opening past →
+            result ≡ is_settled opening (shown_entries (packets_heard opening past)) run }
     {
         let servers = self.hearer.core.peers.servers.count();
         self.hearer.core.life.settled(run, servers)

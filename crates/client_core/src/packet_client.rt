@@ -71,8 +71,8 @@ impl<N: Notes> PacketClient<N> {
     /// Whether the delivery of this packet would make a save: it is a State, or a Copy of the mirror, that
     /// isn't refused, of a key of which no state is kept.
     pub(crate) fn would_save(&self, packet: &Packet) -> bool
-        ensures { (o : Opening) (past : List Entry) → StandsFor N.note self.now o past →
-            result ≡ would_save o past (Deliver packet.now) }
+        ensures { (opening : Opening) (past : List Entry) → StandsFor N.note self.now opening past →
+            result ≡ would_save opening past (Deliver packet.now) }
     {
         self.refusal(packet).is_none() && adds(&self.noted, packet.body())
     }

@@ -4,3 +4,4 @@ pub mod ContentLemmas
 pub mod LawLemmas
 pub mod StepLemmas
 pub mod SavingLemmas
+pub mod Sending

@@ -5,3 +5,4 @@ pub mod ProgressLemmas
 pub mod RunningLemmas
 pub mod TakenLemmas
 pub mod WriteLemmas
+pub mod Sending

@@ -1,3 +1,4 @@
 pub mod AscendingLemmas
 pub mod ListLemmas
 pub mod MarkLemmas
+pub mod Sending

@@ -115,13 +115,13 @@ AreChecksBut j checks under = (i : ℕ) → i ≢ j → IsCheck i (kept_in check
 
 -- A filter is at this moment.
 abbrev pub IsHere : ServerFilter → Opening → ServerAt → Type 0
-IsHere filter o at =
-    IsAt note_kept filter.server o at × AreChecks filter.checks.items at.checks
+IsHere filter opening at =
+    IsAt note_kept filter.server opening at × AreChecks filter.checks.items at.checks
 
 -- So it is, but maybe for the check of job j.
 abbrev pub IsHereBut : ℕ → ServerFilter → Opening → ServerAt → Type 0
-IsHereBut j filter o at =
-    IsAt note_kept filter.server o at × AreChecksBut j filter.checks.items at.checks
+IsHereBut j filter opening at =
+    IsAt note_kept filter.server opening at × AreChecksBut j filter.checks.items at.checks
 
 -- The check that is named, where it is kept.
 abbrev pub kept_named : BlockName → Option Checking → Option Checking
@@ -150,9 +150,9 @@ pub record TellsSo (old : ServerFilter) (boot a j : ℕ) (r : ReportParts)
   pub answer : List ℕ
   pub written : Appends text new_text answer
   pub takes :
-      (o : Opening) (at : ServerAt) → IsHereBut j old o at
-      → (now : ServerAt) × IsHere new o now
-      × TellsIt o (with_check j None at) (CheckDone boot a j r) end now answer
+      (opening : Opening) (at : ServerAt) → IsHereBut j old opening at
+      → (now : ServerAt) × IsHere new opening now
+      × TellsIt opening (with_check j None at) (CheckDone boot a j r) end now answer
 
 -- A check of job j went on, which is this one under way.
 pub record GoesSo (old : ServerFilter) (boot a j : ℕ) (went : Went)
@@ -161,13 +161,14 @@ pub record GoesSo (old : ServerFilter) (boot a j : ℕ) (went : Went)
   pub answer : List ℕ
   pub written : Appends text new_text answer
   pub takes :
-      (o : Opening) (at : ServerAt) (u : UnderWay) → IsHereBut j old o at → Goes j u went
+      (opening : Opening) (at : ServerAt) (u : UnderWay) → IsHereBut j old opening at →
+      Goes j u went
       → u.boot ≡ boot → u.attempt ≡ a
-      → (now : ServerAt) × IsHere new o now × GoesOn o at j u end now answer
+      → (now : ServerAt) × IsHere new opening now × GoesOn opening at j u end now answer
 
 -- A check of job j that begins, as the words of the server say.
 pub record IsNewCheck (filter : ServerFilter) (j : ℕ) (c : Checking) : Type 0 where
   pub begins :
-      (o : Opening) (at : ServerAt) → IsHere filter o at
-      → (u : UnderWay) × IsNew o at j u × HasCome j c u
+      (opening : Opening) (at : ServerAt) → IsHere filter opening at
+      → (u : UnderWay) × IsNew opening at j u × HasCome j c u
   pub next : c.next ≡ 0

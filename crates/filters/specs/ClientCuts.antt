@@ -14,36 +14,37 @@ use Rattle.filters.specs.NodeCuts.{CutsAnswer}
 
 -- A client is cut so, and the next life over the note that it leaves, with a mirror or without one,
 -- may begin, and begins behind its list and the cut.
-pub record GoesOnFrom (mirror : Bool) (o : Opening) (first : ClientAt)
+pub record GoesOnFrom (mirror : Bool) (opening : Opening) (first : ClientAt)
     (records : List RecordParts) (front : List ℕ) : Type 0 where
   pub left : ClientAt
-  pub cuts : CutsBehind (ClientTakes o) (CutsAnswer (λ (at : ClientAt). at.note)) first records front left
+  pub cuts : CutsBehind (ClientTakes opening)
+      (CutsAnswer (λ (at : ClientAt). at.note)) first records front left
   pub may : MayBegin (restarts mirror) left.note
-  pub next : BeginsBehind (restarts mirror) o.servers left.note o
+  pub next : BeginsBehind (restarts mirror) opening.servers left.note opening
       (record { list = Restart mirror ∷ (Cut ∷ left.list); note = left.note })
 
 -- Wherever the answers of a life are cut, the next one goes on from there: with a mirror, where the
 -- note of this one wasn't empty.
 abbrev pub LivesGoOn : Type 0
 LivesGoOn =
-    (mirror : Bool) (o : Opening) (first now : ClientAt) (records : List RecordParts)
+    (mirror : Bool) (opening : Opening) (first now : ClientAt) (records : List RecordParts)
     (front back : List ℕ) →
-    MayBegin (restarts mirror) first.note → Says first.note (noted o first.list)
-    → Lives (ClientTakes o) first records now (front ++ back)
-    → GoesOnFrom mirror o first records front
+    MayBegin (restarts mirror) first.note → Says first.note (noted opening first.list)
+    → Lives (ClientTakes opening) first records now (front ++ back)
+    → GoesOnFrom mirror opening first records front
 
 -- A client that begins anew is cut in the answer to its note. Where that has the save, it has begun;
 -- else its note is still lost, and it is as if it had not.
-pub record IsRenewedFrom (g : ℕ) (o : Opening) (past : List FrameEntry) (front : List ℕ)
+pub record IsRenewedFrom (g : ℕ) (opening : Opening) (past : List FrameEntry) (front : List ℕ)
     : Type 0 where
   pub left : ClientAt
   pub cuts : CutsAnswer (λ (at : ClientAt). at.note) (record { list = past; note = [] })
       (starts (Renewed g) past []) front left
-  pub says : Says left.note (noted o left.list)
+  pub says : Says left.note (noted opening left.list)
 
 -- Wherever the answer to the note of a client is cut that begins anew.
 abbrev pub RenewalsGoOn : Type 0
 RenewalsGoOn =
-    (g : ℕ) (o : Opening) (past : List FrameEntry) (front back : List ℕ) →
-    IsTrue (is_generation g) → Says [] (noted o past)
-    → opening_bytes (Renewed g) ≡ front ++ back → IsRenewedFrom g o past front
+    (g : ℕ) (opening : Opening) (past : List FrameEntry) (front back : List ℕ) →
+    IsTrue (is_generation g) → Says [] (noted opening past)
+    → opening_bytes (Renewed g) ≡ front ++ back → IsRenewedFrom g opening past front

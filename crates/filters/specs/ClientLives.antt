@@ -43,52 +43,54 @@ pub record ClientAt : Type 0 where
 
 -- A client is at this moment.
 abbrev pub IsAt : {T : Type 0} → (T → Note) → Client T → Opening → ClientAt → Type 0
-IsAt note client o at =
-    StandsFor note client o at.list × ((note_in note client).bytes ≡ at.note)
+IsAt note client opening at =
+    StandsFor note client opening at.list × ((note_in note client).bytes ≡ at.note)
 
 -- The note as an input that is taken leaves it, if it is to be saved.
 abbrev pub new_note : Opening → List FrameEntry → Input → List ℕ
-new_note o past e = spelling (noted o (after_answer o past e))
+new_note opening past e = spelling (noted opening (after_answer opening past e))
 
 -- What is answered to an input that is taken: the note, where something is due to be saved; the
 -- number that is given; the frames; and the end.
 abbrev pub taken_bytes : Opening → List FrameEntry → Input → List ℕ
-taken_bytes o past e =
-    (save_bytes (is_some (due o past e)) (new_note o past e)
-    ++ (number_bytes (number_given o past e)
-    ++ send_bytes (map frame_spelling (frames o past (answered_entry o past e)))))
+taken_bytes opening past e =
+    (save_bytes (is_some (due opening past e)) (new_note opening past e)
+    ++ (number_bytes (number_given opening past e)
+    ++ send_bytes (map frame_spelling (frames opening past (answered_entry opening past e)))))
     ++ end_bytes (Ok tt)
 
 -- What is answered to an input, by why it is refused, if it is.
 abbrev pub reply_by : Option Fault → Opening → List FrameEntry → Input → List ℕ
-reply_by None o past e = taken_bytes o past e
-reply_by (Some fault) o past e = end_bytes (Err fault)
+reply_by None opening past e = taken_bytes opening past e
+reply_by (Some fault) opening past e = end_bytes (Err fault)
 
 -- The client behind an input.
 abbrev pub at_by : Option Fault → Opening → ClientAt → Input → ClientAt
-at_by None o at e = record {
-  list = after_answer o at.list e;
-  note = note_with (due o at.list e) (new_note o at.list e) at.note;
+at_by None opening at e = record {
+  list = after_answer opening at.list e;
+  note = note_with (due opening at.list e) (new_note opening at.list e) at.note;
 }
-at_by (Some fault) o at e = record at { list = after_refusal o at.list e }
+at_by (Some fault) opening at e = record at { list = after_refusal opening at.list e }
 
 -- What is made of an input: what the list says of it; or memory is wanting.
 abbrev pub TakesInput : Opening → ClientAt → Input → ClientAt → List ℕ → Type 0
-TakesInput o at e now answer =
-    Leaves (at_by (refusal o at.list e) o at e) (reply_by (refusal o at.list e) o at.list e) now
+TakesInput opening at e now answer =
+    Leaves (at_by (refusal opening at.list e) opening at e)
+    (reply_by (refusal opening at.list e) opening at.list e) now
     answer
     ⊎ WantsMemory at now answer
 
 -- What is made of a body: a bad one changes nothing.
 abbrev pub TakesBody : Opening → ClientAt → Result Input Fault → ClientAt → List ℕ → Type 0
-TakesBody o at (Ok e) now answer = TakesInput o at e now answer
-TakesBody o at (Err why) now answer = Leaves at (end_bytes (Err why)) now answer
+TakesBody opening at (Ok e) now answer = TakesInput opening at e now answer
+TakesBody opening at (Err why) now answer = Leaves at (end_bytes (Err why)) now answer
 
 -- How a request stands is told behind what was asked.
 abbrev pub look_bytes : Opening → List FrameEntry → List ℕ → LookAsked → List ℕ
-look_bytes o past body asked =
+look_bytes opening past body asked =
     record_bytes (said_number Outcome) (body
-    ++ outcome_number (outcome o (shown_entries (packets_heard o past)) asked.kind asked.number
+    ++ outcome_number (outcome opening
+    (shown_entries (packets_heard opening past)) asked.kind asked.number
     asked.server)
     ∷ [])
 
@@ -105,8 +107,9 @@ report_if None = []
 
 -- The report of this place among those that came.
 abbrev pub show_bytes : Opening → List FrameEntry → ℕ → List ℕ
-show_bytes o past place =
-    report_if (slice_get (reports (life o (shown_entries (packets_heard o past)))) place)
+show_bytes opening past place =
+    report_if (slice_get (reports
+    (life opening (shown_entries (packets_heard opening past)))) place)
 
 -- What is answered to what was asked, and the end behind it; or that nothing was.
 abbrev pub shown_or_bad : {A : Type 0} → (A → List ℕ) → Option A → List ℕ
@@ -115,17 +118,19 @@ shown_or_bad show None = end_bytes (Err BadNotice)
 
 -- What is made of a record of this kind, if it is one. To look and to show changes nothing.
 abbrev pub TakesKind : Opening → ClientAt → Option Told → List ℕ → ClientAt → List ℕ → Type 0
-TakesKind o at (Some told.Look) body now answer =
-    Leaves at (shown_or_bad (look_bytes o at.list body) (look_in body)) now answer
-TakesKind o at (Some told.Show) body now answer =
-    Leaves at (shown_or_bad (show_bytes o at.list) (number_alone body)) now answer
-TakesKind o at (Some kind) body now answer = TakesBody o at (input_in kind body) now answer
-TakesKind o at None body now answer = Leaves at (end_bytes (Err BadNotice)) now answer
+TakesKind opening at (Some told.Look) body now answer =
+    Leaves at (shown_or_bad (look_bytes opening at.list body) (look_in body)) now answer
+TakesKind opening at (Some told.Show) body now answer =
+    Leaves at (shown_or_bad (show_bytes opening at.list) (number_alone body)) now answer
+TakesKind opening at (Some kind) body now answer =
+    TakesBody opening at (input_in kind body) now answer
+TakesKind opening at None body now answer = Leaves at (end_bytes (Err BadNotice)) now answer
 
 -- What the client makes of a record and answers; and its note says what its list does.
 abbrev pub ClientTakes : Opening → ClientAt → RecordParts → ClientAt → List ℕ → Type 0
-ClientTakes o at r now answer =
-    TakesKind o at (told_numbered r.kind) r.body now answer × Says now.note (noted o now.list)
+ClientTakes opening at r now answer =
+    TakesKind opening at (told_numbered r.kind) r.body now answer
+    × Says now.note (noted opening now.list)
 
 -- A restart over the note, with a mirror or without one.
 abbrev pub restarts : Bool → Beginning
@@ -165,11 +170,11 @@ starts beginning past note = record {
 }
 
 -- The client begins over its note, behind any list of which that says what it says.
-pub record BeginsBehind (beginning : Beginning) (servers : ℕ) (note : List ℕ) (o : Opening)
+pub record BeginsBehind (beginning : Beginning) (servers : ℕ) (note : List ℕ) (opening : Opening)
     (first : ClientAt) : Type 0 where
   pub past : List FrameEntry
-  pub servers_are : o.servers ≡ servers
-  pub says : Says note (noted o past)
+  pub servers_are : opening.servers ≡ servers
+  pub says : Says note (noted opening past)
   pub begins : first ≡ starts beginning past note
 
 -- What is answered to the note: its save, where the client begins anew; and the end.

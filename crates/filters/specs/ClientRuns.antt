@@ -19,8 +19,9 @@ pub record IsOpened (beginning : Beginning) (servers : ℕ) (note : List ℕ)
   pub said : ClientNote
   pub says : Says note said
   pub saved : (note_in note_kept client).bytes ≡ first_note beginning note
-  pub begins : (o : Opening) (first : ClientAt) → BeginsBehind beginning servers note o first →
-      IsAt note_kept client o first
+  pub begins : (opening : Opening) (first : ClientAt) →
+      BeginsBehind beginning servers note opening first →
+      IsAt note_kept client opening first
 
 -- A client is opened, or why none is.
 abbrev pub OpensOver : Beginning → ℕ → List ℕ → Result (Client KeptNotes) Fault → Type 0

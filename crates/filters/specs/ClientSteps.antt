@@ -29,67 +29,70 @@ use Rattle.filters.specs.Records.{record_bytes, end_bytes}
 
 -- What the note says behind a list.
 abbrev pub noted : Opening → List FrameEntry → ClientNote
-noted o past = words_noted o (packets_heard o past)
+noted opening past = words_noted opening (packets_heard opening past)
 
 -- The list behind an input that is answered.
 abbrev pub after_answer : Opening → List FrameEntry → Input → List FrameEntry
-after_answer o past e = answered_entry o past e ∷ past
+after_answer opening past e = answered_entry opening past e ∷ past
 
 -- The list behind an input that is refused: it isn't in it, but where it drops what has come of a
 -- piece's tag.
 abbrev pub after_refusal : Opening → List FrameEntry → Input → List FrameEntry
-after_refusal o past e = if is_drop (sense o past e) then Met e NoSave ∷ past else past
+after_refusal opening past e = if is_drop (sense opening past e) then Met e NoSave ∷ past else past
 
 -- The number that is given: of a run, or of an attempt.
 abbrev pub number_given : Opening → List FrameEntry → Input → Option ℕ
-number_given o past (Begin text) = Some ((noted o past).runs + 1)
-number_given o past (Verify run text) = Some ((noted o past).attempts + 1)
-number_given o past _ = None
+number_given opening past (Begin text) = Some ((noted opening past).runs + 1)
+number_given opening past (Verify run text) = Some ((noted opening past).attempts + 1)
+number_given opening past _ = None
 
 -- An input is answered as the list says, and what was due is noted.
-pub record IsAnswered {T : Type 0} (note : T → Note) (o : Opening) (past : List FrameEntry)
+pub record IsAnswered {T : Type 0} (note : T → Note) (opening : Opening) (past : List FrameEntry)
     (e : Input) (old new : Client T) (a : Answered) : Type 0 where
-  pub free : refusal o past e ≡ None
-  pub saves : a.saves ≡ is_some (due o past e)
-  pub number : a.number ≡ number_given o past e
-  pub frames_are : a.frames ≡ map frame_spelling (frames o past (answered_entry o past e))
-  pub leaves : LeavesNote (due o past e) (spelling (noted o (after_answer o past e)))
+  pub free : refusal opening past e ≡ None
+  pub saves : a.saves ≡ is_some (due opening past e)
+  pub number : a.number ≡ number_given opening past e
+  pub frames_are : a.frames
+      ≡ map frame_spelling (frames opening past (answered_entry opening past e))
+  pub leaves : LeavesNote (due opening past e)
+      (spelling (noted opening (after_answer opening past e)))
       (note_in note old) (note_in note new)
-  pub stands : StandsFor note new o (after_answer o past e)
+  pub stands : StandsFor note new opening (after_answer opening past e)
 
 -- The note is as it was, and the client stands for this list.
 abbrev pub Stands : {T : Type 0} → (T → Note) → Opening → List FrameEntry → Client T → Client T
     → Type 0
-Stands note o past old new =
-    (note_in note new ≡ note_in note old) × StandsFor note new o past
+Stands note opening past old new =
+    (note_in note new ≡ note_in note old) × StandsFor note new opening past
 
 -- An input isn't answered, by the sort of the fault: for want of memory nothing has changed; or it
 -- is refused. No save fails by itself.
 abbrev pub NotAnswered : {T : Type 0} → (T → Note) → Opening → List FrameEntry → Input → FaultSort
     → Fault → Client T → Client T → Type 0
-NotAnswered note o past e sorts.Memory fault old new = Stands note o past old new
-NotAnswered note o past e sorts.Save fault old new = ⊥
-NotAnswered note o past e sorts.Refusal fault old new =
-    (refusal o past e ≡ Some fault) × Stands note o (after_refusal o past e) old new
+NotAnswered note opening past e sorts.Memory fault old new = Stands note opening past old new
+NotAnswered note opening past e sorts.Save fault old new = ⊥
+NotAnswered note opening past e sorts.Refusal fault old new =
+    (refusal opening past e ≡ Some fault)
+    × Stands note opening (after_refusal opening past e) old new
 
 -- What comes of an input.
 abbrev pub InputEnds : {T : Type 0} → (T → Note) → Opening → List FrameEntry → Input → Client T
     → Client T → Result Answered Fault → Type 0
-InputEnds note o past e old new (Ok a) = IsAnswered note o past e old new a
-InputEnds note o past e old new (Err fault) =
-    NotAnswered note o past e (sort_of fault) fault old new
+InputEnds note opening past e old new (Ok a) = IsAnswered note opening past e old new a
+InputEnds note opening past e old new (Err fault) =
+    NotAnswered note opening past e (sort_of fault) fault old new
 
 -- A body that can't be read leaves the client as it was, and so does want of memory.
 abbrev pub NotRead : {T : Type 0} → (T → Note) → Opening → List FrameEntry → Fault → Client T
     → Client T → Result Answered Fault → Type 0
-NotRead note o past why old new (Ok a) = ⊥
-NotRead note o past why old new (Err fault) = (fault ≡ why) × Stands note o past old new
+NotRead note opening past why old new (Ok a) = ⊥
+NotRead note opening past why old new (Err fault) = (fault ≡ why) × Stands note opening past old new
 
 -- What comes of what a record says.
 abbrev pub BodyEnds : {T : Type 0} → (T → Note) → Opening → List FrameEntry → Result Input Fault
     → Client T → Client T → Result Answered Fault → Type 0
-BodyEnds note o past (Ok e) old new result = InputEnds note o past e old new result
-BodyEnds note o past (Err why) old new result = NotRead note o past why old new result
+BodyEnds note opening past (Ok e) old new result = InputEnds note opening past e old new result
+BodyEnds note opening past (Err why) old new result = NotRead note opening past why old new result
 
 -- The bytes of a save, where one is made, which leaves the note so.
 abbrev pub save_bytes : Bool → List ℕ → List ℕ

@@ -12,17 +12,20 @@ use Rattle.filters.specs.MirrorLives.{MirrorAt, MirrorTakes, BeginsBehind}
 
 -- A mirror is cut so, and the next life over the note that it leaves begins behind its list and the
 -- cut.
-pub record GoesOnFrom (o : MirrorNote) (first : MirrorAt) (records : List RecordParts)
+pub record GoesOnFrom (opening : MirrorNote) (first : MirrorAt) (records : List RecordParts)
     (front : List ℕ) : Type 0 where
   pub left : MirrorAt
-  pub cuts : CutsBehind (MirrorTakes o) (CutsAnswer (λ (at : MirrorAt). at.note)) first records front
+  pub cuts : CutsBehind (MirrorTakes opening)
+      (CutsAnswer (λ (at : MirrorAt). at.note)) first records front
       left
-  pub next : BeginsBehind left.note o
+  pub next : BeginsBehind left.note opening
       (record { list = Restart ∷ (Cut ∷ left.list); note = left.note })
 
 -- Wherever the answers of a life are cut, the next one goes on from there.
 abbrev pub LivesGoOn : Type 0
 LivesGoOn =
-    (o : MirrorNote) (first now : MirrorAt) (records : List RecordParts) (front back : List ℕ) →
-    Says first.note (words_noted o first.list)
-    → Lives (MirrorTakes o) first records now (front ++ back) → GoesOnFrom o first records front
+    (opening : MirrorNote) (first now : MirrorAt) (records : List RecordParts)
+    (front back : List ℕ) →
+    Says first.note (words_noted opening first.list)
+    → Lives (MirrorTakes opening) first records now (front ++ back) →
+    GoesOnFrom opening first records front

@@ -30,46 +30,47 @@ pub record MirrorAt : Type 0 where
 
 -- A mirror is at this moment.
 abbrev pub IsAt : {T : Type 0} → (T → Note) → Mirror T → MirrorNote → MirrorAt → Type 0
-IsAt note mirror o at =
-    StandsFor note mirror o at.list × ((note mirror.durable.notes).bytes ≡ at.note)
+IsAt note mirror opening at =
+    StandsFor note mirror opening at.list × ((note mirror.durable.notes).bytes ≡ at.note)
 
 -- The list behind a frame that is answered.
 abbrev pub after_answer : MirrorNote → List Entry → Frame → List Entry
-after_answer o past f = answered_entry o past f ∷ past
+after_answer opening past f = answered_entry opening past f ∷ past
 
 -- The note as a frame that is taken leaves it, if it is to be saved.
 abbrev pub new_note : MirrorNote → List Entry → Frame → List ℕ
-new_note o past f = spelling (words_noted o (after_answer o past f))
+new_note opening past f = spelling (words_noted opening (after_answer opening past f))
 
 -- What is answered to a frame that is taken: the note, where something is due to be saved; the
 -- frames that are sent; and the end.
 abbrev pub taken_bytes : MirrorNote → List Entry → Frame → List ℕ
-taken_bytes o past f =
-    (save_bytes (would_save o past f) (new_note o past f)
-    ++ send_bytes (frame_bytes (packets o past (answered_entry o past f))))
+taken_bytes opening past f =
+    (save_bytes (would_save opening past f) (new_note opening past f)
+    ++ send_bytes (frame_bytes (packets opening past (answered_entry opening past f))))
     ++ end_bytes (Ok tt)
 
 -- What is answered to a frame, by why it is refused, if it is.
 abbrev pub reply_by : Option Fault → MirrorNote → List Entry → Frame → List ℕ
-reply_by None o past f = taken_bytes o past f
-reply_by (Some fault) o past f = end_bytes (Err fault)
+reply_by None opening past f = taken_bytes opening past f
+reply_by (Some fault) opening past f = end_bytes (Err fault)
 
 -- The mirror behind a frame: one that is refused changes nothing.
 abbrev pub at_by : Option Fault → MirrorNote → MirrorAt → Frame → MirrorAt
-at_by None o at f = record {
-  list = after_answer o at.list f;
-  note = note_with (due o at.list f) (new_note o at.list f) at.note;
+at_by None opening at f = record {
+  list = after_answer opening at.list f;
+  note = note_with (due opening at.list f) (new_note opening at.list f) at.note;
 }
-at_by (Some fault) o at f = at
+at_by (Some fault) opening at f = at
 
 -- What is made of a body: what the list says of the frame; or memory is wanting. A bad one changes
 -- nothing.
 abbrev pub TakesBody : MirrorNote → MirrorAt → Result Frame Fault → MirrorAt → List ℕ → Type 0
-TakesBody o at (Ok f) now answer =
-    Leaves (at_by (refusal o at.list f) o at f) (reply_by (refusal o at.list f) o at.list f) now
+TakesBody opening at (Ok f) now answer =
+    Leaves (at_by (refusal opening at.list f) opening at f)
+    (reply_by (refusal opening at.list f) opening at.list f) now
     answer
     ⊎ WantsMemory at now answer
-TakesBody o at (Err why) now answer = Leaves at (end_bytes (Err why)) now answer
+TakesBody opening at (Err why) now answer = Leaves at (end_bytes (Err why)) now answer
 
 -- What a body asks that is to be a frame.
 abbrev pub frame_in : List ℕ → Result Frame Fault
@@ -77,19 +78,20 @@ frame_in body = with_frame (λ f. f) (frame_faults body) (frame_at body)
 
 -- What is made of a record of this kind, if it is one: only frames are for a mirror.
 abbrev pub TakesKind : MirrorNote → MirrorAt → Option Told → List ℕ → MirrorAt → List ℕ → Type 0
-TakesKind o at (Some told.Frame) body now answer = TakesBody o at (frame_in body) now answer
-TakesKind o at _ body now answer = Leaves at (end_bytes (Err BadNotice)) now answer
+TakesKind opening at (Some told.Frame) body now answer =
+    TakesBody opening at (frame_in body) now answer
+TakesKind opening at _ body now answer = Leaves at (end_bytes (Err BadNotice)) now answer
 
 -- What the mirror makes of a record and answers; and its note says what its list does.
 abbrev pub MirrorTakes : MirrorNote → MirrorAt → RecordParts → MirrorAt → List ℕ → Type 0
-MirrorTakes o at r now answer =
-    TakesKind o at (told_numbered r.kind) r.body now answer
-    × Says now.note (words_noted o now.list)
+MirrorTakes opening at r now answer =
+    TakesKind opening at (told_numbered r.kind) r.body now answer
+    × Says now.note (words_noted opening now.list)
 
 -- The mirror begins over its note, with a restart behind any list of which that says what it says.
-pub record BeginsBehind (note : List ℕ) (o : MirrorNote) (first : MirrorAt) : Type 0 where
+pub record BeginsBehind (note : List ℕ) (opening : MirrorNote) (first : MirrorAt) : Type 0 where
   pub past : List Entry
-  pub says : Says note (words_noted o past)
+  pub says : Says note (words_noted opening past)
   pub begins : first ≡ record { list = Restart ∷ past; note = note }
 
 -- The mirror isn't opened: the bytes are no note, or memory is wanting.

@@ -14,14 +14,14 @@ use Rattle.filters.specs.NodeSteps.{IsTaken, NotTaken}
 -- What comes of a frame: it is answered, and no number is given; or it isn't.
 abbrev pub FrameEnds : {T : Type 0} → (T → Note) → MirrorNote → List Entry → Frame → Mirror T
     → Mirror T → Result Answered Fault → Type 0
-FrameEnds note o past f old new (Ok a) =
-    IsTaken (steps note o) past f old new a.frames a.saves × (a.number ≡ None)
-FrameEnds note o past f old new (Err fault) =
-    NotTaken (steps note o) past f (sort_of fault) fault old new
+FrameEnds note opening past f old new (Ok a) =
+    IsTaken (steps note opening) past f old new a.frames a.saves × (a.number ≡ None)
+FrameEnds note opening past f old new (Err fault) =
+    NotTaken (steps note opening) past f (sort_of fault) fault old new
 
 -- What comes of what a record says. A body that can't be read leaves the mirror as it was.
 abbrev pub BodyEnds : {T : Type 0} → (T → Note) → MirrorNote → List Entry → Result Frame Fault
     → Mirror T → Mirror T → Result Answered Fault → Type 0
-BodyEnds note o past (Ok f) old new result = FrameEnds note o past f old new result
-BodyEnds note o past (Err why) old new (Ok a) = ⊥
-BodyEnds note o past (Err why) old new (Err fault) = (fault ≡ why) × (new ≡ old)
+BodyEnds note opening past (Ok f) old new result = FrameEnds note opening past f old new result
+BodyEnds note opening past (Err why) old new (Ok a) = ⊥
+BodyEnds note opening past (Err why) old new (Err fault) = (fault ≡ why) × (new ≡ old)

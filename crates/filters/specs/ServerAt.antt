@@ -28,8 +28,8 @@ pub record ServerAt : Type 0 where
 
 -- A server is at this moment.
 abbrev pub IsAt : {T : Type 0} → (T → Note) → Server T → Opening → ServerAt → Type 0
-IsAt note server o at =
-    StandsFor note server o at.list × ((note_in note server).bytes ≡ at.note)
+IsAt note server opening at =
+    StandsFor note server opening at.list × ((note_in note server).bytes ≡ at.note)
 
 -- No check is under way.
 abbrev pub no_checks : ℕ → Option UnderWay
@@ -41,24 +41,24 @@ with_check j u at = record at { checks = λ i. if i == j then u else at.checks i
 
 -- What the note says behind a list.
 abbrev pub noted : Opening → List FrameEntry → ServerNote
-noted o past = words_noted o (packets_heard o past)
+noted opening past = words_noted opening (packets_heard opening past)
 
 -- The note as an input that is taken leaves it, if it is to be saved.
 abbrev pub new_note : Opening → List FrameEntry → Input → List ℕ
-new_note o past e = spelling (noted o (answered_entry o past e ∷ past))
+new_note opening past e = spelling (noted opening (answered_entry opening past e ∷ past))
 
 -- The server behind an input, by why it is refused, if it is: it stands in the list either way.
 abbrev pub at_by : Option Fault → Opening → ServerAt → Input → ServerAt
-at_by None o at e = record at {
-  list = answered_entry o at.list e ∷ at.list;
-  note = note_with (due o at.list e) (new_note o at.list e) at.note;
+at_by None opening at e = record at {
+  list = answered_entry opening at.list e ∷ at.list;
+  note = note_with (due opening at.list e) (new_note opening at.list e) at.note;
 }
-at_by (Some fault) o at e = record at { list = Met e NoSave ∷ at.list }
+at_by (Some fault) opening at e = record at { list = Met e NoSave ∷ at.list }
 
 -- What is handed out for an input that is taken: the note, where something is due to be saved; the
 -- frames; and the cut.
 abbrev pub handed : Opening → List FrameEntry → Input → List ℕ
-handed o past e =
-    save_bytes (is_some (due o past e)) (new_note o past e)
-    ++ (send_bytes (map frame_spelling (frames o past (answered_entry o past e)))
-    ++ act_bytes (act o past e))
+handed opening past e =
+    save_bytes (is_some (due opening past e)) (new_note opening past e)
+    ++ (send_bytes (map frame_spelling (frames opening past (answered_entry opening past e)))
+    ++ act_bytes (act opening past e))

@@ -45,46 +45,48 @@ NotTaken fault at end now answer = (end ≡ Err fault) × Leaves at [] now answe
 -- wants, and it goes on with them; or they aren't.
 abbrev pub FeedsBy : Option UnderWay → Opening → ServerAt → BlockName → List ℕ
     → Result (Unit {0}) Fault → ServerAt → List ℕ → Type 0
-FeedsBy None o at name bytes end now answer = NotTaken NotInFlight at end now answer
-FeedsBy (Some u) o at name bytes end now answer =
+FeedsBy None opening at name bytes end now answer = NotTaken NotInFlight at end now answer
+FeedsBy (Some u) opening at name bytes end now answer =
     ((given : ℕ) × AreWanted u (length bytes) given
-    × GoesOn o at name.job (with_blocks u given bytes) end now answer)
+    × GoesOn opening at name.job (with_blocks u given bytes) end now answer)
     ⊎ (((given : ℕ) → AreWanted u (length bytes) given → ⊥) × NotTaken BadNotice at end now answer)
 
 -- What is made of a body with blocks, by whether it is too short for a name: behind that stand the
 -- bytes of the blocks from the named one on.
 abbrev pub FeedsIf : Bool → Opening → ServerAt → List ℕ → Result (Unit {0}) Fault → ServerAt
     → List ℕ → Type 0
-FeedsIf true o at body end now answer = NotTaken BadNotice at end now answer
-FeedsIf false o at body end now answer =
-    FeedsBy (named at (block_in (take BLOCK_NAME body))) o at (block_in (take BLOCK_NAME body))
+FeedsIf true opening at body end now answer = NotTaken BadNotice at end now answer
+FeedsIf false opening at body end now answer =
+    FeedsBy (named at (block_in (take BLOCK_NAME body))) opening at
+    (block_in (take BLOCK_NAME body))
     (drop BLOCK_NAME body) end now answer
 
 -- What is made of a body with blocks.
 abbrev pub Feeds : Opening → ServerAt → List ℕ → Result (Unit {0}) Fault → ServerAt → List ℕ
     → Type 0
-Feeds o at body end now answer =
-    FeedsIf (nat_lt (length body) BLOCK_NAME) o at body end now answer
+Feeds opening at body end now answer =
+    FeedsIf (nat_lt (length body) BLOCK_NAME) opening at body end now answer
 
 -- What is made of a block that couldn't be read, which is the first that this check wants: the
 -- report of the blocks before it is told.
 abbrev pub GivesUpBy : Option UnderWay → Opening → ServerAt → BlockName → Result (Unit {0}) Fault
     → ServerAt → List ℕ → Type 0
-GivesUpBy None o at name end now answer = NotTaken NotInFlight at end now answer
-GivesUpBy (Some u) o at name end now answer =
-    TellsReport o at name.job u (report_before u name.block) end now answer
+GivesUpBy None opening at name end now answer = NotTaken NotInFlight at end now answer
+GivesUpBy (Some u) opening at name end now answer =
+    TellsReport opening at name.job u (report_before u name.block) end now answer
 
 -- What is made of a body that names a block which couldn't be read, by whether it names one that
 -- there can be.
 abbrev pub GivesUpIf : Bool → Opening → ServerAt → List ℕ → Result (Unit {0}) Fault → ServerAt
     → List ℕ → Type 0
-GivesUpIf false o at body end now answer = NotTaken BadNotice at end now answer
-GivesUpIf true o at body end now answer =
-    GivesUpBy (named at (block_in body)) o at (block_in body) end now answer
+GivesUpIf false opening at body end now answer = NotTaken BadNotice at end now answer
+GivesUpIf true opening at body end now answer =
+    GivesUpBy (named at (block_in body)) opening at (block_in body) end now answer
 
 -- What is made of a body that says that a block couldn't be read.
 abbrev pub GivesUp : Opening → ServerAt → List ℕ → Result (Unit {0}) Fault → ServerAt → List ℕ
     → Type 0
-GivesUp o at body end now answer =
-    GivesUpIf ((length body == BLOCK_NAME) && nat_lt (block_in body).block MAX_BLOCKS) o at body
+GivesUp opening at body end now answer =
+    GivesUpIf ((length body == BLOCK_NAME)
+    && nat_lt (block_in body).block MAX_BLOCKS) opening at body
     end now answer

@@ -14,20 +14,22 @@ use Rattle.filters.specs.Cuts.{CutsBehind}
 -- A server is cut so: where its save is there, it is as behind the record and all turns, and what
 -- was sent and ordered counts. The next life over the note that it leaves begins behind its list
 -- and the cut.
-pub record GoesOnFrom (o : Opening) (first : ServerAt) (records : List RecordParts)
+pub record GoesOnFrom (opening : Opening) (first : ServerAt) (records : List RecordParts)
     (front : List ℕ) : Type 0 where
   pub left : ServerAt
-  pub cuts : CutsBehind (ServerTakes o) (CutsAnswer (λ (at : ServerAt). at.note)) first records front left
-  pub next : BeginsBehind o.me left.note (noted o left.list) o
+  pub cuts : CutsBehind (ServerTakes opening)
+      (CutsAnswer (λ (at : ServerAt). at.note)) first records front left
+  pub next : BeginsBehind opening.me left.note (noted opening left.list) opening
       (record {
         list = Restart Saved ∷ (Cut ∷ left.list);
-        note = next_boot (noted o left.list);
+        note = next_boot (noted opening left.list);
         checks = no_checks;
       })
 
 -- Wherever the answers of a life are cut, the next one goes on from there.
 abbrev pub LivesGoOn : Type 0
 LivesGoOn =
-    (o : Opening) (first now : ServerAt) (records : List RecordParts) (front back : List ℕ) →
-    Says first.note (noted o first.list) → Lives (ServerTakes o) first records now (front ++ back)
-    → GoesOnFrom o first records front
+    (opening : Opening) (first now : ServerAt) (records : List RecordParts) (front back : List ℕ) →
+    Says first.note (noted opening first.list) →
+    Lives (ServerTakes opening) first records now (front ++ back)
+    → GoesOnFrom opening first records front

@@ -34,25 +34,26 @@ use Rattle.filters.specs.ServerChecks.{Feeds, GivesUp}
 use Rattle.filters.specs.Lives.{RecordParts, Filter}
 
 -- Behind these bytes some turns follow, until all writes are ordered that can be, and the end.
-pub record Follows (o : Opening) (at : ServerAt) (front : List ℕ) (now : ServerAt)
+pub record Follows (opening : Opening) (at : ServerAt) (front : List ℕ) (now : ServerAt)
     (answer : List ℕ) : Type 0 where
   pub written : List ℕ
-  pub turns : Turns o at now written
-  pub ordered : AreAllGiven o now.list
+  pub turns : Turns opening at now written
+  pub ordered : AreAllGiven opening now.list
   pub all : answer ≡ front ++ (written ++ end_bytes (Ok tt))
 
 -- What is made of an input, by why it is refused, if it is.
 abbrev pub TakesBy : Option Fault → Opening → ServerAt → Input → ServerAt → List ℕ → Type 0
-TakesBy None o at e now answer = Follows o (at_by None o at e) (handed o at.list e) now answer
-TakesBy (Some fault) o at e now answer =
-    Leaves (at_by (Some fault) o at e) (end_bytes (Err fault)) now answer
+TakesBy None opening at e now answer =
+    Follows opening (at_by None opening at e) (handed opening at.list e) now answer
+TakesBy (Some fault) opening at e now answer =
+    Leaves (at_by (Some fault) opening at e) (end_bytes (Err fault)) now answer
 
 -- What is made of a body: what the list says of the input; or memory is wanting. A bad one changes
 -- nothing.
 abbrev pub TakesBody : Opening → ServerAt → Result Input Fault → ServerAt → List ℕ → Type 0
-TakesBody o at (Ok e) now answer =
-    TakesBy (refusal o at.list e) o at e now answer ⊎ WantsMemory at now answer
-TakesBody o at (Err why) now answer = Leaves at (end_bytes (Err why)) now answer
+TakesBody opening at (Ok e) now answer =
+    TakesBy (refusal opening at.list e) opening at e now answer ⊎ WantsMemory at now answer
+TakesBody opening at (Err why) now answer = Leaves at (end_bytes (Err why)) now answer
 
 -- The frame that bytes are, by the list of their faults.
 abbrev pub frame_in : List Fault → Option Frame → Result Input Fault
@@ -79,54 +80,59 @@ end_of_open end run None = Err NotInFlight
 
 -- The end of a write that is told of, where it is open.
 abbrev pub end_in : Opening → List FrameEntry → WriteEnd → Option WriteName → Result Input Fault
-end_in o past end (Some name) =
+end_in opening past end (Some name) =
     end_of_open end name.run
-    (open_write o (shown_entries (packets_heard o past)) name.job name.seq)
-end_in o past end None = Err BadNotice
+    (open_write opening (shown_entries (packets_heard opening past)) name.job name.seq)
+end_in opening past end None = Err BadNotice
 
 -- Behind what is made of what is told of a check: where it is taken, some turns follow; else just
 -- the end.
 abbrev pub EndsBy : Result (Unit {0}) Fault → Opening → ServerAt → List ℕ → ServerAt → List ℕ
     → Type 0
-EndsBy (Ok taken) o at front now answer = Follows o at front now answer
-EndsBy (Err fault) o at front now answer = Leaves at (front ++ end_bytes (Err fault)) now answer
+EndsBy (Ok taken) opening at front now answer = Follows opening at front now answer
+EndsBy (Err fault) opening at front now answer =
+    Leaves at (front ++ end_bytes (Err fault)) now answer
 
 -- What is made of what is told of a check, of which this `Comes` first.
-pub record TakesCheck (Comes : Result (Unit {0}) Fault → ServerAt → List ℕ → Type 0) (o : Opening)
+pub record TakesCheck (Comes : Result (Unit {0}) Fault → ServerAt → List ℕ → Type 0)
+    (opening : Opening)
     (now : ServerAt) (answer : List ℕ) : Type 0 where
   pub end : Result (Unit {0}) Fault
   pub mid : ServerAt
   pub front : List ℕ
   pub comes : Comes end mid front
-  pub ends : EndsBy end o mid front now answer
+  pub ends : EndsBy end opening mid front now answer
 
 -- What is made of a record of this kind, if it is one.
 abbrev pub TakesKind : Opening → ServerAt → Option Told → List ℕ → ServerAt → List ℕ → Type 0
-TakesKind o at (Some told.Frame) body now answer =
-    TakesBody o at (frame_in (frame_faults body) (frame_at body)) now answer
-TakesKind o at (Some told.Done) body now answer =
-    TakesBody o at (end_in o at.list ends.Done (write_in body)) now answer
-TakesKind o at (Some told.Failed) body now answer =
-    TakesBody o at (end_in o at.list ends.Failed (write_in body)) now answer
-TakesKind o at (Some told.Blocks) body now answer = TakesCheck (Feeds o at body) o now answer
-TakesKind o at (Some told.Unread) body now answer = TakesCheck (GivesUp o at body) o now answer
-TakesKind o at _ body now answer = Leaves at (end_bytes (Err BadNotice)) now answer
+TakesKind opening at (Some told.Frame) body now answer =
+    TakesBody opening at (frame_in (frame_faults body) (frame_at body)) now answer
+TakesKind opening at (Some told.Done) body now answer =
+    TakesBody opening at (end_in opening at.list ends.Done (write_in body)) now answer
+TakesKind opening at (Some told.Failed) body now answer =
+    TakesBody opening at (end_in opening at.list ends.Failed (write_in body)) now answer
+TakesKind opening at (Some told.Blocks) body now answer =
+    TakesCheck (Feeds opening at body) opening now answer
+TakesKind opening at (Some told.Unread) body now answer =
+    TakesCheck (GivesUp opening at body) opening now answer
+TakesKind opening at _ body now answer = Leaves at (end_bytes (Err BadNotice)) now answer
 
 -- What a server makes of a record and answers; and its note says what its list does.
 abbrev pub ServerTakes : Opening → ServerAt → RecordParts → ServerAt → List ℕ → Type 0
-ServerTakes o at r now answer =
-    TakesKind o at (told_numbered r.kind) r.body now answer × Says now.note (noted o now.list)
+ServerTakes opening at r now answer =
+    TakesKind opening at (told_numbered r.kind) r.body now answer
+    × Says now.note (noted opening now.list)
 
 -- The note behind a restart, where it said this: the next boot.
 abbrev pub next_boot : ServerNote → List ℕ
 next_boot said = spelling (record said { boot = said.boot + 1 })
 
 -- The server begins over its note, with a restart behind any list of which that said what it says.
-pub record BeginsBehind (me : ℕ) (note : List ℕ) (said : ServerNote) (o : Opening)
+pub record BeginsBehind (me : ℕ) (note : List ℕ) (said : ServerNote) (opening : Opening)
     (first : ServerAt) : Type 0 where
   pub past : List FrameEntry
-  pub me_is : o.me ≡ me
-  pub says : Says note (noted o past)
+  pub me_is : opening.me ≡ me
+  pub says : Says note (noted opening past)
   pub begins : first ≡ record {
     list = Restart Saved ∷ past;
     note = next_boot said;

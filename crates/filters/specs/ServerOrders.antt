@@ -11,12 +11,13 @@ use Rattle.server_core.specs.Laws.{gives_write}
 
 -- What job j would answer to a request for a write, where that isn't refused.
 abbrev pub answer_of : Opening → List FrameEntry → ℕ → Option Answer
-answer_of o past j = unless_refused (refusal o past (Issue j)) (issue o past (Issue j))
+answer_of opening past j =
+    unless_refused (refusal opening past (Issue j)) (issue opening past (Issue j))
 
 -- Job j would be given no write.
 abbrev pub GivesNone : Opening → List FrameEntry → ℕ → Type 0
-GivesNone o past j = gives_write (answer_of o past j) ≡ false
+GivesNone opening past j = gives_write (answer_of opening past j) ≡ false
 
 -- All writes are given that can be: no job would be given one more.
 abbrev pub AreAllGiven : Opening → List FrameEntry → Type 0
-AreAllGiven o past = (j : ℕ) → j < MAX_JOBS → GivesNone o past j
+AreAllGiven opening past = (j : ℕ) → j < MAX_JOBS → GivesNone opening past j

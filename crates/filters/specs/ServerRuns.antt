@@ -29,13 +29,13 @@ pub record OpenedOver (me : ℕ) (note : List ℕ) (filter : ServerFilter) : Typ
   pub said : ServerNote
   pub says : Says note said
   pub saved : (note_in note_kept filter.server).bytes ≡ next_boot said
-  pub begins : (o : Opening) (first : ServerAt) → BeginsBehind me note said o first →
-      IsHere filter o first
+  pub begins : (opening : Opening) (first : ServerAt) → BeginsBehind me note said opening first →
+      IsHere filter opening first
 
 -- Some turns were taken, and this holds of where the server was and is.
 abbrev pub TurnsTo : (Opening → ServerAt → ServerAt → Type 0) → Opening → ServerAt → ServerAt
     → List ℕ → Type 0
-TurnsTo P o at now written = Turns o at now written × P o at now
+TurnsTo P opening at now written = Turns opening at now written × P opening at now
 
 -- How many writes of job j of a run were issued.
 abbrev pub issued_of_job : Work → ℕ → Option Job → ℕ
@@ -49,18 +49,19 @@ issued_by (Some w) j = issued_of_job w j (slice_get w.jobs j)
 
 -- The same behind a list.
 abbrev pub issued_at : Opening → List FrameEntry → ℕ → ℕ
-issued_at o past j = issued_by (work o (packets_heard o past)) j
+issued_at opening past j = issued_by (work opening (packets_heard opening past)) j
 
 -- Job j was asked for a write: it gave one more; or it would give none.
 abbrev pub Asked : ℕ → Bool → Opening → ServerAt → ServerAt → Type 0
-Asked j true o at now =
-    (issued_at o now.list j ≡ issued_at o at.list j + 1) × (issued_at o now.list j ≤ MAX_WRITES)
-Asked j false o at now = GivesNone o now.list j
+Asked j true opening at now =
+    (issued_at opening now.list j ≡ issued_at opening at.list j + 1)
+    × (issued_at opening now.list j ≤ MAX_WRITES)
+Asked j false opening at now = GivesNone opening now.list j
 
 -- Job j gave so many writes.
 abbrev pub Gave : ℕ → ℕ → Opening → ServerAt → ServerAt → Type 0
-Gave j n o at now =
-    (n ≤ issued_at o now.list j) × (0 < n → issued_at o now.list j ≤ MAX_WRITES)
+Gave j n opening at now =
+    (n ≤ issued_at opening now.list j) × (0 < n → issued_at opening now.list j ≤ MAX_WRITES)
 
 -- What is handed out is written, with what follows from it and the end; or just the fault, and the
 -- filter stays as it was.
@@ -70,8 +71,8 @@ WritesHanded (Ok h) filter after old new =
     (written : List ℕ)
     × Appends old new (handed_bytes (note_in note_kept filter.server).bytes h
     ++ (written ++ end_bytes (Ok tt)))
-    × ((o : Opening) (at : ServerAt) → IsHere filter o at →
-    (now : ServerAt) × IsHere after o now
-    × TurnsTo (λ o at now. AreAllGiven o now.list) o at now written)
+    × ((opening : Opening) (at : ServerAt) → IsHere filter opening at →
+    (now : ServerAt) × IsHere after opening now
+    × TurnsTo (λ opening at now. AreAllGiven opening now.list) opening at now written)
 WritesHanded (Err fault) filter after old new =
     Appends old new (end_bytes (Err fault)) × (after ≡ filter)

@@ -17,25 +17,27 @@ use Rattle.filters.specs.ClientSteps.{save_bytes}
 use Rattle.filters.specs.ServerTells.{outs_bytes}
 
 -- What comes is answered as the list says, and it is told whether something was due to be noted.
-pub record IsHanded {T : Type 0} (note : T → Note) (o : Opening) (past : List FrameEntry)
+pub record IsHanded {T : Type 0} (note : T → Note) (opening : Opening) (past : List FrameEntry)
     (e : Input) (old new : Server T) (h : Handed) : Type 0 where
-  pub answers : Answers (steps note o) past e old new h.outs
-  pub saves : h.saves ≡ is_some (due o past e)
+  pub answers : Answers (steps note opening) past e old new h.outs
+  pub saves : h.saves ≡ is_some (due opening past e)
 
 -- It isn't answered, by the sort of the fault: for want of memory, or it is refused. No save fails
 -- by itself.
 abbrev pub NotHanded : {T : Type 0} → (T → Note) → Opening → List FrameEntry → Input → FaultSort
     → Fault → Server T → Server T → Type 0
-NotHanded note o past e sorts.Memory fault old new =
-    (note_in note new ≡ note_in note old) × StandsFor note new o past
-NotHanded note o past e sorts.Save fault old new = ⊥
-NotHanded note o past e sorts.Refusal fault old new = Refuses (steps note o) past e fault old new
+NotHanded note opening past e sorts.Memory fault old new =
+    (note_in note new ≡ note_in note old) × StandsFor note new opening past
+NotHanded note opening past e sorts.Save fault old new = ⊥
+NotHanded note opening past e sorts.Refusal fault old new =
+    Refuses (steps note opening) past e fault old new
 
 -- What comes of what comes.
 abbrev pub HandsOut : {T : Type 0} → (T → Note) → Opening → List FrameEntry → Input → Server T
     → Server T → Result Handed Fault → Type 0
-HandsOut note o past e old new (Ok h) = IsHanded note o past e old new h
-HandsOut note o past e old new (Err fault) = NotHanded note o past e (sort_of fault) fault old new
+HandsOut note opening past e old new (Ok h) = IsHanded note opening past e old new h
+HandsOut note opening past e old new (Err fault) =
+    NotHanded note opening past e (sort_of fault) fault old new
 
 -- A body that can't be read leaves the server as it was, and so does one that names nothing open.
 abbrev pub NotTaken : {T : Type 0} → Fault → Server T → Server T → Result Handed Fault → Type 0
@@ -45,8 +47,8 @@ NotTaken why old new (Err fault) = (fault ≡ why) × (new ≡ old)
 -- What comes of what a record says.
 abbrev pub BodyHands : {T : Type 0} → (T → Note) → Opening → List FrameEntry → Result Input Fault
     → Server T → Server T → Result Handed Fault → Type 0
-BodyHands note o past (Ok e) old new result = HandsOut note o past e old new result
-BodyHands note o past (Err why) old new result = NotTaken why old new result
+BodyHands note opening past (Ok e) old new result = HandsOut note opening past e old new result
+BodyHands note opening past (Err why) old new result = NotTaken why old new result
 
 -- What is written for what is handed out over a note: the save first, then the frames, then the
 -- cut.

@@ -50,9 +50,10 @@ ordered None job = []
 
 -- What is ordered, by why the request is refused, if it is.
 abbrev pub ordered_by : Option Fault → Opening → List FrameEntry → ℕ → List ℕ
-ordered_by None o past j =
-    ordered (issue o past (Issue j)) (run_job o (shown_entries (packets_heard o past)) j)
-ordered_by (Some fault) o past j = []
+ordered_by None opening past j =
+    ordered (issue opening past (Issue j))
+    (run_job opening (shown_entries (packets_heard opening past)) j)
+ordered_by (Some fault) opening past j = []
 
 -- Which blocks are wanted: attempt, job, the first one, how many, and how many bytes one has.
 abbrev pub want_bytes : ℕ → ℕ → ℕ → ℕ → ℕ → List ℕ
@@ -64,33 +65,33 @@ want_bytes a j first count size =
 -- What is told to the server is taken, as the list says, by why it is refused, if it is.
 abbrev pub TellsBy : Option Fault → Opening → ServerAt → Input → Result (Unit {0}) Fault
     → ServerAt → List ℕ → Type 0
-TellsBy None o at e end now answer =
-    (end ≡ Ok tt) × Leaves (at_by None o at e) (handed o at.list e) now answer
-TellsBy (Some fault) o at e end now answer =
-    (end ≡ Err fault) × Leaves (at_by (Some fault) o at e) [] now answer
+TellsBy None opening at e end now answer =
+    (end ≡ Ok tt) × Leaves (at_by None opening at e) (handed opening at.list e) now answer
+TellsBy (Some fault) opening at e end now answer =
+    (end ≡ Err fault) × Leaves (at_by (Some fault) opening at e) [] now answer
 
 -- So it is told; or memory is wanting for that.
 abbrev pub TellsIt : Opening → ServerAt → Input → Result (Unit {0}) Fault → ServerAt → List ℕ
     → Type 0
-TellsIt o at e end now answer =
-    TellsBy (refusal o at.list e) o at e end now answer
+TellsIt opening at e end now answer =
+    TellsBy (refusal opening at.list e) opening at e end now answer
     ⊎ ((fault : Fault) × (sort_of fault ≡ Memory) × (end ≡ Err fault) × Leaves at [] now answer)
 
 -- A check of job j is no longer under way, and its report, whose numbers fit together, is told.
 abbrev pub TellsReport : Opening → ServerAt → ℕ → UnderWay → ReportParts
     → Result (Unit {0}) Fault → ServerAt → List ℕ → Type 0
-TellsReport o at j u r end now answer =
+TellsReport opening at j u r end now answer =
     IsTrue (is_report r)
-    × TellsIt o (with_check j None at) (CheckDone u.boot u.attempt j r) end now answer
+    × TellsIt opening (with_check j None at) (CheckDone u.boot u.attempt j r) end now answer
 
 -- A check of job j goes on: the next blocks are wanted; or it is over, and its report is told.
 abbrev pub GoesOn : Opening → ServerAt → ℕ → UnderWay → Result (Unit {0}) Fault → ServerAt
     → List ℕ → Type 0
-GoesOn o at j u end now answer =
+GoesOn opening at j u end now answer =
     ((first count : ℕ) × WantsMore u first count × (end ≡ Ok tt)
     × Leaves (with_check j (Some (record u { first = first; count = count })) at)
     (want_bytes u.attempt j first count u.expected.job.bs) now answer)
-    ⊎ ((r : ReportParts) × IsOver u r × TellsReport o at j u r end now answer)
+    ⊎ ((r : ReportParts) × IsOver u r × TellsReport opening at j u r end now answer)
 
 -- The state that a check is made with, where it may be made: none for a full pass.
 abbrev pub ready_by : Option Progress → Option (Option State)
@@ -105,28 +106,29 @@ is_under_way boot attempt (Some u) = (u.attempt == attempt) && (u.boot == boot)
 
 -- A check of job j that begins: the server's words say that it may be made, and by which state and
 -- which job; it isn't under way; and no block came yet.
-pub record IsNew (o : Opening) (at : ServerAt) (j : ℕ) (u : UnderWay) : Type 0 where
+pub record IsNew (opening : Opening) (at : ServerAt) (j : ℕ) (u : UnderWay) : Type 0 where
   pub shown : Status
   pub job : Job
   pub state : Option State
-  pub shown_is : shown ≡ status o (shown_entries (packets_heard o at.list))
-  pub is_job : check_job o (shown_entries (packets_heard o at.list)) j ≡ Some job
-  pub ready : ready_by (progress o (shown_entries (packets_heard o at.list)) j) ≡ Some state
+  pub shown_is : shown ≡ status opening (shown_entries (packets_heard opening at.list))
+  pub is_job : check_job opening (shown_entries (packets_heard opening at.list)) j ≡ Some job
+  pub ready : ready_by (progress opening (shown_entries (packets_heard opening at.list)) j)
+      ≡ Some state
   pub other : is_under_way shown.boot shown.attempt (at.checks j) ≡ false
   pub boot_is : u.boot ≡ shown.boot
   pub attempt_is : u.attempt ≡ shown.attempt
   pub expected_is : u.expected
-      ≡ expected_by (record { run = shown.last_run; server = o.me; job = j }) job.rec state
+      ≡ expected_by (record { run = shown.last_run; server = opening.me; job = j }) job.rec state
   pub fatal_is : u.fatal ≡ job.fatal
   pub none_came : u.came ≡ []
 
 -- A check of job j begins, and goes on.
-pub record BeginsCheck (o : Opening) (at : ServerAt) (j : ℕ) (now : ServerAt)
+pub record BeginsCheck (opening : Opening) (at : ServerAt) (j : ℕ) (now : ServerAt)
     (answer : List ℕ) : Type 0 where
   pub check : UnderWay
   pub end : Result (Unit {0}) Fault
-  pub new : IsNew o at j check
-  pub goes : GoesOn o at j check end now answer
+  pub new : IsNew opening at j check
+  pub goes : GoesOn opening at j check end now answer
 
 -- A turn: a job is asked for its next write; the check of one begins.
 pub data Turn : Type 0 where
@@ -135,11 +137,11 @@ pub data Turn : Type 0 where
 
 -- What a turn leaves and writes.
 abbrev pub TakesTurn : Opening → ServerAt → Turn → ServerAt → List ℕ → Type 0
-TakesTurn o at (Asks j) now answer =
-    Leaves (at_by (refusal o at.list (Issue j)) o at (Issue j))
-    (ordered_by (refusal o at.list (Issue j)) o at.list j) now answer
-TakesTurn o at (Begins j) now answer = BeginsCheck o at j now answer
+TakesTurn opening at (Asks j) now answer =
+    Leaves (at_by (refusal opening at.list (Issue j)) opening at (Issue j))
+    (ordered_by (refusal opening at.list (Issue j)) opening at.list j) now answer
+TakesTurn opening at (Begins j) now answer = BeginsCheck opening at j now answer
 
 -- Some turns were taken.
 abbrev pub Turns : Opening → ServerAt → ServerAt → List ℕ → Type 0
-Turns o at now written = (turns : List Turn) × Lives (TakesTurn o) at turns now written
+Turns opening at now written = (turns : List Turn) × Lives (TakesTurn opening) at turns now written

@@ -54,15 +54,16 @@ pub record AnswersBy {O S : Type 0} (Takes : O → S → S → List ℕ → Type
     (Before After : O → S → Type 0) (old new : Option (List ℕ)) : Type 0 where
   pub answer : List ℕ
   pub written : Appends old new answer
-  pub takes : (o : O) (before : S) → Before o before →
-      (after : S) × After o after × Takes o before after answer
+  pub takes : (opening : O) (before : S) → Before opening before →
+      (after : S) × After opening after × Takes opening before after answer
 
 -- A record was answered.
 abbrev pub AnswersRecord : {O S : Type 0} → (O → S → RecordParts → S → List ℕ → Type 0)
     → (O → S → Type 0) → (O → S → Type 0) → RecordParts → Option (List ℕ) → Option (List ℕ)
     → Type 0
 AnswersRecord Takes Before After r old new =
-    AnswersBy (λ o before after answer. Takes o before r after answer) Before After old new
+    AnswersBy (λ opening before after answer.
+    Takes opening before r after answer) Before After old new
 
 -- A step reads a record and answers it; or it ends the run with this status.
 abbrev pub StepsBy : {O S : Type 0} → (O → S → RecordParts → S → List ℕ → Type 0)
@@ -84,6 +85,6 @@ pub record SoFar {O S : Type 0} (Takes : O → S → RecordParts → S → List 
   pub answers : List ℕ
   pub read : Consumes first_input input (read_bytes records)
   pub written : Appends old new answers
-  pub lives : (o : O) (first : S) → Begins o first →
-      (now : S) × Now o now × Lives (Takes o) first records now answers
+  pub lives : (opening : O) (first : S) → Begins opening first →
+      (now : S) × Now opening now × Lives (Takes opening) first records now answers
   pub counted : length records ≡ count

@@ -94,7 +94,7 @@ impl RecordsNode for ClientFilter {
 
     ghost Makes = { ClientTakes };
 
-    ghost StandsAt = { λ filter o at. IsAt note_kept filter.client o at };
+    ghost StandsAt = { λ filter opening at. IsAt note_kept filter.client opening at };
 
     fn answer_record<W: Write>(&mut self, came: &Record, writer: &mut W) -> io::Result<()> {
         self.answer(came, writer)
@@ -129,7 +129,8 @@ impl ClientFilter {
     /// Answers a record of this kind.
     fn answer_kind<W: Write>(&mut self, kind: Told, body: &[u8], writer: &mut W) -> io::Result<()>
         ensures { OnOk result
-            (AnswersBy (λ o at now answer. TakesKind o at (Some kind) body.now now answer)
+            (AnswersBy (λ opening at now answer.
+            TakesKind opening at (Some kind) body.now now answer)
             (IsAt note_kept self.old.client) (IsAt note_kept self.new.client)
             (W.contents writer.old) (W.contents writer.new)) }
     {

@@ -80,7 +80,7 @@ impl RecordsNode for MirrorFilter {
 
     ghost Makes = { MirrorTakes };
 
-    ghost StandsAt = { λ filter o at. IsAt note_kept filter.mirror o at };
+    ghost StandsAt = { λ filter opening at. IsAt note_kept filter.mirror opening at };
 
     fn answer_record<W: Write>(&mut self, came: &Record, writer: &mut W) -> io::Result<()> {
         self.answer(came, writer)
@@ -105,7 +105,8 @@ impl MirrorFilter {
     /// Answers a record of this kind.
     fn answer_kind<W: Write>(&mut self, kind: Told, body: &[u8], writer: &mut W) -> io::Result<()>
         ensures { OnOk result
-            (AnswersBy (λ o at now answer. TakesKind o at (Some kind) body.now now answer)
+            (AnswersBy (λ opening at now answer.
+            TakesKind opening at (Some kind) body.now now answer)
             (IsAt note_kept self.old.mirror) (IsAt note_kept self.new.mirror)
             (W.contents writer.old) (W.contents writer.new)) }
     {
@@ -118,7 +119,8 @@ impl MirrorFilter {
     /// Answers a frame.
     fn answer_frame<W: Write>(&mut self, body: &[u8], writer: &mut W) -> io::Result<()>
         ensures { OnOk result
-            (AnswersBy (λ o at now answer. TakesBody o at (frame_in body.now) now answer)
+            (AnswersBy (λ opening at now answer.
+            TakesBody opening at (frame_in body.now) now answer)
             (IsAt note_kept self.old.mirror) (IsAt note_kept self.new.mirror)
             (W.contents writer.old) (W.contents writer.new)) }
     {
@@ -140,9 +142,10 @@ impl MirrorFilter {
 
     /// Takes the frame that these bytes are.
     fn take(&mut self, bytes: &[u8]) -> Result<Answered, Fault>
-        ensures { (o : MirrorNote) (past : List Entry) →
-            StandsFor note_kept self.old.mirror o past →
-            BodyEnds note_kept o past (frame_in bytes.now) self.old.mirror self.new.mirror result }
+        ensures { (opening : MirrorNote) (past : List Entry) →
+            StandsFor note_kept self.old.mirror opening past →
+            BodyEnds note_kept opening past
+            (frame_in bytes.now) self.old.mirror self.new.mirror result }
     {
         match decode_frame(self.alloc, bytes) {
             Ok(frame) => self.deliver(&frame),
@@ -153,9 +156,9 @@ impl MirrorFilter {
     /// Delivers a frame.
     #[tactic(auto, using(crate::proofs::NodeLemmas::not_taken))]
     fn deliver(&mut self, frame: &Frame) -> Result<Answered, Fault>
-        ensures { (o : MirrorNote) (past : List Entry) →
-            StandsFor note_kept self.old.mirror o past →
-            FrameEnds note_kept o past frame.now self.old.mirror self.new.mirror result }
+        ensures { (opening : MirrorNote) (past : List Entry) →
+            StandsFor note_kept self.old.mirror opening past →
+            FrameEnds note_kept opening past frame.now self.old.mirror self.new.mirror result }
     {
         let saves = self.mirror.would_save(frame);
         let frames = self.mirror.deliver(frame)?;

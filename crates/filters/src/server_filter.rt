@@ -202,9 +202,9 @@ impl ServerFilter {
     /// Answers a record of this kind.
     fn answer_kind<W: Write>(&mut self, kind: Told, body: &[u8], writer: &mut W) -> io::Result<()>
         ensures { OnOk result
-            (AnswersBy (λ o at now answer. TakesKind o at (Some kind) body.now now answer)
-            (IsHere self.old) (IsHere self.new)
-            (W.contents writer.old) (W.contents writer.new)) }
+            (AnswersBy (λ opening at now answer.
+            TakesKind opening at (Some kind) body.now now answer)
+            (IsHere self.old) (IsHere self.new) (W.contents writer.old) (W.contents writer.new)) }
     {
         match kind {
             Told::Frame => {
@@ -248,9 +248,9 @@ impl ServerFilter {
     /// Answers blocks that a check wants: by those that it wants behind them, or by what its report makes of it.
     fn answer_blocks<W: Write>(&mut self, body: &[u8], writer: &mut W) -> io::Result<()>
         ensures { OnOk result
-            (AnswersBy (λ o at now answer. TakesCheck (Feeds o at body.now) o now answer)
-            (IsHere self.old) (IsHere self.new)
-            (W.contents writer.old) (W.contents writer.new)) }
+            (AnswersBy (λ opening at now answer.
+            TakesCheck (Feeds opening at body.now) opening now answer)
+            (IsHere self.old) (IsHere self.new) (W.contents writer.old) (W.contents writer.new)) }
     {
         let answer = self.blocks(body, writer)?;
         self.write_end(answer, writer)
@@ -259,9 +259,9 @@ impl ServerFilter {
     /// Answers that a block couldn't be read.
     fn answer_unread<W: Write>(&mut self, body: &[u8], writer: &mut W) -> io::Result<()>
         ensures { OnOk result
-            (AnswersBy (λ o at now answer. TakesCheck (GivesUp o at body.now) o now answer)
-            (IsHere self.old) (IsHere self.new)
-            (W.contents writer.old) (W.contents writer.new)) }
+            (AnswersBy (λ opening at now answer.
+            TakesCheck (GivesUp opening at body.now) opening now answer)
+            (IsHere self.old) (IsHere self.new) (W.contents writer.old) (W.contents writer.new)) }
     {
         let answer = self.unread(body, writer)?;
         self.write_end(answer, writer)
@@ -270,9 +270,8 @@ impl ServerFilter {
     /// Writes what follows from what was told of a check, and the end.
     fn write_end<W: Write>(&mut self, answer: Result<(), Fault>, writer: &mut W) -> io::Result<()>
         ensures { OnOk result
-            (AnswersBy (λ o at now written. EndsBy answer o at [] now written)
-            (IsHere self.old) (IsHere self.new)
-            (W.contents writer.old) (W.contents writer.new)) }
+            (AnswersBy (λ opening at now written. EndsBy answer opening at [] now written)
+            (IsHere self.old) (IsHere self.new) (W.contents writer.old) (W.contents writer.new)) }
     {
         match answer {
             Ok(()) => {
@@ -286,9 +285,8 @@ impl ServerFilter {
     /// Orders all writes that can be, and wants the blocks of each check that may begin.
     fn go_on<W: Write>(&mut self, writer: &mut W) -> io::Result<()>
         ensures { OnOk result
-            (AnswersBy (TurnsTo (λ o at now. AreAllGiven o now.list))
-            (IsHere self.old) (IsHere self.new)
-            (W.contents writer.old) (W.contents writer.new)) }
+            (AnswersBy (TurnsTo (λ opening at now. AreAllGiven opening now.list))
+            (IsHere self.old) (IsHere self.new) (W.contents writer.old) (W.contents writer.new)) }
     {
         for job in 0..MAX_JOBS {
             self.order_all(JobNo(job), writer)?;

@@ -24,9 +24,9 @@ impl<C: PacketCore> Hearer<C> {
     /// `Down`; `Misdirected`, a piece isn't for it; `FrameBadField`, a piece completes a body that isn't the
     /// packet of its tag, which is dropped; what the core refuses; `NoMemory`, and nothing changes.
     pub fn deliver(&mut self, frame: Frame) -> Result<C::Outs, Fault>
-        ensures { (o : C.Opening) (past : List (Coming C.Entry Left)) →
-            StandsFor (C.kind o) past self.old →
-            Takes (C.kind o) past (Framed frame) self.old self.new result }
+        ensures { (opening : C.Opening) (past : List (Coming C.Entry Left)) →
+            StandsFor (C.kind opening) past self.old →
+            Takes (C.kind opening) past (Framed frame) self.old self.new result }
     {
         match frame {
             Frame::Whole(packet) => self.take(packet),
@@ -36,9 +36,9 @@ impl<C: PacketCore> Hearer<C> {
 
     /// Takes a packet.
     fn take(&mut self, packet: Packet) -> Result<C::Outs, Fault>
-        ensures { (o : C.Opening) (past : List (Coming C.Entry Left)) →
-            StandsFor (C.kind o) past self.old →
-            Takes (C.kind o) past (Framed (Whole packet)) self.old self.new result }
+        ensures { (opening : C.Opening) (past : List (Coming C.Entry Left)) →
+            StandsFor (C.kind opening) past self.old →
+            Takes (C.kind opening) past (Framed (Whole packet)) self.old self.new result }
     {
         packet.keeps_its_ranges();
         self.core.take(packet)
@@ -46,9 +46,9 @@ impl<C: PacketCore> Hearer<C> {
 
     /// Takes a piece: the packet that it completes, or else the piece alone.
     fn join(&mut self, piece: &Piece) -> Result<C::Outs, Fault>
-        ensures { (o : C.Opening) (past : List (Coming C.Entry Left)) →
-            StandsFor (C.kind o) past self.old →
-            Takes (C.kind o) past (Framed (OfPiece piece.now)) self.old self.new result }
+        ensures { (opening : C.Opening) (past : List (Coming C.Entry Left)) →
+            StandsFor (C.kind opening) past self.old →
+            Takes (C.kind opening) past (Framed (OfPiece piece.now)) self.old self.new result }
     {
         match self.look(piece) {
             Ok(Some(packet)) => {
@@ -75,9 +75,9 @@ impl<C: PacketCore> Hearer<C> {
 
     /// The packet that a piece completes, if it completes one; or why it is refused. Nothing changes.
     pub fn look(&self, piece: &Piece) -> Result<Option<Packet>, Fault>
-        ensures { (o : C.Opening) (past : List (Coming C.Entry Left)) →
-            StandsFor (C.kind o) past self.now →
-            IsSensed (C.kind o) past piece.now result }
+        ensures { (opening : C.Opening) (past : List (Coming C.Entry Left)) →
+            StandsFor (C.kind opening) past self.now →
+            IsSensed (C.kind opening) past piece.now result }
     {
         if !self.core.is_up() {
             return Err(Fault::Down);

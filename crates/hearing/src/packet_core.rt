@@ -29,23 +29,27 @@ pub trait PacketCore {
 
     /// Whether it is on: no save has failed since it was started.
     fn is_up(&self) -> bool
-        ensures { (o : Opening) (past : List Entry) → (kind o).core.StandsFor past self.now →
-            result ≡ (kind o).is_on past };
+        ensures { (opening : Opening) (past : List Entry) →
+            (kind opening).core.StandsFor past self.now →
+            result ≡ (kind opening).is_on past };
 
     /// Whether a piece is for it.
     fn is_for(&self, piece: &Piece) -> bool
-        ensures { (o : Opening) (past : List Entry) → (kind o).core.StandsFor past self.now →
-            result ≡ (kind o).is_for piece.now };
+        ensures { (opening : Opening) (past : List Entry) →
+            (kind opening).core.StandsFor past self.now →
+            result ≡ (kind opening).is_for piece.now };
 
     /// Takes a packet.
     fn take(&mut self, packet: Packet) -> Result<Self::Outs, Fault>
-        ensures { (o : Opening) (past : List Entry) → (kind o).core.StandsFor past self.old →
-            Ends (kind o).core past ((kind o).delivers packet) self.old self.new result };
+        ensures { (opening : Opening) (past : List Entry) →
+            (kind opening).core.StandsFor past self.old →
+            Ends (kind opening).core past
+            ((kind opening).delivers packet) self.old self.new result };
 
     /// What it answers to a piece that is kept: nothing.
     fn nothing(&self) -> Self::Outs
-        ensures { (o : Opening) → result ≡ (kind o).nothing };
+        ensures { (opening : Opening) → result ≡ (kind opening).nothing };
 
     /// Its kind keeps the laws of hearing.
-    ghost keeps_laws: { (o : Opening) → Laws (kind o) };
+    ghost keeps_laws: { (opening : Opening) → Laws (kind opening) };
 }

@@ -6,3 +6,4 @@ mod KeptLemmas
 mod NoteLemmas
 mod LegalLemmas
 mod SpelledLemmas
+pub mod Sending

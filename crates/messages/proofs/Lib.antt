@@ -26,3 +26,4 @@ pub mod FrameLooks
 pub mod ReadableLemmas
 pub mod HearingLemmas
 pub mod SenseLemmas
+pub mod Sending

@@ -15,5 +15,6 @@ pub record AreShort (frames : List (List ℕ)) : Type 0 where
 -- What an event sends is short, where what came is within its ranges.
 abbrev pub FramesAreShort : Type 0
 FramesAreShort =
-    (o : MirrorNote) (past : List Entry) (entry : Entry) → IsNoted o → CameInRange (entry ∷ past) →
-    AreShort (frame_bytes (packets o past entry))
+    (opening : MirrorNote) (past : List Entry) (entry : Entry) → IsNoted opening →
+    CameInRange (entry ∷ past) →
+    AreShort (frame_bytes (packets opening past entry))

@@ -17,21 +17,22 @@ use Rattle.mirror_core.specs.Stands.{StandsFor}
 
 -- What an answered frame leaves in the list: it saved, where it was due to.
 abbrev pub answered_entry : MirrorNote → List Entry → Frame → Entry
-answered_entry o past f = Met f (saved_for (due o past f))
+answered_entry opening past f = Met f (saved_for (due opening past f))
 
 -- The steps of a mirror: its note, what its list says of a frame, and what is sent. A refused frame
 -- leaves it as it was.
 abbrev pub steps : {T : Type 0} → (T → Note) → MirrorNote →
     Steps (Mirror T) Frame Entry Addition (List (List ℕ))
-steps note o = record {
+steps note opening = record {
   note = λ mirror. note mirror.durable.notes;
-  StandsFor = λ past mirror. StandsFor note mirror o past;
-  refusal = refusal o;
-  due = due o;
+  StandsFor = λ past mirror. StandsFor note mirror opening past;
+  refusal = refusal opening;
+  due = due opening;
   met = Met;
-  spelled = λ past. spelling (words_noted o past);
-  Sends = λ past f frames. frames ≡ frame_bytes (packets o past (answered_entry o past f));
-  Stays = λ past f mirror. StandsFor note mirror o past;
+  spelled = λ past. spelling (words_noted opening past);
+  Sends = λ past f frames.
+      frames ≡ frame_bytes (packets opening past (answered_entry opening past f));
+  Stays = λ past f mirror. StandsFor note mirror opening past;
 }
 
 -- The save of what is noted so, and what it leaves of a mirror.

@@ -37,54 +37,58 @@ from_client state = record { from = nodes.Client; to = nodes.Mirror; body = bodi
 -- A kept state is never replaced, whatever comes.
 abbrev pub FirstKeptStays : Type 0
 FirstKeptStays =
-    (o : MirrorNote) (newer past : List Entry) (key : Key) (state : State) →
-    kept_state o past key ≡ Some state → kept_state o (newer ++ past) key ≡ Some state
+    (opening : MirrorNote) (newer past : List Entry) (key : Key) (state : State) →
+    kept_state opening past key ≡ Some state → kept_state opening (newer ++ past) key ≡ Some state
 
 -- The generation never falls.
 abbrev pub GenerationsRise : Type 0
 GenerationsRise =
-    (o : MirrorNote) (newer past : List Entry) → generation o past ≤ generation o (newer ++ past)
+    (opening : MirrorNote) (newer past : List Entry) →
+    generation opening past ≤ generation opening (newer ++ past)
 
 -- A state that is kept, and was not at the opening, came in a Copy of the client.
 abbrev pub KeptWasSent : Type 0
 KeptWasSent =
-    (o : MirrorNote) (past : List Entry) (key : Key) (state : State) →
-    kept_state o past key ≡ Some state →
-    (kept_state o [] key ≡ Some state) ⊎ Contains (packets_come past) (from_client state)
+    (opening : MirrorNote) (past : List Entry) (key : Key) (state : State) →
+    kept_state opening past key ≡ Some state →
+    (kept_state opening [] key ≡ Some state) ⊎ Contains (packets_come past) (from_client state)
 
 -- Each state in the note was there at the opening, or came in a Copy of the client.
 abbrev pub NotedWasSent : Type 0
 NotedWasSent =
-    (o : MirrorNote) (past : List Entry) (state : State) →
-    Contains (words_noted o past).kept state →
-    Contains o.kept state ⊎ Contains (packets_come past) (from_client state)
+    (opening : MirrorNote) (past : List Entry) (state : State) →
+    Contains (words_noted opening past).kept state →
+    Contains opening.kept state ⊎ Contains (packets_come past) (from_client state)
 
 -- Each Copy that is sent has the kept state of its key.
 abbrev pub CopiesAreKept : Type 0
 CopiesAreKept =
-    (o : MirrorNote) (past : List Entry) (entry : Entry) (state : State) → IsNoted o →
-    Contains (packets o past entry) (copy_of state) → kept_state o past state.key ≡ Some state
+    (opening : MirrorNote) (past : List Entry) (entry : Entry) (state : State) → IsNoted opening →
+    Contains (packets opening past entry) (copy_of state) →
+    kept_state opening past state.key ≡ Some state
 
 -- Each Copy that is sent is of a state in the note.
 abbrev pub CopiesAreNoted : Type 0
 CopiesAreNoted =
-    (o : MirrorNote) (past : List Entry) (entry : Entry) (state : State) →
-    Contains (packets o past entry) (copy_of state) → Contains (words_noted o past).kept state
+    (opening : MirrorNote) (past : List Entry) (entry : Entry) (state : State) →
+    Contains (packets opening past entry) (copy_of state) →
+    Contains (words_noted opening past).kept state
 
 -- A CopyOk is sent only for a state that is kept by then.
 abbrev pub CopyOksAreFor : Type 0
 CopyOksAreFor =
-    (o : MirrorNote) (past : List Entry) (entry : Entry) (run server job : ℕ) →
-    Contains (packets o past entry) (to_client (bodies.CopyOk run server job)) →
+    (opening : MirrorNote) (past : List Entry) (entry : Entry) (run server job : ℕ) →
+    Contains (packets opening past entry) (to_client (bodies.CopyOk run server job)) →
     (state : State)
-    × (kept_state o (entry ∷ past) (record { run = run; server = server; job = job }) ≡ Some state)
+    × (kept_state opening (entry ∷ past) (record { run = run; server = server; job = job })
+    ≡ Some state)
 
 -- A Granted is sent only of the generation that the note has by then.
 abbrev pub GrantsAreNoted : Type 0
 GrantsAreNoted =
-    (o : MirrorNote) (past : List Entry) (entry : Entry) (granted : ℕ) →
-    Contains (packets o past entry) (to_client (bodies.Granted granted)) →
-    generation o (entry ∷ past) ≡ granted
+    (opening : MirrorNote) (past : List Entry) (entry : Entry) (granted : ℕ) →
+    Contains (packets opening past entry) (to_client (bodies.Granted granted)) →
+    generation opening (entry ∷ past) ≡ granted
 
 -- A packet of the mirror to the client, of a kind that mirrors send.
 abbrev pub GoesToClient : PacketParts → Type 0
@@ -94,8 +98,8 @@ GoesToClient p =
 -- So goes each packet.
 abbrev pub PacketsGoToTheClient : Type 0
 PacketsGoToTheClient =
-    (o : MirrorNote) (past : List Entry) (entry : Entry)
-    → AllByRecursion GoesToClient (packets o past entry)
+    (opening : MirrorNote) (past : List Entry) (entry : Entry)
+    → AllByRecursion GoesToClient (packets opening past entry)
 
 -- A mirror that is on answers its looks from all that came.
 abbrev pub LooksAtAll : Type 0
@@ -104,11 +108,12 @@ LooksAtAll = (past : List Entry) → is_on past ≡ true → shown_entries past 
 -- A note that keeps its ranges goes on to, where the packets that come keep theirs.
 abbrev pub NotesKeepRanges : Type 0
 NotesKeepRanges =
-    (o : MirrorNote) (past : List Entry) →
-    IsNoted o → CameInRange past → IsNoted (words_noted o past)
+    (opening : MirrorNote) (past : List Entry) →
+    IsNoted opening → CameInRange past → IsNoted (words_noted opening past)
 
 -- What is sent is within the ranges of packets, where what came is within its.
 abbrev pub PacketsAreInRange : Type 0
 PacketsAreInRange =
-    (o : MirrorNote) (past : List Entry) (entry : Entry) →
-    IsNoted o → CameInRange (entry ∷ past) → AllByRecursion IsPacket (packets o past entry)
+    (opening : MirrorNote) (past : List Entry) (entry : Entry) →
+    IsNoted opening → CameInRange (entry ∷ past) →
+    AllByRecursion IsPacket (packets opening past entry)

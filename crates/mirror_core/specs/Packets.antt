@@ -36,15 +36,16 @@ packets_for n (Some request) = replies n request
 
 -- The packets that an event sends.
 abbrev pub packets : MirrorNote → List Entry → Entry → List PacketParts
-packets o past (Met f left) =
-    if is_answered o past f left then packets_for (words_noted o past) (request_in f) else []
-packets o past Cut = []
-packets o past Restart = []
+packets opening past (Met f left) =
+    if is_answered opening past f left then packets_for (words_noted opening past) (request_in f)
+    else []
+packets opening past Cut = []
+packets opening past Restart = []
 
 -- All packets that were ever sent, the oldest first.
 abbrev pub sent_packets : MirrorNote → List Entry → List PacketParts
-sent_packets o [] = []
-sent_packets o (entry ∷ past) = sent_packets o past ++ packets o past entry
+sent_packets opening [] = []
+sent_packets opening (entry ∷ past) = sent_packets opening past ++ packets opening past entry
 
 -- The bytes of the frames that carry these packets, in their order.
 abbrev pub frame_bytes : List PacketParts → List (List ℕ)

@@ -11,11 +11,11 @@ use Rattle.mirror_core.specs.Words.{is_on, words_noted, shown_entries}
 
 -- A mirror stands for a list where it is on as the list says, where the durable bytes say what the
 -- list says, and where it knows of its note what that said before the first failed save.
-pub record StandsFor {T : Type 0} (note : T → Note) (mirror : Mirror T) (o : MirrorNote)
+pub record StandsFor {T : Type 0} (note : T → Note) (mirror : Mirror T) (opening : MirrorNote)
     (past : List Entry) : Type 0 where
   pub on : mirror.durable.down ≡ not (is_on past)
-  pub durable : Says (note mirror.durable.notes).bytes (words_noted o past)
-  pub knows : mirror.noted ≡ words_noted o (shown_entries past)
+  pub durable : Says (note mirror.durable.notes).bytes (words_noted opening past)
+  pub knows : mirror.noted ≡ words_noted opening (shown_entries past)
 
 -- For each list of which the durable bytes say what it says, the mirror stands for that list with a
 -- restart. They say something, so there is such a list: the empty one. They stay as they were.
@@ -24,8 +24,8 @@ pub record Opens {T : Type 0} (note : T → Note) (old : Note) (mirror : Mirror 
   pub said : MirrorNote
   pub says : Says old.bytes said
   pub stands :
-      (o : MirrorNote) (past : List Entry) → Says old.bytes (words_noted o past) →
-      StandsFor note mirror o (Restart ∷ past)
+      (opening : MirrorNote) (past : List Entry) → Says old.bytes (words_noted opening past) →
+      StandsFor note mirror opening (Restart ∷ past)
 
 -- Why no mirror is opened: the device failed, the bytes are no note, or memory ran out. The durable
 -- bytes stay as they were.

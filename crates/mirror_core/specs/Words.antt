@@ -23,35 +23,37 @@ is_on (Restart ∷ past) = true
 -- What the note says: what it said at the opening, and what was added by each save that left the
 -- new bytes.
 abbrev pub words_noted : MirrorNote → List Entry → MirrorNote
-words_noted o [] = o
-words_noted o (Met f left ∷ past) =
-    noted_after (has_new left) (due_by (is_on past) (words_noted o past) f) (words_noted o past)
-words_noted o (Cut ∷ past) = words_noted o past
-words_noted o (Restart ∷ past) = words_noted o past
+words_noted opening [] = opening
+words_noted opening (Met f left ∷ past) =
+    noted_after (has_new left) (due_by (is_on past) (words_noted opening past) f)
+    (words_noted opening past)
+words_noted opening (Cut ∷ past) = words_noted opening past
+words_noted opening (Restart ∷ past) = words_noted opening past
 
 -- Why a frame is refused.
 abbrev pub refusal : MirrorNote → List Entry → Frame → Option Fault
-refusal o past f = refusal_by (is_on past) (words_noted o past) f
+refusal opening past f = refusal_by (is_on past) (words_noted opening past) f
 
 -- What a frame is due to add to the note.
 abbrev pub due : MirrorNote → List Entry → Frame → Option Addition
-due o past f = due_by (is_on past) (words_noted o past) f
+due opening past f = due_by (is_on past) (words_noted opening past) f
 
 -- A frame makes a save where it is due to add something.
 abbrev pub would_save : MirrorNote → List Entry → Frame → Bool
-would_save o past f = is_some (due o past f)
+would_save opening past f = is_some (due opening past f)
 
 -- The frame is answered: it isn't refused, and its save, where it makes one, answered Ok.
 abbrev pub is_answered : MirrorNote → List Entry → Frame → Left → Bool
-is_answered o past f left = is_none (refusal o past f) && is_answer (due o past f) left
+is_answered opening past f left =
+    is_none (refusal opening past f) && is_answer (due opening past f) left
 
 -- The generation that the mirror has granted.
 abbrev pub generation : MirrorNote → List Entry → ℕ
-generation o past = (words_noted o past).generation
+generation opening past = (words_noted opening past).generation
 
 -- The kept state of a key: that of the opening, else the first that came and was saved.
 abbrev pub kept_state : MirrorNote → List Entry → Key → Option State
-kept_state o past key = kept_of key (words_noted o past).kept
+kept_state opening past key = kept_of key (words_noted opening past).kept
 
 -- What the calls that only look answer from: all that came, but for what came from a failed save
 -- on.

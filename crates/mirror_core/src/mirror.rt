@@ -58,8 +58,9 @@ impl<N: Notes> Mirror<N> {
     /// The notes of a mirror that is taken off.
     pub fn off(self) -> N
         ensures note { N.note result ≡ N.note self.durable.notes }
-        ensures says { (o : Opening) (past : List Entry) → StandsFor N.note self o past →
-            Says (N.note result).bytes (words_noted o past) }
+        ensures says { (opening : Opening) (past : List Entry) →
+            StandsFor N.note self opening past →
+            Says (N.note result).bytes (words_noted opening past) }
     {
         let Mirror {
             alloc: _,
@@ -72,15 +73,16 @@ impl<N: Notes> Mirror<N> {
     /// The note that it keeps, as it is durable. Behind a failed save it is what that left.
     pub fn notes(&self) -> &N
         ensures note { N.note result.now ≡ N.note self.now.durable.notes }
-        ensures says { (o : Opening) (past : List Entry) → StandsFor N.note self.now o past →
-            Says (N.note result.now).bytes (words_noted o past) }
+        ensures says { (opening : Opening) (past : List Entry) →
+            StandsFor N.note self.now opening past →
+            Says (N.note result.now).bytes (words_noted opening past) }
     {
         self.durable.notes()
     }
 
     /// Whether it is on: a mirror whose save failed is down until it is restarted.
     pub fn on(&self) -> bool
-        ensures { (o : Opening) (past : List Entry) → StandsFor N.note self.now o past →
+        ensures { (opening : Opening) (past : List Entry) → StandsFor N.note self.now opening past →
             result ≡ is_on past }
     {
         !self.durable.is_down()
@@ -88,16 +90,16 @@ impl<N: Notes> Mirror<N> {
 
     /// The greatest generation that was asked for, 0 where none was. Where a save has failed, up to it.
     pub fn generation(&self) -> u64
-        ensures { (o : Opening) (past : List Entry) → StandsFor N.note self.now o past →
-            result ≡ generation o (shown_entries past) }
+        ensures { (opening : Opening) (past : List Entry) → StandsFor N.note self.now opening past →
+            result ≡ generation opening (shown_entries past) }
     {
         self.noted.generation
     }
 
     /// The kept state of a key. Where a save has failed, up to it.
     pub fn kept(&self, key: Key) -> Option<&VerifyState>
-        ensures { (o : Opening) (past : List Entry) → StandsFor N.note self.now o past →
-            option_copied result ≡ kept_state o (shown_entries past) key }
+        ensures { (opening : Opening) (past : List Entry) → StandsFor N.note self.now opening past →
+            option_copied result ≡ kept_state opening (shown_entries past) key }
     {
         self.noted.kept.get(key)
     }
@@ -105,8 +107,8 @@ impl<N: Notes> Mirror<N> {
     /// Whether the delivery of this frame would make a save: it isn't refused, and is a Copy of a key of
     /// which no state is kept, or a Fetch of a generation that is greater than all before.
     pub fn would_save(&self, frame: &Frame) -> bool
-        ensures { (o : Opening) (past : List Entry) → StandsFor N.note self.now o past →
-            result ≡ would_save o past frame.now }
+        ensures { (opening : Opening) (past : List Entry) → StandsFor N.note self.now opening past →
+            result ≡ would_save opening past frame.now }
     {
         match self.admit(frame) {
             Ok(request) => self.noted.lacks(&request),

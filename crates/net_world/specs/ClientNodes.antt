@@ -41,63 +41,69 @@ IsEmptyIfBlank bytes n = (bytes ≡ []) ⊎ (is_blank n ≡ false)
 
 -- The notes say what the list says, without bytes where that is nothing.
 abbrev pub IsNoteOf : Opening → List FrameEntry → Kept → Type 0
-IsNoteOf o past notes =
-    Says (note_of notes).bytes (words_noted o (packets_heard o past))
-    × IsEmptyIfBlank (note_of notes).bytes (words_noted o (packets_heard o past))
+IsNoteOf opening past notes =
+    Says (note_of notes).bytes (words_noted opening (packets_heard opening past))
+    × IsEmptyIfBlank (note_of notes).bytes (words_noted opening (packets_heard opening past))
 
 -- The kind of the client of a world that was opened so: one over notes in memory, which are empty
 -- for as long as they say nothing.
 abbrev pub client_nodes : Opening →
     Kind (Client Kept) Kept Input FrameEntry Addition (List (List ℕ))
-client_nodes o = record {
-  core = steps note_of o;
+client_nodes opening = record {
+  core = steps note_of opening;
   note = note_of;
-  is_up = is_up o;
-  Says = IsNoteOf o;
+  is_up = is_up opening;
+  Says = IsNoteOf opening;
 }
 
 -- For which lists it stands.
 abbrev pub Stands : Opening → List FrameEntry → ClientNode → Type 0
-Stands o = nodes.Stands (client_nodes o)
+Stands opening = nodes.Stands (client_nodes opening)
 
 -- What is answered: the number of the run or of the attempt, if one has begun.
 abbrev pub answer_to : Opening → List FrameEntry → Input → WorldAnswer
-answer_to o past (inputs.Begin text) = answers.Run ((words_noted o (packets_heard o past)).runs + 1)
-answer_to o past (inputs.Verify run text) =
-    answers.Attempt ((words_noted o (packets_heard o past)).attempts + 1)
-answer_to o past _ = answers.Plain
+answer_to opening past (inputs.Begin text) =
+    answers.Run ((words_noted opening (packets_heard opening past)).runs + 1)
+answer_to opening past (inputs.Verify run text) =
+    answers.Attempt ((words_noted opening (packets_heard opening past)).attempts + 1)
+answer_to opening past _ = answers.Plain
 
 -- How a call ends: as what comes to a node does, and with that number.
 abbrev pub Asks : Opening → List FrameEntry → Input → ClientNode → Result ClientOuts Fault → Type 0
-Asks o past e new (Ok asked) =
-    (asked.answer ≡ answer_to o past e) × Answers (client_nodes o) past e new asked.frames
-Asks o past e new (Err fault) = Faults (client_nodes o) past e (sort_of fault) fault new
+Asks opening past e new (Ok asked) =
+    (asked.answer ≡ answer_to opening past e)
+    × Answers (client_nodes opening) past e new asked.frames
+Asks opening past e new (Err fault) = Faults (client_nodes opening) past e (sort_of fault) fault new
 
 -- There is a mirror, and the note says nothing.
 abbrev pub lacks_note : Opening → List FrameEntry → Bool → Bool
-lacks_note o past mirror = mirror && is_blank (words_noted o (packets_heard o past))
+lacks_note opening past mirror =
+    mirror && is_blank (words_noted opening (packets_heard opening past))
 
 -- How a restart ends: the client runs, unless it has a mirror and no note.
 abbrev pub Restarts : Opening → List FrameEntry →
     Bool → ClientNode → Result (Unit {0}) Fault → Type 0
-Restarts o past mirror =
-    Starts (client_nodes o) past (lacks_note o past mirror) false BadNote (Restart mirror)
+Restarts opening past mirror =
+    Starts (client_nodes opening) past (lacks_note opening past mirror) false BadNote
+    (Restart mirror)
 
 -- How the loss of the note ends: the client is off, or nothing changes.
 abbrev pub Loses : Opening → List FrameEntry → ClientNode → Result (Unit {0}) Fault → Type 0
-Loses o past new (Ok _) = (is_up o past ≡ false) × Stands o (Lose ∷ past) new
-Loses o past new (Err NodeOn) = (is_up o past ≡ true) × Stands o past new
-Loses o past new (Err _) = ⊥
+Loses opening past new (Ok _) = (is_up opening past ≡ false) × Stands opening (Lose ∷ past) new
+Loses opening past new (Err NodeOn) = (is_up opening past ≡ true) × Stands opening past new
+Loses opening past new (Err _) = ⊥
 
 -- How a renewal ends: the client runs, unless it has a note.
 abbrev pub Renews : Opening → List FrameEntry → ℕ → ClientNode → Result (Unit {0}) Fault → Type 0
-Renews o past g = Starts (client_nodes o) past (lacks_note o past true) true BadNote (Renew g Saved)
+Renews opening past g =
+    Starts (client_nodes opening) past (lacks_note opening past true) true BadNote (Renew g Saved)
 
 -- How a cut within the save of a generation ends, likewise.
 abbrev pub CutsInRenewal : Opening → List FrameEntry →
     Bool → ℕ → ClientNode → Result (Unit {0}) Fault → Type 0
-CutsInRenewal o past landed g =
-    Starts (client_nodes o) past (lacks_note o past true) true NoSave (Renew g (lost_by landed))
+CutsInRenewal opening past landed g =
+    Starts (client_nodes opening) past (lacks_note opening past true) true NoSave
+    (Renew g (lost_by landed))
 
 -- The generations that were handed in, the newest first.
 abbrev pub handed_in : List FrameEntry → List ℕ

@@ -20,12 +20,13 @@ use Rattle.net_world.specs.Checks.{key_of, report_of}
 
 -- Since a taking no event at its server was answered with a write.
 abbrev pub IsQuiet :
-    {o : Opening} {run j : ℕ} {list : List Entry} {state : State} → IsTaking o run j list state
+    {opening : Opening} {run j : ℕ} {list : List Entry} {state : State} →
+    IsTaking opening run j list state
     → Type 0
-IsQuiet {o} taking =
+IsQuiet {opening} taking =
     (later between : List Entry) (e : Event) (left : Left) →
     taking.newer ≡ later ++ Met e left ∷ between →
-    gives_write (issue o (between ++ Met taking.trigger taking.left
+    gives_write (issue opening (between ++ Met taking.trigger taking.left
     ∷ (taking.between ++ Met taking.start Saved ∷ taking.older)) e) ≡ false
 
 -- A state of the run that is checked, of this server and this job, which was taken here; and since

@@ -26,12 +26,13 @@ taken_of key t = takings (opening_of key.server) key.run key.job (of_server key.
 
 -- The states of a run's job that a server took in this life.
 abbrev pub taken_in_life : Opening → ℕ → ℕ → List Entry → List State
-taken_in_life o run j [] = []
-taken_in_life o run j (Met e left ∷ past) =
+taken_in_life opening run j [] = []
+taken_in_life opening run j (Met e left ∷ past) =
     if is_lost left then []
-    else and_those (takes run j (request_of o.me e) (work o past)) (taken_in_life o run j past)
-taken_in_life o run j (Cut ∷ past) = []
-taken_in_life o run j (Restart left ∷ past) = []
+    else and_those (takes run j (request_of opening.me e) (work opening past))
+    (taken_in_life opening run j past)
+taken_in_life opening run j (Cut ∷ past) = []
+taken_in_life opening run j (Restart left ∷ past) = []
 
 -- The state that a body carries.
 abbrev pub carried_state : Body → Option State

@@ -20,16 +20,16 @@ MirrorNode = Power (Mirror Kept) Kept
 
 -- The kind of the mirror of a world whose note said this: one over notes in memory.
 abbrev pub mirror_nodes : MirrorNote → Kind (Mirror Kept) Kept Frame Entry Addition (List (List ℕ))
-mirror_nodes o = mirror_kind note_of o
+mirror_nodes opening = mirror_kind note_of opening
 
 -- For which lists it stands.
 abbrev pub Stands : MirrorNote → List Entry → MirrorNode → Type 0
-Stands o = nodes.Stands (mirror_nodes o)
+Stands opening = nodes.Stands (mirror_nodes opening)
 
 -- How a restart ends, which nothing hinders: the mirror runs; or it ran, or memory ran out, and
 -- nothing changes.
 abbrev pub Restarts : MirrorNote → List Entry → MirrorNode → Result (Unit {0}) Fault → Type 0
-Restarts o past new (Ok _) = (is_on past ≡ false) × Stands o (Restart ∷ past) new
-Restarts o past new (Err NodeOn) = (is_on past ≡ true) × Stands o past new
-Restarts o past new (Err NoMemory) = (is_on past ≡ false) × Stands o past new
-Restarts o past new (Err _) = ⊥
+Restarts opening past new (Ok _) = (is_on past ≡ false) × Stands opening (Restart ∷ past) new
+Restarts opening past new (Err NodeOn) = (is_on past ≡ true) × Stands opening past new
+Restarts opening past new (Err NoMemory) = (is_on past ≡ false) × Stands opening past new
+Restarts opening past new (Err _) = ⊥

@@ -66,27 +66,27 @@ lost_by landed = if landed then lefts.LostNew else lefts.LostOld
 -- A server meets an event and saves what is due, unless it refuses the event.
 abbrev pub met_by_server : List Step → ℕ → Event → Result FrameStep Fault
 met_by_server t s e =
-    let o = opening_of s in
+    let opening = opening_of s in
     let past = of_server s t in
-    unless_fault (answers.refusal o past e)
-    (Ok (OfServer s (Happens (server.Met e (saved_for (servers.due o past e))))))
+    unless_fault (answers.refusal opening past e)
+    (Ok (OfServer s (Happens (server.Met e (saved_for (servers.due opening past e))))))
 
 -- The client meets a call and saves what is due, unless it refuses the call.
 abbrev pub met_by_client : Setup → List Step → Call → Result FrameStep Fault
 met_by_client w t c =
-    let o = client_opening w in
+    let opening = client_opening w in
     let past = of_client w t in
-    unless_fault (clients.refusal o past c)
-    (Ok (OfClient (Happens (client.Met c (saved_for (clients.due o past c))))))
+    unless_fault (clients.refusal opening past c)
+    (Ok (OfClient (Happens (client.Met c (saved_for (clients.due opening past c))))))
 
 -- A frame comes to a server, which makes this of it: its packet is met, or refused; a piece waits
 -- for others; or it is refused, and its tag is dropped; or it isn't for the server.
 abbrev pub comes_to_server : List Step → ℕ → Frame → Meaning → Outcome
 comes_to_server t s f (Says p) =
-    let o = opening_of s in
+    let opening = opening_of s in
     let past = of_server s t in
-    outcome_of_step (unless_fault (answers.refusal o past (events.Deliver p))
-    (Ok (OfServer s (Comes f (saved_for (servers.due o past (events.Deliver p)))))))
+    outcome_of_step (unless_fault (answers.refusal opening past (events.Deliver p))
+    (Ok (OfServer s (Comes f (saved_for (servers.due opening past (events.Deliver p)))))))
 comes_to_server t s f Waits = Does (Met (OfServer s (Comes f lefts.NoSave)))
 comes_to_server t s f Spoils = Drops (OfServer s (Comes f lefts.NoSave))
 comes_to_server t s f Strays = Refuses Misdirected
@@ -94,10 +94,10 @@ comes_to_server t s f Strays = Refuses Misdirected
 -- The same of the client.
 abbrev pub comes_to_client : Setup → List Step → Frame → Meaning → Outcome
 comes_to_client w t f (Says p) =
-    let o = client_opening w in
+    let opening = client_opening w in
     let past = of_client w t in
-    outcome_of_step (unless_fault (clients.refusal o past (calls.Deliver p))
-    (Ok (OfClient (Comes f (saved_for (clients.due o past (calls.Deliver p)))))))
+    outcome_of_step (unless_fault (clients.refusal opening past (calls.Deliver p))
+    (Ok (OfClient (Comes f (saved_for (clients.due opening past (calls.Deliver p)))))))
 comes_to_client w t f Waits = Does (Met (OfClient (Comes f lefts.NoSave)))
 comes_to_client w t f Spoils = Drops (OfClient (Comes f lefts.NoSave))
 comes_to_client w t f Strays = Refuses Misdirected

@@ -25,16 +25,17 @@ ServerNode = Power (Server Kept) Kept
 
 -- The kind of a server of a world that was opened so: one over notes in memory.
 abbrev pub server_nodes : Opening → Kind (Server Kept) Kept Input FrameEntry Staged Outs
-server_nodes o = server_kind note_of o
+server_nodes opening = server_kind note_of opening
 
 -- For which lists it stands.
 abbrev pub Stands : Opening → List FrameEntry → ServerNode → Type 0
-Stands o = nodes.Stands (server_nodes o)
+Stands opening = nodes.Stands (server_nodes opening)
 
 -- How a restart ends: the server runs in the next boot, unless its boots are used up.
 abbrev pub Restarts : Opening → List FrameEntry → ServerNode → Result (Unit {0}) Fault → Type 0
-Restarts o past =
-    Starts (server_nodes o) past (has_boot o (packets_heard o past)) true NumbersSpent
+Restarts opening past =
+    Starts (server_nodes opening) past
+    (has_boot opening (packets_heard opening past)) true NumbersSpent
     (Restart Saved)
 
 -- There is a save where a note leaves a boot above those that were used.
@@ -49,6 +50,6 @@ no_save fault = fault
 -- How a cut within the save of a restart ends, likewise.
 abbrev pub CutsInRestart : Opening → List FrameEntry →
     Bool → ServerNode → Result (Unit {0}) Fault → Type 0
-CutsInRestart o past landed =
-    Starts (server_nodes o) past (has_boot o (packets_heard o past)) true NoSave
+CutsInRestart opening past landed =
+    Starts (server_nodes opening) past (has_boot opening (packets_heard opening past)) true NoSave
     (Restart (lost_by landed))

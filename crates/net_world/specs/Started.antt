@@ -12,7 +12,8 @@ started_by _ _ = []
 
 -- The runs of which a server has accepted a Start, over all its lives, the newest first.
 abbrev pub started_runs : Opening → List Entry → List ℕ
-started_runs o [] = []
-started_runs o (Met e left ∷ past) = started_by left (due o past e) ++ started_runs o past
-started_runs o (Cut ∷ past) = started_runs o past
-started_runs o (Restart left ∷ past) = started_runs o past
+started_runs opening [] = []
+started_runs opening (Met e left ∷ past) =
+    started_by left (due opening past e) ++ started_runs opening past
+started_runs opening (Cut ∷ past) = started_runs opening past
+started_runs opening (Restart left ∷ past) = started_runs opening past

@@ -104,9 +104,11 @@ is_alone _ = true
 -- What comes to a client that has one: it is restarted with the mirror, over a note of a
 -- generation, and no generation is handed in twice.
 abbrev pub is_with_mirror : client.Opening → List client.Entry → client.Entry → Bool
-is_with_mirror o past (client.Restart mirror) = mirror && nat_lt 0 (words_noted o past).generation
-is_with_mirror o past (client.Renew g left) = is_generation g && not (has (generations past) g)
-is_with_mirror o past _ = true
+is_with_mirror opening past (client.Restart mirror) =
+    mirror && nat_lt 0 (words_noted opening past).generation
+is_with_mirror opening past (client.Renew g left) =
+    is_generation g && not (has (generations past) g)
+is_with_mirror opening past _ = true
 
 -- The step is one of a world that is made so: the client is started with the mirror or without one,
 -- and nothing comes to a mirror that isn't there.

@@ -46,24 +46,24 @@ pub(crate) fn open(alloc: Global, servers: u32) -> Result<ClientNode, Fault>
 
 /// Whether it runs.
 pub(crate) fn runs(node: &ClientNode) -> bool
-    ensures { (o : Opening) (past : List FrameEntry) → Stands o past node.now →
-        result ≡ is_up o past }
+    ensures { (opening : Opening) (past : List FrameEntry) → Stands opening past node.now →
+        result ≡ is_up opening past }
 {
     node.core().is_some()
 }
 
 /// The client, while it runs.
 pub(crate) fn client(node: &ClientNode) -> Option<&Client<MemNotes>>
-    ensures { (o : Opening) (past : List FrameEntry) → Stands o past node.now →
-        Shows (client_nodes o) past node.now (option_copied result) }
+    ensures { (opening : Opening) (past : List FrameEntry) → Stands opening past node.now →
+        Shows (client_nodes opening) past node.now (option_copied result) }
 {
     node.core()
 }
 
 /// Loses its power, where it has any.
 pub(crate) fn cut(node: &mut ClientNode, alloc: Global)
-    ensures { (o : Opening) (past : List FrameEntry) → Stands o past node.old →
-        Stands o (Cut ∷ past) node.new }
+    ensures { (opening : Opening) (past : List FrameEntry) → Stands opening past node.old →
+        Stands opening (Cut ∷ past) node.new }
 {
     let says_nothing = says_nothing(node);
     let _was_on = node.cut();
@@ -74,8 +74,9 @@ pub(crate) fn cut(node: &mut ClientNode, alloc: Global)
 
 /// Whether it runs, and its note says nothing.
 fn says_nothing(node: &ClientNode) -> bool
-    ensures { (o : Opening) (past : List FrameEntry) → Stands o past node.now →
-        result ≡ (is_up o past && is_blank (words_noted o (packets_heard o past))) }
+    ensures { (opening : Opening) (past : List FrameEntry) → Stands opening past node.now →
+        result ≡ (is_up opening past
+        && is_blank (words_noted opening (packets_heard opening past))) }
 {
     client_core::looks_at_all();
     match client(node) {
@@ -104,9 +105,9 @@ pub(crate) fn restart(
 ) -> Result<(), Fault>
     requires some { 1 ≤ servers }
     requires few { servers ≤ MAX_SERVERS }
-    ensures { (o : Opening) (past : List FrameEntry) → o.servers ≡ servers →
-        Stands o past node.old →
-        Restarts o past mirror node.new result }
+    ensures { (opening : Opening) (past : List FrameEntry) → opening.servers ≡ servers →
+        Stands opening past node.old →
+        Restarts opening past mirror node.new result }
 {
     client_core::one_note();
     node.restart(alloc, ClientSeed { servers, mirror })

@@ -46,23 +46,24 @@ pub(crate) fn open(alloc: Global) -> Result<MirrorNode, AllocError>
 
 /// Whether it runs.
 pub(crate) fn runs(node: &MirrorNode) -> bool
-    ensures { (o : MirrorNote) (past : List Entry) → Stands o past node.now → result ≡ is_on past }
+    ensures { (opening : MirrorNote) (past : List Entry) → Stands opening past node.now →
+        result ≡ is_on past }
 {
     node.core().is_some()
 }
 
 /// A frame comes to it. `NodeOff`: it doesn't run. Any other fault is the mirror's own.
 pub(crate) fn deliver(node: &mut MirrorNode, frame: &Frame) -> Result<Frames, Fault>
-    ensures { (o : MirrorNote) (past : List Entry) → Stands o past node.old →
-        Ends (mirror_nodes o) past frame.now node.new result }
+    ensures { (opening : MirrorNote) (past : List Entry) → Stands opening past node.old →
+        Ends (mirror_nodes opening) past frame.now node.new result }
 {
     node.on()?.deliver(frame)
 }
 
 /// Loses its power, where it has any.
 pub(crate) fn cut(node: &mut MirrorNode)
-    ensures { (o : MirrorNote) (past : List Entry) → Stands o past node.old →
-        Stands o (Cut ∷ past) node.new }
+    ensures { (opening : MirrorNote) (past : List Entry) → Stands opening past node.old →
+        Stands opening (Cut ∷ past) node.new }
 {
     let _was_on = node.cut();
 }
@@ -71,8 +72,8 @@ pub(crate) fn cut(node: &mut MirrorNode)
 ///
 /// `NodeOn`: it runs. `NoMemory`. Nothing changes.
 pub(crate) fn restart(node: &mut MirrorNode, alloc: Global) -> Result<(), Fault>
-    ensures { (o : MirrorNote) (past : List Entry) → Stands o past node.old →
-        Restarts o past node.new result }
+    ensures { (opening : MirrorNote) (past : List Entry) → Stands opening past node.old →
+        Restarts opening past node.new result }
 {
     node.restart(alloc, ())
 }
@@ -85,8 +86,8 @@ pub(crate) fn cut_in_delivery(
     landed: bool,
     frame: &Frame,
 ) -> Result<(), Fault>
-    ensures { (o : MirrorNote) (past : List Entry) → Stands o past node.old →
-        CutsIn (mirror_nodes o) past landed frame.now node.new result }
+    ensures { (opening : MirrorNote) (past : List Entry) → Stands opening past node.old →
+        CutsIn (mirror_nodes opening) past landed frame.now node.new result }
 {
     let Power::On(mirror) = node else {
         return Err(Fault::NodeOff);
@@ -103,9 +104,9 @@ pub(crate) fn cut_in_delivery(
 
 /// Loses its power once what a frame brings is saved.
 fn cut_behind_delivery(node: &mut MirrorNode, frame: &Frame) -> Result<(), Fault>
-    ensures { (o : MirrorNote) (past : List Entry) → Stands o past node.old →
-        is_on past ≡ true → is_some (due o past frame.now) ≡ true →
-        CutsIn (mirror_nodes o) past true frame.now node.new result }
+    ensures { (opening : MirrorNote) (past : List Entry) → Stands opening past node.old →
+        is_on past ≡ true → is_some (due opening past frame.now) ≡ true →
+        CutsIn (mirror_nodes opening) past true frame.now node.new result }
 {
     if let Err(fault) = deliver(node, frame) {
         return Err(fault);

@@ -39,24 +39,24 @@ pub(crate) fn open(alloc: Global, me: ServerNo) -> Result<ServerNode, AllocError
 
 /// Whether it runs.
 pub(crate) fn runs(node: &ServerNode) -> bool
-    ensures { (o : Opening) (past : List FrameEntry) → Stands o past node.now →
-        result ≡ is_on (packets_heard o past) }
+    ensures { (opening : Opening) (past : List FrameEntry) → Stands opening past node.now →
+        result ≡ is_on (packets_heard opening past) }
 {
     node.core().is_some()
 }
 
 /// The server, while it runs.
 pub(crate) fn server(node: &ServerNode) -> Option<&Server<MemNotes>>
-    ensures { (o : Opening) (past : List FrameEntry) → Stands o past node.now →
-        Shows (server_nodes o) past node.now (option_copied result) }
+    ensures { (opening : Opening) (past : List FrameEntry) → Stands opening past node.now →
+        Shows (server_nodes opening) past node.now (option_copied result) }
 {
     node.core()
 }
 
 /// Loses its power, where it has any.
 pub(crate) fn cut(node: &mut ServerNode)
-    ensures { (o : Opening) (past : List FrameEntry) → Stands o past node.old →
-        Stands o (Cut ∷ past) node.new }
+    ensures { (opening : Opening) (past : List FrameEntry) → Stands opening past node.old →
+        Stands opening (Cut ∷ past) node.new }
 {
     let _was_on = node.cut();
 }
@@ -66,8 +66,9 @@ pub(crate) fn cut(node: &mut ServerNode)
 /// `NodeOn`: it runs. `NumbersSpent`: its boots are used up. `NoMemory`. Nothing changes.
 pub(crate) fn restart(node: &mut ServerNode, alloc: Global, me: ServerNo) -> Result<(), Fault>
     requires { me < MAX_SERVERS }
-    ensures { (o : Opening) (past : List FrameEntry) → o.me ≡ me → Stands o past node.old →
-        Restarts o past node.new result }
+    ensures { (opening : Opening) (past : List FrameEntry) → opening.me ≡ me →
+        Stands opening past node.old →
+        Restarts opening past node.new result }
 {
     node.restart(alloc, me)
 }
@@ -80,8 +81,8 @@ pub(crate) fn cut_in_delivery(
     landed: bool,
     frame: Frame,
 ) -> Result<(), Fault>
-    ensures { (o : Opening) (past : List FrameEntry) → Stands o past node.old →
-        CutsIn (server_nodes o) past landed (Deliver frame) node.new result }
+    ensures { (opening : Opening) (past : List FrameEntry) → Stands opening past node.old →
+        CutsIn (server_nodes opening) past landed (Deliver frame) node.new result }
 {
     let Some(server) = server(node) else {
         return Err(Fault::NodeOff);
@@ -98,9 +99,9 @@ pub(crate) fn cut_in_delivery(
 
 /// Loses its power once the save that a frame makes has landed.
 fn cut_behind(node: &mut ServerNode, frame: Frame) -> Result<(), Fault>
-    ensures { (o : Opening) (past : List FrameEntry) → Stands o past node.old →
-        is_up o past ≡ true → would_save o past frame ≡ true →
-        CutsIn (server_nodes o) past true (Deliver frame) node.new result }
+    ensures { (opening : Opening) (past : List FrameEntry) → Stands opening past node.old →
+        is_up opening past ≡ true → would_save opening past frame ≡ true →
+        CutsIn (server_nodes opening) past true (Deliver frame) node.new result }
 {
     let outs = node.on()?.step(Input::Deliver(frame))?;
     let _unsent = outs;
@@ -118,8 +119,9 @@ pub(crate) fn cut_in_restart(
     me: ServerNo,
 ) -> Result<(), Fault>
     requires { me < MAX_SERVERS }
-    ensures { (o : Opening) (past : List FrameEntry) → o.me ≡ me → Stands o past node.old →
-        CutsInRestart o past landed node.new result }
+    ensures { (opening : Opening) (past : List FrameEntry) → opening.me ≡ me →
+        Stands opening past node.old →
+        CutsInRestart opening past landed node.new result }
 {
     if !landed {
         return try_restart(node);
@@ -135,8 +137,8 @@ pub(crate) fn cut_in_restart(
 
 /// Loses its power before the next boot is saved.
 fn try_restart(node: &mut ServerNode) -> Result<(), Fault>
-    ensures { (o : Opening) (past : List FrameEntry) → Stands o past node.old →
-        CutsInRestart o past false node.new result }
+    ensures { (opening : Opening) (past : List FrameEntry) → Stands opening past node.old →
+        CutsInRestart opening past false node.new result }
 {
     let Power::Off(notes) = node else {
         return Err(Fault::NodeOn);

@@ -1,1 +1,2 @@
 pub mod PowerLemmas
+pub mod Sending

@@ -14,9 +14,9 @@ use Rattle.node_power.specs.Kinds.{Kind}
 -- The kind of a client that was opened so.
 abbrev pub client_kind : {T : Type 0} → (T → Note) → Opening →
     Kind (Client T) T Input FrameEntry Addition (List (List ℕ))
-client_kind note o = record {
-  core = steps note o;
+client_kind note opening = record {
+  core = steps note opening;
   note = note;
-  is_up = is_up o;
-  Says = λ past notes. Says (note notes).bytes (words_noted o (packets_heard o past));
+  is_up = is_up opening;
+  Says = λ past notes. Says (note notes).bytes (words_noted opening (packets_heard opening past));
 }

@@ -14,9 +14,9 @@ use Rattle.node_power.specs.Kinds.{Kind}
 -- The kind of a mirror whose note said this.
 abbrev pub mirror_kind : {T : Type 0} → (T → Note) → MirrorNote →
     Kind (Mirror T) T Frame Entry Addition (List (List ℕ))
-mirror_kind note o = record {
-  core = steps note o;
+mirror_kind note opening = record {
+  core = steps note opening;
   note = note;
   is_up = is_on;
-  Says = λ past notes. Says (note notes).bytes (words_noted o past);
+  Says = λ past notes. Says (note notes).bytes (words_noted opening past);
 }

@@ -13,9 +13,9 @@ use Rattle.node_power.specs.Kinds.{Kind}
 -- The kind of a server that was opened so.
 abbrev pub server_kind : {T : Type 0} → (T → Note) → Opening →
     Kind (Server T) T Input FrameEntry Staged Outs
-server_kind note o = record {
-  core = steps note o;
+server_kind note opening = record {
+  core = steps note opening;
   note = note;
-  is_up = is_up o;
-  Says = λ past notes. Says (note notes).bytes (words_noted o (packets_heard o past));
+  is_up = is_up opening;
+  Says = λ past notes. Says (note notes).bytes (words_noted opening (packets_heard opening past));
 }

@@ -38,14 +38,17 @@ pub trait NodeCore<N>: Drop {
 
     /// Whether it is on: no save has failed since it was started.
     fn is_up(&self) -> bool
-        ensures { (o : Opening) (past : List Entry) → (kind o).core.StandsFor past self.now →
-            result ≡ (kind o).is_up past };
+        ensures { (opening : Opening) (past : List Entry) →
+            (kind opening).core.StandsFor past self.now →
+            result ≡ (kind opening).is_up past };
 
     /// Its notes, where it is taken off.
     fn into_notes(self) -> N
-        ensures same { (o : Opening) → (kind o).note result ≡ (kind o).core.note self }
-        ensures says { (o : Opening) (past : List Entry) → (kind o).core.StandsFor past self →
-            (kind o).Says past result };
+        ensures same { (opening : Opening) →
+            (kind opening).note result ≡ (kind opening).core.note self }
+        ensures says { (opening : Opening) (past : List Entry) →
+            (kind opening).core.StandsFor past self →
+            (kind opening).Says past result };
 
     /// Starts a core over these notes, or gives them back.
     fn start(alloc: Global, seed: Self::Seed, notes: N) -> Result<Self, (N, Fault)>

@@ -23,8 +23,9 @@ pub enum Power<C, N> {
 impl<N: Drop, C: NodeCore<N>> Power<C, N> {
     /// The core, where it is on: it has power, and isn't down.
     pub fn core(&self) -> Option<&C>
-        ensures { (o : C.Opening) (past : List C.Entry) → Stands (C.kind o) past self.now →
-            Shows (C.kind o) past self.now (option_copied result) }
+        ensures { (opening : C.Opening) (past : List C.Entry) →
+            Stands (C.kind opening) past self.now →
+            Shows (C.kind opening) past self.now (option_copied result) }
     {
         match self {
             Power::On(core) => { if core.is_up() { Some(core) } else { None } }
@@ -36,8 +37,9 @@ impl<N: Drop, C: NodeCore<N>> Power<C, N> {
     #[inline(always)]
     pub fn on(&mut self) -> Result<&mut C, Fault>
         ensures* lends { sem 𝓛 (LendsCore C.row N.row self.entry result) }
-        ensures lent { (o : C.Opening) (past : List C.Entry) → Stands (C.kind o) past self.old →
-            IsLent (C.kind o) past self.old result }
+        ensures lent { (opening : C.Opening) (past : List C.Entry) →
+            Stands (C.kind opening) past self.old →
+            IsLent (C.kind opening) past self.old result }
     {
         match self {
             Power::On(core) => {
@@ -53,8 +55,9 @@ impl<N: Drop, C: NodeCore<N>> Power<C, N> {
 
     /// Loses its power. `NodeOff`: it isn't on, and nothing changes.
     pub fn cut(&mut self) -> Result<(), Fault>
-        ensures { (o : C.Opening) (past : List C.Entry) → Stands (C.kind o) past self.old →
-            Cuts (C.kind o) past self.old self.new result }
+        ensures { (opening : C.Opening) (past : List C.Entry) →
+            Stands (C.kind opening) past self.old →
+            Cuts (C.kind opening) past self.old self.new result }
     {
         if self.core().is_none() {
             return Err(Fault::NodeOff);
@@ -71,8 +74,9 @@ impl<N: Drop, C: NodeCore<N>> Power<C, N> {
     /// Starts again. `NodeOn`: it is on, and nothing changes. Any other fault is the core's.
     pub fn restart(&mut self, alloc: Global, seed: C::Seed) -> Result<(), Fault>
         requires { C.IsSeed seed }
-        ensures { (o : C.Opening) (past : List C.Entry) → Stands (C.kind o) past self.old →
-            Restarts (C.kind o) (C.Opens seed) past self.old self.new result }
+        ensures { (opening : C.Opening) (past : List C.Entry) →
+            Stands (C.kind opening) past self.old →
+            Restarts (C.kind opening) (C.Opens seed) past self.old self.new result }
     {
         if !self.core().is_none() {
             return Err(Fault::NodeOn);
@@ -103,11 +107,13 @@ impl<N: Drop, C: NodeCore<N>> Power<C, N> {
     /// Its notes, which are lent until they are put back; `None` where they are lent already.
     pub fn lend(&mut self) -> Option<N>
         ensures left { self.new ≡ Away }
-        ensures same { (o : C.Opening) → IfSome result
-            (λ notes. (C.kind o).note notes ≡ note_of (C.kind o) self.old) }
-        ensures says { (o : C.Opening) (past : List C.Entry) → Stands (C.kind o) past self.old →
-            IfSome result (λ notes. (C.kind o).Says past notes) }
-        ensures none { (o : C.Opening) (past : List C.Entry) → Stands (C.kind o) past self.old →
+        ensures same { (opening : C.Opening) → IfSome result
+            (λ notes. (C.kind opening).note notes ≡ note_of (C.kind opening) self.old) }
+        ensures says { (opening : C.Opening) (past : List C.Entry) →
+            Stands (C.kind opening) past self.old →
+            IfSome result (λ notes. (C.kind opening).Says past notes) }
+        ensures none { (opening : C.Opening) (past : List C.Entry) →
+            Stands (C.kind opening) past self.old →
             IfNone result ⊥ }
     {
         mem::replace(self, Power::Lent).into_notes()
@@ -115,11 +121,13 @@ impl<N: Drop, C: NodeCore<N>> Power<C, N> {
 
     /// The notes of one that is taken off; `None` where they are lent.
     pub fn into_notes(self) -> Option<N>
-        ensures same { (o : C.Opening) → IfSome result
-            (λ notes. (C.kind o).note notes ≡ note_of (C.kind o) self) }
-        ensures says { (o : C.Opening) (past : List C.Entry) → Stands (C.kind o) past self →
-            IfSome result (λ notes. (C.kind o).Says past notes) }
-        ensures none { (o : C.Opening) (past : List C.Entry) → Stands (C.kind o) past self →
+        ensures same { (opening : C.Opening) → IfSome result
+            (λ notes. (C.kind opening).note notes ≡ note_of (C.kind opening) self) }
+        ensures says { (opening : C.Opening) (past : List C.Entry) →
+            Stands (C.kind opening) past self →
+            IfSome result (λ notes. (C.kind opening).Says past notes) }
+        ensures none { (opening : C.Opening) (past : List C.Entry) →
+            Stands (C.kind opening) past self →
             IfNone result ⊥ }
     {
         match self {

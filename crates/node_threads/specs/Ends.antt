@@ -35,7 +35,7 @@ report_of came attempt server job =
 
 -- The jobs of a server's open check, none where there is no check.
 abbrev pub jobs_checked : Opening → List Entry → List Job
-jobs_checked o past = option_map_or (λ c. c.jobs) (check o past) []
+jobs_checked opening past = option_map_or (λ c. c.jobs) (check opening past) []
 
 -- There is a server of this number, and this holds of it.
 abbrev pub IsAt : List ServerLog → ℕ → (ServerLog → Type 0) → Type 0

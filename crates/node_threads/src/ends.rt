@@ -88,8 +88,10 @@ fn jobs_in(server: &Server, attempt: Attempt) -> Result<u32, FleetFault>
 
 /// How many jobs the open check of a server has.
 fn count_of(core: &server_core::Server<MemNotes>) -> u32
-    ensures { (o : Opening) (past : List FrameEntry) → StandsFor note_of core.now o past →
-        result ≡ min MAX_JOBS (length (jobs_checked o (shown_entries (packets_heard o past)))) }
+    ensures { (opening : Opening) (past : List FrameEntry) →
+        StandsFor note_of core.now opening past →
+        result ≡ min MAX_JOBS
+        (length (jobs_checked opening (shown_entries (packets_heard opening past)))) }
 {
     for job in 0..MAX_JOBS {
         if core.check_job(JobNo(job)).is_none() {

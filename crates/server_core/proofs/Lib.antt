@@ -53,3 +53,4 @@ pub mod UnsavedLemmas
 pub mod ShortLemmas
 pub mod SentLemmas
 pub mod OpenLemmas
+pub mod Sending

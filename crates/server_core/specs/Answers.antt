@@ -29,13 +29,13 @@ use Rattle.server_core.specs.Replies.{Now, number_staged, replies}
 
 -- The words of a server behind this list.
 abbrev pub now : Opening → List Entry → Now
-now o past = record {
-  server = o.me;
-  boot = boot o past;
-  last = last_run o past;
-  staged = staged_run o past;
-  run = work o past;
-  check = check o past;
+now opening past = record {
+  server = opening.me;
+  boot = boot opening past;
+  last = last_run opening past;
+  staged = staged_run opening past;
+  run = work opening past;
+  check = check opening past;
 }
 
 -- The ticket names an open write of this job.
@@ -79,7 +79,8 @@ refusal_of now _ = None
 
 -- Why an event is refused: the server is down, or the request is refused.
 abbrev pub refusal : Opening → List Entry → Event → Option Fault
-refusal o past e = if is_on past then refusal_of (now o past) (request_of o.me e) else Some Down
+refusal opening past e =
+    if is_on past then refusal_of (now opening past) (request_of opening.me e) else Some Down
 
 -- The packets that carry these bodies to the client.
 abbrev pub to_client : ℕ → List Body → List PacketParts
@@ -92,11 +93,11 @@ sent_by lost (Some fault) bodies = []
 
 -- The packets that an entry sends.
 abbrev pub packets : Opening → List Entry → Entry → List PacketParts
-packets o past (Met e left) =
-    to_client o.me (sent_by (is_lost left) (refusal o past e)
-    (replies (now o past) (request_of o.me e)))
-packets o past Cut = []
-packets o past (Restart left) = []
+packets opening past (Met e left) =
+    to_client opening.me (sent_by (is_lost left) (refusal opening past e)
+    (replies (now opening past) (request_of opening.me e)))
+packets opening past Cut = []
+packets opening past (Restart left) = []
 
 -- What a job of the run answers to a request for a write, Stopped where there is no such job.
 abbrev pub issue_of_job : Work → ℕ → Option Job → Issue
@@ -116,7 +117,7 @@ issue_for now _ = None
 
 -- What an event answers of writes.
 abbrev pub issue : Opening → List Entry → Event → Option Issue
-issue o past e = issue_for (work o past) (request_of o.me e)
+issue opening past e = issue_for (work opening past) (request_of opening.me e)
 
 -- The job that this request marks: the client tells that its state is kept, behind the Trigger of
 -- the run.
@@ -157,11 +158,11 @@ act_of (Some w) x = if completes w x then acts.Cut else acts.None
 
 -- What an event makes the server ask of its caller.
 abbrev pub act : Opening → List Entry → Event → Act
-act o past e = act_of (work o past) (request_of o.me e)
+act opening past e = act_of (work opening past) (request_of opening.me e)
 
 -- An event makes a save where it is due to record a run.
 abbrev pub would_save : Opening → List Entry → Event → Bool
-would_save o past e = is_some (due o past e)
+would_save opening past e = is_some (due opening past e)
 
 -- What the calls that only look answer from: all that came, but for what came from a failed save
 -- on.
@@ -206,7 +207,7 @@ status_of n = record {
 
 -- What a server shows of itself.
 abbrev pub status : Opening → List Entry → Status
-status o past = status_of (now o past)
+status opening past = status_of (now opening past)
 
 -- Job j of a run, where there is one.
 abbrev pub job_of_run : Option Work → ℕ → Option Job
@@ -215,7 +216,7 @@ job_of_run (Some w) j = slice_get w.jobs j
 
 -- Job j of the present run.
 abbrev pub run_job : Opening → List Entry → ℕ → Option Job
-run_job o past j = job_of_run (work o past) j
+run_job opening past j = job_of_run (work opening past) j
 
 -- Job j of a check, where there is one.
 abbrev pub job_of_check : Option Check → ℕ → Option Job
@@ -224,4 +225,4 @@ job_of_check (Some c) j = slice_get c.jobs j
 
 -- Job j of the open check.
 abbrev pub check_job : Opening → List Entry → ℕ → Option Job
-check_job o past j = job_of_check (check o past) j
+check_job opening past j = job_of_check (check opening past) j

@@ -17,5 +17,6 @@ pub record AreShort (frames : List (List ℕ)) : Type 0 where
 -- is within its ranges.
 abbrev pub FramesAreShort : Type 0
 FramesAreShort =
-    (o : Opening) (past : List Entry) (e : Entry) →
-    OpensInRange o → CameInRange (e ∷ past) → AreShort (flat_map spelled_frames (packets o past e))
+    (opening : Opening) (past : List Entry) (e : Entry) →
+    OpensInRange opening → CameInRange (e ∷ past) →
+    AreShort (flat_map spelled_frames (packets opening past e))

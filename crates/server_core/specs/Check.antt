@@ -128,15 +128,16 @@ check_after LostOld due new x older = None
 
 -- The open check: that of the last accepted Verify of this life with no accepted Start since.
 abbrev pub check : Opening → List Entry → Option Check
-check o [] = None
-check o (Met e left ∷ past) =
-    check_after left (due o past e)
-    (opens (is_on past) o.me (boot o past) (last_run o past) (work o past) (check o past)
-    (request_of o.me e))
-    (request_of o.me e) (check o past)
-check o (Cut ∷ past) = None
-check o (Restart left ∷ past) = None
+check opening [] = None
+check opening (Met e left ∷ past) =
+    check_after left (due opening past e)
+    (opens (is_on past) opening.me (boot opening past) (last_run opening past) (work opening past)
+    (check opening past)
+    (request_of opening.me e))
+    (request_of opening.me e) (check opening past)
+check opening (Cut ∷ past) = None
+check opening (Restart left ∷ past) = None
 
 -- How far job j of the open check is.
 abbrev pub progress : Opening → List Entry → ℕ → Option Progress
-progress o past j = progress_in (check o past) j
+progress opening past j = progress_in (check opening past) j

@@ -19,7 +19,7 @@ pub record IsDueStart (on : Bool) (last : ℕ) (found : Option Staged) (now : Op
 -- So it is where an event is due to record a run.
 abbrev pub DueIsStart : Type 0
 DueIsStart =
-    (o : Opening) (past : List Entry) (e : Event) (s : Staged) →
-    due o past e ≡ Some s
-    → IsDueStart (is_on past) (last_run o past) (staged_run o past) (work o past)
-    (request_of o.me e) s
+    (opening : Opening) (past : List Entry) (e : Event) (s : Staged) →
+    due opening past e ≡ Some s
+    → IsDueStart (is_on past) (last_run opening past) (staged_run opening past) (work opening past)
+    (request_of opening.me e) s

@@ -32,11 +32,11 @@ use Rattle.server_core.specs.WordsAfter.{begun_by}
 
 -- A server stands for a list where it is on or down as the list says, where the durable bytes say
 -- what the list says, and where it keeps what the list said before the first failed save.
-pub record StandsFor {T : Type 0} (note : T → Note) (server : PacketServer T) (o : Opening)
+pub record StandsFor {T : Type 0} (note : T → Note) (server : PacketServer T) (opening : Opening)
     (past : List Entry) : Type 0 where
   pub on : server.durable.down ≡ not (is_on past)
-  pub durable : Says (note server.durable.notes).bytes (words_noted o past)
-  pub keeps : MachineIs server.machine (now o (shown_entries past))
+  pub durable : Says (note server.durable.notes).bytes (words_noted opening past)
+  pub keeps : MachineIs server.machine (now opening (shown_entries past))
 
 -- A Start that is due isn't answered: memory ran out, and nothing changes; or the device failed,
 -- and the durable bytes are the new or the old, and the server is down.
@@ -68,31 +68,32 @@ Starts note run old new (Err fault) = Unstarted note run (sort_of fault) fault o
 
 -- What an answered event leaves in the list: a Start that is due was saved.
 abbrev pub answered_entry : Opening → List Entry → Event → Entry
-answered_entry o past e = Met e (saved_for (due o past e))
+answered_entry opening past e = Met e (saved_for (due opening past e))
 
 -- What is answered and sent is what the list says; and where what came before keeps its ranges, the
 -- packets that are sent keep theirs, and their frames are few and short.
-pub record Sends (o : Opening) (past : List Entry) (e : Event) (outs : Outs) : Type 0 where
-  pub frames_are : outs.frames ≡ flat_map spelled_frames (packets o past (answered_entry o past e))
-  pub issue_is : outs.issue ≡ issue o past e
-  pub act_is : outs.act ≡ act o past e
-  pub short : OpensInRange o → CameInRange past → AreShort outs.frames
-  pub ranges : OpensInRange o → CameInRange past
-      → AllByRecursion IsPacket (packets o past (answered_entry o past e))
+pub record Sends (opening : Opening) (past : List Entry) (e : Event) (outs : Outs) : Type 0 where
+  pub frames_are : outs.frames
+      ≡ flat_map spelled_frames (packets opening past (answered_entry opening past e))
+  pub issue_is : outs.issue ≡ issue opening past e
+  pub act_is : outs.act ≡ act opening past e
+  pub short : OpensInRange opening → CameInRange past → AreShort outs.frames
+  pub ranges : OpensInRange opening → CameInRange past
+      → AllByRecursion IsPacket (packets opening past (answered_entry opening past e))
 
 -- The steps of a server that takes packets: its note, what its list says of an event, and what is
 -- answered and sent. A refused event leaves it as it was.
 abbrev pub steps : {T : Type 0} → (T → Note) → Opening →
     Steps (PacketServer T) Event Entry Staged Outs
-steps note o = record {
+steps note opening = record {
   note = λ server. note server.durable.notes;
-  StandsFor = λ past server. StandsFor note server o past;
-  refusal = refusal o;
-  due = due o;
+  StandsFor = λ past server. StandsFor note server opening past;
+  refusal = refusal opening;
+  due = due opening;
   met = Met;
-  spelled = λ past. spelling (words_noted o past);
-  Sends = Sends o;
-  Stays = λ past e server. StandsFor note server o past;
+  spelled = λ past. spelling (words_noted opening past);
+  Sends = Sends opening;
+  Stays = λ past e server. StandsFor note server opening past;
 }
 
 -- For each list whose words the note said, the server stands for it with the restart. The note said
@@ -104,9 +105,9 @@ pub record Restarts {T : Type 0} (note : T → Note) (me : ℕ) (notes : T)
   pub leaves : note server.durable.notes ≡ record (note notes)
       { bytes = spelling (record said { boot = said.boot + 1 }) }
   pub stands :
-      (o : Opening) (past : List Entry) → o.me ≡ me
-      → Says (note notes).bytes (words_noted o past)
-      → StandsFor note server o (Restart Saved ∷ past)
+      (opening : Opening) (past : List Entry) → opening.me ≡ me
+      → Says (note notes).bytes (words_noted opening past)
+      → StandsFor note server opening (Restart Saved ∷ past)
 
 -- The bytes said something that left a boot, and they are still there, or those of the next boot
 -- are.

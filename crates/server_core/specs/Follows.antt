@@ -11,12 +11,12 @@ use Rattle.server_core.specs.WordsAfter.{words_after, begun_by}
 -- The words behind an event that records no run are read from the words before it.
 abbrev pub WordsFollow : Type 0
 WordsFollow =
-    (o : Opening) (past : List Entry) (e : Event) →
-    is_on past ≡ true → due o past e ≡ None
-    → now o (Met e NoSave ∷ past) ≡ words_after (now o past) (request_of o.me e)
+    (opening : Opening) (past : List Entry) (e : Event) →
+    is_on past ≡ true → due opening past e ≡ None
+    → now opening (Met e NoSave ∷ past) ≡ words_after (now opening past) (request_of opening.me e)
 
 -- So are the words behind a Start whose run was saved.
 abbrev pub StartsFollow : Type 0
 StartsFollow =
-    (o : Opening) (past : List Entry) (e : Event) (s : Staged) →
-    due o past e ≡ Some s → now o (Met e Saved ∷ past) ≡ begun_by (now o past) s
+    (opening : Opening) (past : List Entry) (e : Event) (s : Staged) →
+    due opening past e ≡ Some s → now opening (Met e Saved ∷ past) ≡ begun_by (now opening past) s

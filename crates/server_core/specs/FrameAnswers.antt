@@ -21,36 +21,41 @@ use Rattle.server_core.specs.Hearing.{FrameEntry, Met, rules, arrival, coming_of
 
 -- What comes is to a server that has heard this list.
 abbrev pub sense : Opening → List FrameEntry → Input → Sense Event
-sense o past e = senses.sense (rules o) (heard_at o past) (arrival e)
+sense opening past e = senses.sense (rules opening) (heard_at opening past) (arrival e)
 
 -- Why what comes is refused, if it is.
 abbrev pub refusal : Opening → List FrameEntry → Input → Option Fault
-refusal o past e = refusal_of_sense (rules o) (packets_heard o past) (sense o past e)
+refusal opening past e =
+    refusal_of_sense (rules opening) (packets_heard opening past) (sense opening past e)
 
 -- The run that what comes is due to record: only what is heard is.
 abbrev pub due : Opening → List FrameEntry → Input → Option Staged
-due o past e = heard_or None (words.due o (packets_heard o past)) (sense o past e)
+due opening past e = heard_or None (words.due opening (packets_heard opening past))
+    (sense opening past e)
 
 -- The delivery of a frame makes a save where it is due to record a run.
 abbrev pub would_save : Opening → List FrameEntry → Frame → Bool
-would_save o past f = is_some (due o past (Deliver f))
+would_save opening past f = is_some (due opening past (Deliver f))
 
 -- What is answered of writes: only what is heard is answered so.
 abbrev pub issue : Opening → List FrameEntry → Input → Option Answer
-issue o past e = heard_or None (answers.issue o (packets_heard o past)) (sense o past e)
+issue opening past e = heard_or None (answers.issue opening (packets_heard opening past))
+    (sense opening past e)
 
 -- What the caller is asked to do: only what is heard asks anything.
 abbrev pub act : Opening → List FrameEntry → Input → Act
-act o past e = heard_or acts.None (answers.act o (packets_heard o past)) (sense o past e)
+act opening past e = heard_or acts.None (answers.act opening (packets_heard opening past))
+    (sense opening past e)
 
 -- What an answered input leaves in the list: a Start that is due was saved.
 abbrev pub answered_entry : Opening → List FrameEntry → Input → FrameEntry
-answered_entry o past e = Met e (saved_for (due o past e))
+answered_entry opening past e = Met e (saved_for (due opening past e))
 
 -- The entry that is heard of what happens.
 abbrev pub entry_heard : Opening → List FrameEntry → FrameEntry → Option history.Entry
-entry_heard o past e = entry_of (rules o) (heard_at o past) (coming_of e)
+entry_heard opening past e = entry_of (rules opening) (heard_at opening past) (coming_of e)
 
 -- The frames that are sent.
 abbrev pub frames : Opening → List FrameEntry → FrameEntry → List Frame
-frames o past e = frames_by (answers.packets o) (packets_heard o past) (entry_heard o past e)
+frames opening past e =
+    frames_by (answers.packets opening) (packets_heard opening past) (entry_heard opening past e)

@@ -32,34 +32,36 @@ note_in note server = note server.hearer.core.durable.notes
 -- A server stands for a list of frames where its core stands for the packets that are heard in it,
 -- and, while it is on, keeps what has come together of pieces.
 abbrev pub StandsFor : {T : Type 0} → (T → Note) → Server T → Opening → List FrameEntry → Type 0
-StandsFor note server o past =
-    hearers.StandsFor (hearing_kind note o) (map coming_of past) server.hearer
+StandsFor note server opening past =
+    hearers.StandsFor (hearing_kind note opening) (map coming_of past) server.hearer
 
 -- What is answered and sent is what the list says; and where the packets that were heard keep their
 -- ranges, the frames are few and short.
-pub record Sends (o : Opening) (past : List FrameEntry) (e : Input) (outs : Outs) : Type 0 where
-  pub frames_are : outs.frames ≡ map frame_spelling (frames o past (answered_entry o past e))
-  pub issue_is : outs.issue ≡ issue o past e
-  pub act_is : outs.act ≡ act o past e
-  pub short : OpensInRange o → CameInRange (packets_heard o past) → AreShort outs.frames
+pub record Sends (opening : Opening) (past : List FrameEntry) (e : Input)
+    (outs : Outs) : Type 0 where
+  pub frames_are : outs.frames
+      ≡ map frame_spelling (frames opening past (answered_entry opening past e))
+  pub issue_is : outs.issue ≡ issue opening past e
+  pub act_is : outs.act ≡ act opening past e
+  pub short : OpensInRange opening → CameInRange (packets_heard opening past) → AreShort outs.frames
 
 -- A server as a node whose core hears frames.
 abbrev pub server_node : {T : Type 0} → (T → Note) → Opening →
     Node (Server T) Input FrameEntry (PacketServer T) Event Entry Staged Outs
-server_node note o = record {
-  kind = hearing_kind note o;
+server_node note opening = record {
+  kind = hearing_kind note opening;
   hearer = λ server. server.hearer;
   arrival = arrival;
   coming = coming_of;
   met = Met;
-  Sends = Sends o;
+  Sends = Sends opening;
 }
 
 -- The steps of a server: its note, what its list says of what comes, and what is answered and sent.
 -- What is refused leaves it as it was, but where it drops a tag: that alone changes.
 abbrev pub steps : {T : Type 0} → (T → Note) → Opening →
     Steps (Server T) Input FrameEntry Staged Outs
-steps note o = nodes.steps (server_node note o)
+steps note opening = nodes.steps (server_node note opening)
 
 -- For each list whose words the note said, the server stands for it with the restart. The note said
 -- something, so there is such a list: the empty one. Now it has the next boot.
@@ -70,9 +72,9 @@ pub record Restarts {T : Type 0} (note : T → Note) (me : ℕ) (notes : T)
   pub leaves : note_in note server
       ≡ record (note notes) { bytes = spelling (record said { boot = said.boot + 1 }) }
   pub stands :
-      (o : Opening) (past : List FrameEntry) → o.me ≡ me
-      → Says (note notes).bytes (words.words_noted o (packets_heard o past))
-      → StandsFor note server o (Restart Saved ∷ past)
+      (opening : Opening) (past : List FrameEntry) → opening.me ≡ me
+      → Says (note notes).bytes (words.words_noted opening (packets_heard opening past))
+      → StandsFor note server opening (Restart Saved ∷ past)
 
 -- How a restart ends.
 abbrev pub Opens : {T : Type 0} → (T → Note) → ℕ → T → Result (Server T) (T × Fault) → Type 0

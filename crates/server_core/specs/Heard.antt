@@ -29,23 +29,23 @@ heard_packets (Restart left ∷ past) = []
 
 -- A state of the last run, of this server and job, which fits the job and which the client sent in
 -- this life.
-pub record IsHeard (o : Opening) (past : List Entry) (j : ℕ) (state : State) : Type 0 where
-  pub key : state.key ≡ record { run = last_run o past; server = o.me; job = j }
+pub record IsHeard (opening : Opening) (past : List Entry) (j : ℕ) (state : State) : Type 0 where
+  pub key : state.key ≡ record { run = last_run opening past; server = opening.me; job = j }
   pub job : Job
-  pub is_job : check_job o past j ≡ Some job
+  pub is_job : check_job opening past j ≡ Some job
   pub fits : misfit state state.key job.rec ≡ None
   pub attempt : ℕ
   pub sent :
       Contains (heard_packets past)
-      (record { from = Client; to = Server o.me; body = Saved attempt state })
+      (record { from = Client; to = Server opening.me; body = Saved attempt state })
 
 -- The present run was taken by a Trigger that asks for the cut, and with this event the client has
 -- told of each of its jobs that its state is kept, or needn't be.
-pub record AreStatesKept (o : Opening) (past : List Entry) (e : Event) : Type 0 where
+pub record AreStatesKept (opening : Opening) (past : List Entry) (e : Event) : Type 0 where
   pub now : Work
-  pub works : work o past ≡ Some now
+  pub works : work opening past ≡ Some now
   pub wants : wants_cut (halt_of now.run now.since) ≡ true
   pub kept :
       (j : ℕ) → j < length now.jobs
       → Contains (heard_with e (heard_packets past))
-      (record { from = Client; to = Server o.me; body = StateAck now.run j })
+      (record { from = Client; to = Server opening.me; body = StateAck now.run j })

@@ -33,16 +33,17 @@ use Rattle.server_core.specs.Ranges.{CameInRange, OpensInRange}
 -- The last run and the boot never fall.
 abbrev pub NumbersGrow : Type 0
 NumbersGrow =
-    (o : Opening) (e : Entry) (past : List Entry) →
-    (last_run o past ≤ last_run o (e ∷ past)) × (boot o past ≤ boot o (e ∷ past))
+    (opening : Opening) (e : Entry) (past : List Entry) →
+    (last_run opening past ≤ last_run opening (e ∷ past))
+    × (boot opening past ≤ boot opening (e ∷ past))
 
 -- A Start that is recorded is of a lower run than each that is due later: so each run is started
 -- once.
 abbrev pub StartsOnce : Type 0
 StartsOnce =
-    (o : Opening) (older between : List Entry) (e f : Event) (left : Left) (s t : Staged) →
-    has_new left ≡ true → due o older e ≡ Some s
-    → due o (between ++ Met e left ∷ older) f ≡ Some t → s.run < t.run
+    (opening : Opening) (older between : List Entry) (e f : Event) (left : Left) (s t : Staged) →
+    has_new left ≡ true → due opening older e ≡ Some s
+    → due opening (between ++ Met e left ∷ older) f ≡ Some t → s.run < t.run
 
 -- A run at work is the last run, of this server and boot.
 pub record IsPresent (me now_boot last : ℕ) (w : Work) : Type 0 where
@@ -53,63 +54,67 @@ pub record IsPresent (me now_boot last : ℕ) (w : Work) : Type 0 where
 -- So it is with the present run.
 abbrev pub PresentIsLast : Type 0
 PresentIsLast =
-    (o : Opening) (past : List Entry) (w : Work) →
-    work o past ≡ Some w → IsPresent o.me (boot o past) (last_run o past) w
+    (opening : Opening) (past : List Entry) (w : Work) →
+    work opening past ≡ Some w → IsPresent opening.me (boot opening past) (last_run opening past) w
 
 -- A run's job is taken at most once.
 abbrev pub TakenAtMostOnce : Type 0
-TakenAtMostOnce = (o : Opening) (run j : ℕ) (past : List Entry) → length (takings o run j past) ≤ 1
+TakenAtMostOnce = (opening : Opening) (run j : ℕ) (past : List Entry) →
+    length (takings opening run j past) ≤ 1
 
 -- A server that is on shows all that came to it.
 abbrev pub LooksAtAll : Type 0
 LooksAtAll = (past : List Entry) → is_on past ≡ true → shown_entries past ≡ past
 
 -- A taken state has the key of the last run, and is the one that was ever taken of it.
-pub record IsTheTaken (o : Opening) (past : List Entry) (j : ℕ) (state : State) : Type 0 where
-  pub key : state.key ≡ record { run = last_run o past; server = o.me; job = j }
-  pub one : takings o (last_run o past) j past ≡ state ∷ []
+pub record IsTheTaken (opening : Opening) (past : List Entry) (j : ℕ) (state : State) : Type 0 where
+  pub key : state.key ≡ record { run = last_run opening past; server = opening.me; job = j }
+  pub one : takings opening (last_run opening past) j past ≡ state ∷ []
 
 -- Each state that a server holds is the one that was taken.
 abbrev pub HoldsTheTaken : Type 0
 HoldsTheTaken =
-    (o : Opening) (past : List Entry) (j : ℕ) (state : State) →
-    state_taken o past j ≡ Some state → IsTheTaken o past j state
+    (opening : Opening) (past : List Entry) (j : ℕ) (state : State) →
+    state_taken opening past j ≡ Some state → IsTheTaken opening past j state
 
 -- Each state that a server sends is the one that was taken.
 abbrev pub SendsTheTaken : Type 0
 SendsTheTaken =
-    (o : Opening) (past : List Entry) (e : Entry) (p : PacketParts) (jobs : ℕ) (state : State) →
-    Contains (packets o past e) p → p.body ≡ bodies.State jobs state
-    → (j : ℕ) × IsTheTaken o (e ∷ past) j state
+    (opening : Opening) (past : List Entry) (e : Entry) (p : PacketParts) (jobs : ℕ)
+    (state : State) →
+    Contains (packets opening past e) p → p.body ≡ bodies.State jobs state
+    → (j : ℕ) × IsTheTaken opening (e ∷ past) j state
 
 -- The present run has so many jobs.
-pub record HasJobs (o : Opening) (list : List Entry) (jobs : ℕ) : Type 0 where
+pub record HasJobs (opening : Opening) (list : List Entry) (jobs : ℕ) : Type 0 where
   pub now : Work
-  pub works : work o list ≡ Some now
+  pub works : work opening list ≡ Some now
   pub number : jobs ≡ length now.jobs
 
 -- A State tells how many jobs the present run has.
 abbrev pub StatesTellJobs : Type 0
 StatesTellJobs =
-    (o : Opening) (past : List Entry) (e : Entry) (p : PacketParts) (jobs : ℕ) (state : State) →
-    Contains (packets o past e) p → p.body ≡ bodies.State jobs state → HasJobs o (e ∷ past) jobs
+    (opening : Opening) (past : List Entry) (e : Entry) (p : PacketParts) (jobs : ℕ)
+    (state : State) →
+    Contains (packets opening past e) p → p.body ≡ bodies.State jobs state →
+    HasJobs opening (e ∷ past) jobs
 
 -- This run is the present one and has come to its end, has so many jobs, and no state of this one
 -- was ever taken.
-pub record IsUntaken (o : Opening) (list : List Entry) (run j jobs : ℕ) : Type 0 where
+pub record IsUntaken (opening : Opening) (list : List Entry) (run j jobs : ℕ) : Type 0 where
   pub now : Work
-  pub works : work o list ≡ Some now
+  pub works : work opening list ≡ Some now
   pub run_is : run ≡ now.run
   pub number : jobs ≡ length now.jobs
   pub over : is_halted now ≡ true
-  pub none : takings o run j list ≡ []
+  pub none : takings opening run j list ≡ []
 
 -- A NoState is of a job of the present run of which no state was taken.
 abbrev pub NoStateIsUntaken : Type 0
 NoStateIsUntaken =
-    (o : Opening) (past : List Entry) (e : Entry) (p : PacketParts) (run j jobs : ℕ) →
-    Contains (packets o past e) p → p.body ≡ bodies.NoState run j jobs
-    → IsUntaken o (e ∷ past) run j jobs
+    (opening : Opening) (past : List Entry) (e : Entry) (p : PacketParts) (run j jobs : ℕ) →
+    Contains (packets opening past e) p → p.body ≡ bodies.NoState run j jobs
+    → IsUntaken opening (e ∷ past) run j jobs
 
 -- The run isn't worked on, or has come to its end.
 abbrev pub IsOver : ℕ → Option Work → Type 0
@@ -119,9 +124,9 @@ IsOver run (Some w) = w.run ≡ run → is_halted w ≡ true
 -- Once a run has come to its end, no state of it is taken any more.
 abbrev pub TakingsStay : Type 0
 TakingsStay =
-    (o : Opening) (run j : ℕ) (newer list : List Entry) →
-    run ≤ last_run o list → IsOver run (work o list)
-    → takings o run j (newer ++ list) ≡ takings o run j list
+    (opening : Opening) (run j : ℕ) (newer list : List Entry) →
+    run ≤ last_run opening list → IsOver run (work opening list)
+    → takings opening run j (newer ++ list) ≡ takings opening run j list
 
 -- A set of jobs: 1 to 16, each within its limits, and its seed and pattern within their widths.
 pub record IsSet (jobs : List Job) : Type 0 where
@@ -136,16 +141,18 @@ TextsGiveSets =
 -- So are the jobs that are staged.
 abbrev pub StagingsHaveSets : Type 0
 StagingsHaveSets =
-    (o : Opening) (past : List Entry) (s : Staged) → staged_run o past ≡ Some s → IsSet s.jobs
+    (opening : Opening) (past : List Entry) (s : Staged) → staged_run opening past ≡ Some s →
+    IsSet s.jobs
 
 -- So are the jobs of the present run.
 abbrev pub RunsHaveSets : Type 0
-RunsHaveSets = (o : Opening) (past : List Entry) (w : Work) → work o past ≡ Some w → IsSet w.jobs
+RunsHaveSets = (opening : Opening) (past : List Entry) (w : Work) → work opening past ≡ Some w →
+    IsSet w.jobs
 
 -- And so are those of the open check.
 abbrev pub ChecksHaveSets : Type 0
 ChecksHaveSets =
-    (o : Opening) (past : List Entry) (c : Check) → check o past ≡ Some c → IsSet c.jobs
+    (opening : Opening) (past : List Entry) (c : Check) → check opening past ≡ Some c → IsSet c.jobs
 
 -- The history of a job that is within its limits is legal, so that an engine can stand for it.
 abbrev pub HistoriesAreLegal : Type 0
@@ -157,8 +164,8 @@ HistoriesAreLegal =
 -- that were completed between.
 abbrev pub CountsTheDone : Type 0
 CountsTheDone =
-    (o : Opening) (run j : ℕ) (list : List Entry) (state : State) →
-    Contains (takings o run j list) state → IsTaking o run j list state
+    (opening : Opening) (run j : ℕ) (list : List Entry) (state : State) →
+    Contains (takings opening run j list) state → IsTaking opening run j list state
 
 -- The answer gives a write.
 abbrev pub gives_write : Option Issue → Bool
@@ -169,43 +176,44 @@ gives_write (Some answer) = is_write answer
 -- that one.
 abbrev pub QuietWhileLast : Type 0
 QuietWhileLast =
-    (o : Opening) (older between : List Entry) (trigger e : Event) (was : Left) (run j : ℕ)
+    (opening : Opening) (older between : List Entry) (trigger e : Event) (was : Left) (run j : ℕ)
     (state : State) →
-    takes run j (request_of o.me trigger) (work o older) ≡ Some state
-    → last_run o (between ++ Met trigger was ∷ older) ≡ run
-    → gives_write (issue o (between ++ Met trigger was ∷ older) e) ≡ false
+    takes run j (request_of opening.me trigger) (work opening older) ≡ Some state
+    → last_run opening (between ++ Met trigger was ∷ older) ≡ run
+    → gives_write (issue opening (between ++ Met trigger was ∷ older) e) ≡ false
 
 -- Between a taking of a run and any moment at which a job is checked with a state of that run, no
 -- write is issued, of any job or run.
 abbrev pub QuietUntilChecked : Type 0
 QuietUntilChecked =
-    (o : Opening) (older between newer : List Entry) (trigger e : Event) (was left : Left)
+    (opening : Opening) (older between newer : List Entry) (trigger e : Event) (was left : Left)
     (run j i : ℕ) (state with_it : State) →
-    takes run j (request_of o.me trigger) (work o older) ≡ Some state
-    → progress o (newer ++ Met e left ∷ (between ++ Met trigger was ∷ older)) i
+    takes run j (request_of opening.me trigger) (work opening older) ≡ Some state
+    → progress opening (newer ++ Met e left ∷ (between ++ Met trigger was ∷ older)) i
     ≡ Some (With with_it)
     → with_it.key.run ≡ run
-    → gives_write (issue o (between ++ Met trigger was ∷ older) e) ≡ false
+    → gives_write (issue opening (between ++ Met trigger was ∷ older) e) ≡ false
 
 -- A state that a job is checked with is of the last run and fits the job, and the client sent it in
 -- this life.
 abbrev pub WithWasHeard : Type 0
 WithWasHeard =
-    (o : Opening) (past : List Entry) (j : ℕ) (state : State) →
-    progress o past j ≡ Some (With state) → IsHeard o past j state
+    (opening : Opening) (past : List Entry) (j : ℕ) (state : State) →
+    progress opening past j ≡ Some (With state) → IsHeard opening past j state
 
 -- A server asks for the cut only once the client has told of each job of the run that its state is
 -- kept.
 abbrev pub CutsWhenKept : Type 0
-CutsWhenKept = (o : Opening) (past : List Entry) (e : Event) → act o past e ≡ acts.Cut
-    → AreStatesKept o past e
+CutsWhenKept = (opening : Opening) (past : List Entry) (e : Event) → act opening past e ≡ acts.Cut
+    → AreStatesKept opening past e
 
 -- A server sends at most 16 packets in answer to one event.
 abbrev pub PacketsAreFew : Type 0
-PacketsAreFew = (o : Opening) (past : List Entry) (e : Entry) → length (packets o past e) ≤ MAX_JOBS
+PacketsAreFew = (opening : Opening) (past : List Entry) (e : Entry) →
+    length (packets opening past e) ≤ MAX_JOBS
 
 -- The packets that a server sends are within the ranges of packets, where what came is within its.
 abbrev pub PacketsAreInRange : Type 0
 PacketsAreInRange =
-    (o : Opening) (past : List Entry) (e : Entry) →
-    OpensInRange o → CameInRange (e ∷ past) → AllByRecursion IsPacket (packets o past e)
+    (opening : Opening) (past : List Entry) (e : Entry) →
+    OpensInRange opening → CameInRange (e ∷ past) → AllByRecursion IsPacket (packets opening past e)

@@ -13,5 +13,5 @@ pub record IsCheckOf (me now_boot last : ℕ) (c : Check) : Type 0 where
 -- The open check is of the last run, of this server and boot.
 abbrev pub OpenCheckIsLast : Type 0
 OpenCheckIsLast =
-    (o : Opening) (past : List Entry) (c : Check) →
-    check o past ≡ Some c → IsCheckOf o.me (boot o past) (last_run o past) c
+    (opening : Opening) (past : List Entry) (c : Check) →
+    check opening past ≡ Some c → IsCheckOf opening.me (boot opening past) (last_run opening past) c

@@ -30,7 +30,7 @@ open_ticket now j k = option_map (λ origin. ticket_of origin k) (open_origin no
 
 -- The same of the present run.
 abbrev pub open_write : Opening → List Entry → ℕ → ℕ → Option Ticket
-open_write o past j k = open_ticket (work o past) j k
+open_write opening past j k = open_ticket (work opening past) j k
 
 -- Where a write comes from, as its ticket and its job tell.
 abbrev pub origin_told : Option Ticket → Option Job → Option Origin

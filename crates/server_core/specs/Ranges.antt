@@ -22,6 +22,6 @@ CameInRange (Cut ∷ past) = CameInRange past
 CameInRange (Restart left ∷ past) = CameInRange past
 
 -- A server's number is below 8, and its last run is a number of eight bytes.
-pub record OpensInRange (o : Opening) : Type 0 where
-  pub me : o.me < MAX_SERVERS
-  pub last : o.last < 2 ^ 64
+pub record OpensInRange (opening : Opening) : Type 0 where
+  pub me : opening.me < MAX_SERVERS
+  pub last : opening.last < 2 ^ 64

@@ -15,5 +15,5 @@ pub record GoesToClient (server : ℕ) (p : PacketParts) : Type 0 where
 -- What a server sends goes to the client in its own name, and is of a kind that servers send.
 abbrev pub PacketsGoToClient : Type 0
 PacketsGoToClient =
-    (o : Opening) (past : List Entry) (e : Entry) (p : PacketParts) →
-    Contains (packets o past e) p → GoesToClient o.me p
+    (opening : Opening) (past : List Entry) (e : Entry) (p : PacketParts) →
+    Contains (packets opening past e) p → GoesToClient opening.me p

@@ -36,7 +36,7 @@ taken_in (Some w) j = taken_by_halt w j (halt_of w.run w.since)
 
 -- The state of job j that was taken in the present run.
 abbrev pub state_taken : Opening → List Entry → ℕ → Option State
-state_taken o past j = taken_in (work o past) j
+state_taken opening past j = taken_in (work opening past) j
 
 -- The run that a request triggers.
 abbrev pub triggers : ℕ → Request → Bool
@@ -62,8 +62,9 @@ and_those (Some state) states = state ∷ states
 
 -- Every state that was ever taken of a run's job, the newest first.
 abbrev pub takings : Opening → ℕ → ℕ → List Entry → List State
-takings o run j [] = []
-takings o run j (Met e left ∷ past) =
-    and_those (takes run j (request_of o.me e) (work o past)) (takings o run j past)
-takings o run j (Cut ∷ past) = takings o run j past
-takings o run j (Restart left ∷ past) = takings o run j past
+takings opening run j [] = []
+takings opening run j (Met e left ∷ past) =
+    and_those (takes run j (request_of opening.me e) (work opening past))
+    (takings opening run j past)
+takings opening run j (Cut ∷ past) = takings opening run j past
+takings opening run j (Restart left ∷ past) = takings opening run j past

@@ -22,14 +22,15 @@ is_on (Restart left ∷ past) = is_saved left
 
 -- The boot of the opening, and one more for each restart whose save left the new bytes.
 abbrev pub boot : Opening → List Entry → ℕ
-boot o [] = o.boot
-boot o (Met e left ∷ past) = boot o past
-boot o (Cut ∷ past) = boot o past
-boot o (Restart left ∷ past) = if has_new left then boot o past + 1 else boot o past
+boot opening [] = opening.boot
+boot opening (Met e left ∷ past) = boot opening past
+boot opening (Cut ∷ past) = boot opening past
+boot opening (Restart left ∷ past) =
+    if has_new left then boot opening past + 1 else boot opening past
 
 -- A boot of eight bytes is left above those that were used.
 abbrev pub has_boot : Opening → List Entry → Bool
-has_boot o past = nat_lt (boot o past + 1) (2 ^ 64)
+has_boot opening past = nat_lt (boot opening past + 1) (2 ^ 64)
 
 -- A run, and the jobs that are staged for it.
 pub record Staged : Type 0 where
@@ -97,46 +98,50 @@ work_after LostOld due me now_boot x w = None
 abbrev mutual
   -- The greatest recorded run, else that of the opening.
   pub last_run : Opening → List Entry → ℕ
-  last_run o [] = o.last
-  last_run o (Met e left ∷ past) =
+  last_run opening [] = opening.last
+  last_run opening (Met e left ∷ past) =
       last_run_after left
-      (due_by (is_on past) (last_run o past) (greatest (last_run o past) (stagings o past))
-      (work o past)
-      (request_of o.me e))
-      (last_run o past)
-  last_run o (Cut ∷ past) = last_run o past
-  last_run o (Restart left ∷ past) = last_run o past
+      (due_by (is_on past) (last_run opening past)
+      (greatest (last_run opening past) (stagings opening past))
+      (work opening past)
+      (request_of opening.me e))
+      (last_run opening past)
+  last_run opening (Cut ∷ past) = last_run opening past
+  last_run opening (Restart left ∷ past) = last_run opening past
 
   -- All that could be staged in this life, the newest first.
   pub stagings : Opening → List Entry → List Staged
-  stagings o [] = []
-  stagings o (Met e left ∷ past) =
-      staged_after left (stages (is_on past) (last_run o past) (work o past) (request_of o.me e))
-      (stagings o past)
-  stagings o (Cut ∷ past) = []
-  stagings o (Restart left ∷ past) = []
+  stagings opening [] = []
+  stagings opening (Met e left ∷ past) =
+      staged_after left (stages (is_on past) (last_run opening past) (work opening past)
+      (request_of opening.me e))
+      (stagings opening past)
+  stagings opening (Cut ∷ past) = []
+  stagings opening (Restart left ∷ past) = []
 
   -- The present run: that of the last accepted Start of this life.
   pub work : Opening → List Entry → Option Work
-  work o [] = None
-  work o (Met e left ∷ past) =
+  work opening [] = None
+  work opening (Met e left ∷ past) =
       work_after left
-      (due_by (is_on past) (last_run o past) (greatest (last_run o past) (stagings o past))
-      (work o past)
-      (request_of o.me e))
-      o.me (boot o past) (request_of o.me e) (work o past)
-  work o (Cut ∷ past) = None
-  work o (Restart left ∷ past) = None
+      (due_by (is_on past) (last_run opening past)
+      (greatest (last_run opening past) (stagings opening past))
+      (work opening past)
+      (request_of opening.me e))
+      opening.me (boot opening past) (request_of opening.me e) (work opening past)
+  work opening (Cut ∷ past) = None
+  work opening (Restart left ∷ past) = None
 
 -- What the note says: the boot and the last run.
 abbrev pub words_noted : Opening → List Entry → ServerNote
-words_noted o past = record { boot = boot o past; last_run = last_run o past }
+words_noted opening past = record { boot = boot opening past; last_run = last_run opening past }
 
 -- The staged run: the greatest above the last run.
 abbrev pub staged_run : Opening → List Entry → Option Staged
-staged_run o past = greatest (last_run o past) (stagings o past)
+staged_run opening past = greatest (last_run opening past) (stagings opening past)
 
 -- The run that an event is due to record.
 abbrev pub due : Opening → List Entry → Event → Option Staged
-due o past e =
-    due_by (is_on past) (last_run o past) (staged_run o past) (work o past) (request_of o.me e)
+due opening past e =
+    due_by (is_on past) (last_run opening past) (staged_run opening past) (work opening past)
+    (request_of opening.me e)

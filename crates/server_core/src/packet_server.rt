@@ -65,8 +65,8 @@ impl<N: Notes> PacketServer<N> {
 
     /// Whether the delivery of this packet would make a save: it is a Start that is due to record a run.
     pub(crate) fn would_save(&self, packet: &Packet) -> bool
-        ensures { (o : Opening) (past : List Entry) → StandsFor N.note self.now o past →
-            result ≡ is_some (due o past (Deliver packet.now)) }
+        ensures { (opening : Opening) (past : List Entry) → StandsFor N.note self.now opening past →
+            result ≡ is_some (due opening past (Deliver packet.now)) }
     {
         !self.durable.is_down() && self.machine.due_by(packet).is_some()
     }
@@ -77,8 +77,8 @@ impl<N: Notes> PacketServer<N> {
     /// nothing changes. `SaveFault`: the device failed, and the server is down. Any other fault is a
     /// refusal, which changes nothing.
     pub(crate) fn step(&mut self, event: Event) -> Result<Outs, Fault>
-        ensures { (o : Opening) (past : List Entry) → StandsFor N.note self.old o past →
-            Ends (steps N.note o) past event self.old self.new result }
+        ensures { (opening : Opening) (past : List Entry) → StandsFor N.note self.old opening past →
+            Ends (steps N.note opening) past event self.old self.new result }
     {
         if self.durable.is_down() {
             return Err(Fault::Down);

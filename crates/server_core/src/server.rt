@@ -58,8 +58,9 @@ impl<N: Notes> Server<N> {
     /// The notes of a server that is taken off.
     pub fn off(self) -> N
         ensures note { N.note result ≡ note_in N.note self }
-        ensures says { (o : Opening) (past : List FrameEntry) → StandsFor N.note self o past →
-            Says (N.note result).bytes (words_noted o (packets_heard o past)) }
+        ensures says { (opening : Opening) (past : List FrameEntry) →
+            StandsFor N.note self opening past →
+            Says (N.note result).bytes (words_noted opening (packets_heard opening past)) }
     {
         let Server { alloc: _, hearer } = self;
         let Hearer { core, pieces: _ } = hearer;
@@ -73,8 +74,9 @@ impl<N: Notes> Server<N> {
     /// The note that it keeps, as it is durable. Behind a failed save it is what that left.
     pub fn notes(&self) -> &N
         ensures note { N.note result.now ≡ note_in N.note self.now }
-        ensures says { (o : Opening) (past : List FrameEntry) → StandsFor N.note self.now o past →
-            Says (N.note result.now).bytes (words_noted o (packets_heard o past)) }
+        ensures says { (opening : Opening) (past : List FrameEntry) →
+            StandsFor N.note self.now opening past →
+            Says (N.note result.now).bytes (words_noted opening (packets_heard opening past)) }
     {
         self.hearer.core.durable.notes()
     }
@@ -82,8 +84,9 @@ impl<N: Notes> Server<N> {
     /// Whether the delivery of this frame would make a save: it is a Start that is due to record a run. No
     /// piece is one.
     pub fn would_save(&self, frame: &Frame) -> bool
-        ensures { (o : Opening) (past : List FrameEntry) → StandsFor N.note self.now o past →
-            result ≡ would_save o past frame.now }
+        ensures { (opening : Opening) (past : List FrameEntry) →
+            StandsFor N.note self.now opening past →
+            result ≡ would_save opening past frame.now }
     {
         match frame {
             Frame::Whole(packet) => self.hearer.core.would_save(packet),
@@ -103,10 +106,12 @@ impl<N: Notes> Server<N> {
     // Inlined with the way of writes alone, so that their caller makes no room for packets and frames.
     #[inline(always)]
     pub fn step(&mut self, input: Input) -> Result<Outs, Fault>
-        ensures ends { (o : Opening) (past : List FrameEntry) → StandsFor N.note self.old o past →
-            Ends (steps N.note o) past input self.old self.new result }
-        ensures ranges { (o : Opening) (past : List FrameEntry) → StandsFor N.note self.old o past →
-            HearsInRange IsInRange (sense o past input) result }
+        ensures ends { (opening : Opening) (past : List FrameEntry) →
+            StandsFor N.note self.old opening past →
+            Ends (steps N.note opening) past input self.old self.new result }
+        ensures ranges { (opening : Opening) (past : List FrameEntry) →
+            StandsFor N.note self.old opening past →
+            HearsInRange IsInRange (sense opening past input) result }
         ensures memory { WritesTakeNone input result }
     {
         match input {
@@ -125,10 +130,13 @@ impl<N: Notes> Server<N> {
     /// Takes a request for a write of a job, as `step` does.
     #[inline(always)]
     pub fn issue(&mut self, job: JobNo) -> Result<Issue, Fault>
-        ensures ends { (o : Opening) (past : List FrameEntry) → StandsFor N.note self.old o past →
-            Ends (steps N.note o) past (ToIssue job) self.old self.new (outs_of_issue result) }
-        ensures ranges { (o : Opening) (past : List FrameEntry) → StandsFor N.note self.old o past →
-            HearsInRange IsInRange (sense o past (ToIssue job)) (outs_of_issue result) }
+        ensures ends { (opening : Opening) (past : List FrameEntry) →
+            StandsFor N.note self.old opening past →
+            Ends (steps N.note opening) past (ToIssue job) self.old self.new
+            (outs_of_issue result) }
+        ensures ranges { (opening : Opening) (past : List FrameEntry) →
+            StandsFor N.note self.old opening past →
+            HearsInRange IsInRange (sense opening past (ToIssue job)) (outs_of_issue result) }
         ensures memory { TakesNone result }
     {
         if self.hearer.core.durable.is_down() {
@@ -142,10 +150,13 @@ impl<N: Notes> Server<N> {
     /// Takes the end of a write, as `step` does.
     #[inline(always)]
     pub fn end_write(&mut self, ticket: Ticket, end: WriteEnd) -> Result<(), Fault>
-        ensures ends { (o : Opening) (past : List FrameEntry) → StandsFor N.note self.old o past →
-            Ends (steps N.note o) past (ToEnd ticket end) self.old self.new (outs_of_end result) }
-        ensures ranges { (o : Opening) (past : List FrameEntry) → StandsFor N.note self.old o past →
-            HearsInRange IsInRange (sense o past (ToEnd ticket end)) (outs_of_end result) }
+        ensures ends { (opening : Opening) (past : List FrameEntry) →
+            StandsFor N.note self.old opening past →
+            Ends (steps N.note opening) past (ToEnd ticket end) self.old self.new
+            (outs_of_end result) }
+        ensures ranges { (opening : Opening) (past : List FrameEntry) →
+            StandsFor N.note self.old opening past →
+            HearsInRange IsInRange (sense opening past (ToEnd ticket end)) (outs_of_end result) }
         ensures memory { TakesNone result }
     {
         if self.hearer.core.durable.is_down() {
@@ -165,11 +176,13 @@ impl<N: Notes> Server<N> {
         job: JobNo,
         report: CheckReport,
     ) -> Result<Outs, Fault>
-        ensures ends { (o : Opening) (past : List FrameEntry) → StandsFor N.note self.old o past →
-            Ends (steps N.note o) past (ToReport boot attempt job report)
+        ensures ends { (opening : Opening) (past : List FrameEntry) →
+            StandsFor N.note self.old opening past →
+            Ends (steps N.note opening) past (ToReport boot attempt job report)
             self.old self.new result }
-        ensures ranges { (o : Opening) (past : List FrameEntry) → StandsFor N.note self.old o past →
-            HearsInRange IsInRange (sense o past (ToReport boot attempt job report)) result }
+        ensures ranges { (opening : Opening) (past : List FrameEntry) →
+            StandsFor N.note self.old opening past →
+            HearsInRange IsInRange (sense opening past (ToReport boot attempt job report)) result }
     {
         let _in_range = report.parts();
         self.hearer.core.step(Event::CheckDone {
@@ -183,10 +196,12 @@ impl<N: Notes> Server<N> {
     /// Takes a frame. Not inlined: a function pays for the room of all its values, and writes come most.
     #[inline(never)]
     fn deliver(&mut self, frame: Frame) -> Result<Outs, Fault>
-        ensures ends { (o : Opening) (past : List FrameEntry) → StandsFor N.note self.old o past →
-            Ends (steps N.note o) past (Deliver frame) self.old self.new result }
-        ensures ranges { (o : Opening) (past : List FrameEntry) → StandsFor N.note self.old o past →
-            HearsInRange IsInRange (sense o past (Deliver frame)) result }
+        ensures ends { (opening : Opening) (past : List FrameEntry) →
+            StandsFor N.note self.old opening past →
+            Ends (steps N.note opening) past (Deliver frame) self.old self.new result }
+        ensures ranges { (opening : Opening) (past : List FrameEntry) →
+            StandsFor N.note self.old opening past →
+            HearsInRange IsInRange (sense opening past (Deliver frame)) result }
     {
         self.hearer.deliver(frame)
     }

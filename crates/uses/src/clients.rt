@@ -29,14 +29,15 @@ pub fn first_run(
     requires some { 1 ≤ servers }
     requires few { servers ≤ MAX_SERVERS }
     ensures run { IfOk result (λ left. left.0 ≡ 1) }
-    ensures frames { let o : Opening = record { servers = servers; noted = blank } in
+    ensures frames { let opening : Opening = record { servers = servers; noted = blank } in
         let past = Restart false ∷ [] in
         IfOk result (λ left. left.1
-        ≡ map frame_spelling (frames o past (answered_entry o past (Begin text.now)))) }
-    ensures note { let o : Opening = record { servers = servers; noted = blank } in
+        ≡ map frame_spelling (frames opening past (answered_entry opening past (Begin text.now)))) }
+    ensures note { let opening : Opening = record { servers = servers; noted = blank } in
         let past = Restart false ∷ [] in
         IfOk result (λ left. Says (note_of left.2).bytes
-        (words_noted o (packets_heard o (answered_entry o past (Begin text.now) ∷ past)))) }
+        (words_noted opening (packets_heard opening
+        (answered_entry opening past (Begin text.now) ∷ past)))) }
 {
     let notes = MemNotes::new(Vec::new(alloc));
     let mut client = match Client::restart(alloc, servers, false, notes) {

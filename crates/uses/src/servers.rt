@@ -22,16 +22,17 @@ use std::alloc::Global;
 /// it was started on a blank note, and then the frame came. An error is that of either.
 pub fn first_answer(alloc: Global, me: ServerNo, frame: Frame) -> Result<(Frames, MemNotes), Fault>
     requires { me < MAX_SERVERS }
-    ensures free { let o : Opening = record { me = me; boot = 0; last = 0 } in
-        IfOk result (λ _. refusal o (Restart Saved ∷ []) (Deliver frame) ≡ None) }
-    ensures frames { let o : Opening = record { me = me; boot = 0; last = 0 } in
+    ensures free { let opening : Opening = record { me = me; boot = 0; last = 0 } in
+        IfOk result (λ _. refusal opening (Restart Saved ∷ []) (Deliver frame) ≡ None) }
+    ensures frames { let opening : Opening = record { me = me; boot = 0; last = 0 } in
         let past = Restart Saved ∷ [] in
         IfOk result (λ left. left.0
-        ≡ map frame_spelling (frames o past (answered_entry o past (Deliver frame)))) }
-    ensures note { let o : Opening = record { me = me; boot = 0; last = 0 } in
+        ≡ map frame_spelling (frames opening past (answered_entry opening past (Deliver frame)))) }
+    ensures note { let opening : Opening = record { me = me; boot = 0; last = 0 } in
         let past = Restart Saved ∷ [] in
         IfOk result (λ left. Says (note_of left.1).bytes
-        (words_noted o (packets_heard o (answered_entry o past (Deliver frame) ∷ past)))) }
+        (words_noted opening (packets_heard opening
+        (answered_entry opening past (Deliver frame) ∷ past)))) }
 {
     let blank = MemNotes::new(Vec::new(alloc));
     let mut server = match Server::restart(alloc, me, blank) {

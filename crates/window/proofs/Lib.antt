@@ -5,3 +5,4 @@ pub mod NumberLemmas
 pub mod StepLemmas
 pub mod RingLemmas
 pub mod FlightLemmas
+pub mod Sending

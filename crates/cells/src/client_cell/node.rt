@@ -30,7 +30,7 @@ impl<N: Notes + Drop> Node for ClientCell<N> {
 
     ghost rules = { client_rules };
 
-    ghost name = { λ o. Client };
+    ghost name = { λ opening. Client };
 
     ghost asks = { asks_of };
 

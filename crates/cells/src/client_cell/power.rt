@@ -35,11 +35,11 @@ pub(crate) fn perform<N: Notes + Drop>(
 ) -> Result<Reply, Fault>
     requires some { 1 ≤ servers }
     requires few { servers ≤ MAX_SERVERS }
-    ensures ends { (o : Opening) (past : List FrameEntry) → o.servers ≡ servers →
-        Stands N.note o past power.old →
-        TaskEnds (client_kind N.note o) past (ask_of (came_by task.now)) power.new result }
-    ensures count { (o : Opening) (past : List FrameEntry) → o.servers ≡ servers →
-        Stands N.note o past power.old →
+    ensures ends { (opening : Opening) (past : List FrameEntry) → opening.servers ≡ servers →
+        Stands N.note opening past power.old →
+        TaskEnds (client_kind N.note opening) past (ask_of (came_by task.now)) power.new result }
+    ensures count { (opening : Opening) (past : List FrameEntry) → opening.servers ≡ servers →
+        Stands N.note opening past power.old →
         Counts (loads_note task.now) (failures_of N.note power.old)
         (failures_of N.note power.new) result }
 {
@@ -57,10 +57,12 @@ fn take<N: Notes + Drop>(
     power: &mut Power<Client<N>, N>,
     request: &ClientRequest,
 ) -> Result<ClientOuts, Fault>
-    ensures ends { (o : Opening) (past : List FrameEntry) → Stands N.note o past power.old →
-        StepEnds (client_kind N.note o) past (input_of request.now) power.new
+    ensures ends { (opening : Opening) (past : List FrameEntry) →
+        Stands N.note opening past power.old →
+        StepEnds (client_kind N.note opening) past (input_of request.now) power.new
         (reply_and_frames result) }
-    ensures count { (o : Opening) (past : List FrameEntry) → Stands N.note o past power.old →
+    ensures count { (opening : Opening) (past : List FrameEntry) →
+        Stands N.note opening past power.old →
         Counts false (failures_of N.note power.old) (failures_of N.note power.new)
         (reply_and_frames result) }
 {
@@ -72,10 +74,12 @@ fn deliver<N: Notes + Drop>(
     power: &mut Power<Client<N>, N>,
     frame: Frame,
 ) -> Result<ClientOuts, Fault>
-    ensures ends { (o : Opening) (past : List FrameEntry) → Stands N.note o past power.old →
-        StepEnds (client_kind N.note o) past (inputs.Deliver frame) power.new
+    ensures ends { (opening : Opening) (past : List FrameEntry) →
+        Stands N.note opening past power.old →
+        StepEnds (client_kind N.note opening) past (inputs.Deliver frame) power.new
         (reply_and_frames result) }
-    ensures count { (o : Opening) (past : List FrameEntry) → Stands N.note o past power.old →
+    ensures count { (opening : Opening) (past : List FrameEntry) →
+        Stands N.note opening past power.old →
         Counts false (failures_of N.note power.old) (failures_of N.note power.new)
         (reply_and_frames result) }
 {
@@ -88,10 +92,12 @@ pub(crate) fn hear<N: Notes + Drop>(
     incoming: Incoming,
 ) -> (Result<ClientOuts, Fault>, NodeInput)
     ensures came { result.1 ≡ came_in incoming }
-    ensures ends { (o : Opening) (past : List FrameEntry) → Stands N.note o past power.old →
-        StepEnds (client_kind N.note o) past (input_in incoming) power.new
+    ensures ends { (opening : Opening) (past : List FrameEntry) →
+        Stands N.note opening past power.old →
+        StepEnds (client_kind N.note opening) past (input_in incoming) power.new
         (reply_and_frames result.0) }
-    ensures count { (o : Opening) (past : List FrameEntry) → Stands N.note o past power.old →
+    ensures count { (opening : Opening) (past : List FrameEntry) →
+        Stands N.note opening past power.old →
         Counts false (failures_of N.note power.old) (failures_of N.note power.new)
         (reply_and_frames result.0) }
 {
@@ -106,9 +112,11 @@ pub(crate) fn hear<N: Notes + Drop>(
 
 /// Asks again for all that isn't answered, and changes nothing. `NodeOff`: it isn't on. `NoMemory`.
 pub(crate) fn tick<N: Notes + Drop>(power: &Power<Client<N>, N>) -> Result<ClientOuts, Fault>
-    ensures ends { (o : Opening) (past : List FrameEntry) → Stands N.note o past power.now →
-        StepEnds (client_kind N.note o) past inputs.Tick power.now (reply_and_frames result) }
-    ensures count { (o : Opening) (past : List FrameEntry) → Stands N.note o past power.now →
+    ensures ends { (opening : Opening) (past : List FrameEntry) →
+        Stands N.note opening past power.now →
+        StepEnds (client_kind N.note opening) past inputs.Tick power.now (reply_and_frames result) }
+    ensures count { (opening : Opening) (past : List FrameEntry) →
+        Stands N.note opening past power.now →
         Counts false (failures_of N.note power.now) (failures_of N.note power.now)
         (reply_and_frames result) }
 {
@@ -123,11 +131,12 @@ fn ask<N: Notes + Drop>(
     client: &mut Client<N>,
     request: &ClientRequest,
 ) -> Result<ClientOuts, Fault>
-    ensures ends { (o : Opening) (past : List FrameEntry) → is_up o past ≡ true →
-        StandsFor N.note client.old o past →
-        StepEnds (client_kind N.note o) past (input_of request.now) (On client.new)
+    ensures ends { (opening : Opening) (past : List FrameEntry) → is_up opening past ≡ true →
+        StandsFor N.note client.old opening past →
+        StepEnds (client_kind N.note opening) past (input_of request.now) (On client.new)
         (reply_and_frames result) }
-    ensures count { (o : Opening) (past : List FrameEntry) → StandsFor N.note client.old o past →
+    ensures count { (opening : Opening) (past : List FrameEntry) →
+        StandsFor N.note client.old opening past →
         Counts false (note_in N.note client.old).failures (note_in N.note client.new).failures
         (reply_and_frames result) }
 {

@@ -31,7 +31,7 @@ impl<N: Notes + Drop> Node for ServerCell<N> {
 
     ghost rules = { server_rules };
 
-    ghost name = { λ o. Server o.me };
+    ghost name = { λ opening. Server opening.me };
 
     ghost asks = { asks_of };
 

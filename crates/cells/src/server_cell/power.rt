@@ -27,9 +27,11 @@ pub(crate) fn step<N: Notes + Drop>(
     power: &mut Power<Server<N>, N>,
     input: Input,
 ) -> Result<Outs, Fault>
-    ensures ends { (o : Opening) (past : List FrameEntry) → Stands N.note o past power.old →
-        StepEnds (server_kind N.note o) past input power.new (reply_and_frames result) }
-    ensures count { (o : Opening) (past : List FrameEntry) → Stands N.note o past power.old →
+    ensures ends { (opening : Opening) (past : List FrameEntry) →
+        Stands N.note opening past power.old →
+        StepEnds (server_kind N.note opening) past input power.new (reply_and_frames result) }
+    ensures count { (opening : Opening) (past : List FrameEntry) →
+        Stands N.note opening past power.old →
         Counts false (failures_of N.note power.old) (failures_of N.note power.new)
         (reply_and_frames result) }
 {
@@ -39,10 +41,12 @@ pub(crate) fn step<N: Notes + Drop>(
 /// Asks for the next write of a job, as `step` does.
 #[inline(always)]
 fn issue<N: Notes + Drop>(power: &mut Power<Server<N>, N>, job: JobNo) -> Result<Issue, Fault>
-    ensures ends { (o : Opening) (past : List FrameEntry) → Stands N.note o past power.old →
-        StepEnds (server_kind N.note o) past (inputs.Issue job) power.new
+    ensures ends { (opening : Opening) (past : List FrameEntry) →
+        Stands N.note opening past power.old →
+        StepEnds (server_kind N.note opening) past (inputs.Issue job) power.new
         (reply_and_frames (outs_of_issue result)) }
-    ensures count { (o : Opening) (past : List FrameEntry) → Stands N.note o past power.old →
+    ensures count { (opening : Opening) (past : List FrameEntry) →
+        Stands N.note opening past power.old →
         Counts false (failures_of N.note power.old) (failures_of N.note power.new)
         (reply_and_frames (outs_of_issue result)) }
 {
@@ -56,10 +60,12 @@ fn end_write<N: Notes + Drop>(
     ticket: Ticket,
     end: WriteEnd,
 ) -> Result<(), Fault>
-    ensures ends { (o : Opening) (past : List FrameEntry) → Stands N.note o past power.old →
-        StepEnds (server_kind N.note o) past (inputs.WriteDone ticket end) power.new
+    ensures ends { (opening : Opening) (past : List FrameEntry) →
+        Stands N.note opening past power.old →
+        StepEnds (server_kind N.note opening) past (inputs.WriteDone ticket end) power.new
         (reply_and_frames (outs_of_end result)) }
-    ensures count { (o : Opening) (past : List FrameEntry) → Stands N.note o past power.old →
+    ensures count { (opening : Opening) (past : List FrameEntry) →
+        Stands N.note opening past power.old →
         Counts false (failures_of N.note power.old) (failures_of N.note power.new)
         (reply_and_frames (outs_of_end result)) }
 {
@@ -75,11 +81,11 @@ pub(crate) fn perform<N: Notes + Drop>(
     task: &ServerTask,
 ) -> Result<Reply, Fault>
     requires { me < MAX_SERVERS }
-    ensures ends { (o : Opening) (past : List FrameEntry) → o.me ≡ me →
-        Stands N.note o past power.old →
-        TaskEnds (server_kind N.note o) past (ask_of (came_by task.now)) power.new result }
-    ensures count { (o : Opening) (past : List FrameEntry) → o.me ≡ me →
-        Stands N.note o past power.old →
+    ensures ends { (opening : Opening) (past : List FrameEntry) → opening.me ≡ me →
+        Stands N.note opening past power.old →
+        TaskEnds (server_kind N.note opening) past (ask_of (came_by task.now)) power.new result }
+    ensures count { (opening : Opening) (past : List FrameEntry) → opening.me ≡ me →
+        Stands N.note opening past power.old →
         Counts (loads_note task.now) (failures_of N.note power.old)
         (failures_of N.note power.new) result }
 {

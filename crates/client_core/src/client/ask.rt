@@ -21,9 +21,10 @@ impl<N: Notes> Client<N> {
     /// In this order: `Down`; `JobTooLong`; `NumbersSpent`, no number is left, or its generation isn't
     /// granted in this life; `NoMemory`, and nothing changes; `SaveFault`, and the client is down.
     pub fn begin(&mut self, text: &[u8]) -> Result<(RunNo, Frames), Fault>
-        ensures { (o : Opening) (past : List FrameEntry) → StandsFor N.note self.old o past →
-            EndsWithNumber (steps N.note o) past (inputs.Begin text.now)
-            (words_noted o (packets_heard o past)).runs self.old self.new result }
+        ensures { (opening : Opening) (past : List FrameEntry) →
+            StandsFor N.note self.old opening past →
+            EndsWithNumber (steps N.note opening) past (inputs.Begin text.now)
+            (words_noted opening (packets_heard opening past)).runs self.old self.new result }
     {
         frames_are_short();
         self.hearer.core.begin(text)
@@ -31,8 +32,9 @@ impl<N: Notes> Client<N> {
 
     /// Whether a run with this job file would be begun, and so make a save.
     pub fn begin_would_save(&self, text: &[u8]) -> bool
-        ensures { (o : Opening) (past : List FrameEntry) → StandsFor N.note self.now o past →
-            result ≡ is_some (due o past (inputs.Begin text.now)) }
+        ensures { (opening : Opening) (past : List FrameEntry) →
+            StandsFor N.note self.now opening past →
+            result ≡ is_some (due opening past (inputs.Begin text.now)) }
     {
         self.hearer.core.begin_would_save(text)
     }
@@ -41,8 +43,9 @@ impl<N: Notes> Client<N> {
     ///
     /// In this order: `Down`; `NoSuchRun`; `NoMemory`, and nothing changes.
     pub fn trigger(&mut self, run: RunNo, act: Act) -> Result<Frames, Fault>
-        ensures { (o : Opening) (past : List FrameEntry) → StandsFor N.note self.old o past →
-            Ends (steps N.note o) past (inputs.Trigger run act) self.old self.new result }
+        ensures { (opening : Opening) (past : List FrameEntry) →
+            StandsFor N.note self.old opening past →
+            Ends (steps N.note opening) past (inputs.Trigger run act) self.old self.new result }
     {
         frames_are_short();
         self.hearer.core.trigger(run, act)
@@ -52,8 +55,9 @@ impl<N: Notes> Client<N> {
     ///
     /// In this order: `Down`; `NoSuchRun`; `NoMemory`, and nothing changes.
     pub fn stop(&mut self, run: RunNo) -> Result<Frames, Fault>
-        ensures { (o : Opening) (past : List FrameEntry) → StandsFor N.note self.old o past →
-            Ends (steps N.note o) past (inputs.Stop run) self.old self.new result }
+        ensures { (opening : Opening) (past : List FrameEntry) →
+            StandsFor N.note self.old opening past →
+            Ends (steps N.note opening) past (inputs.Stop run) self.old self.new result }
     {
         frames_are_short();
         self.hearer.core.stop(run)
@@ -65,9 +69,10 @@ impl<N: Notes> Client<N> {
     /// In this order: `Down`; `NoSuchRun`; `JobTooLong`; `NumbersSpent`, as of a begin; `NoMemory`, and
     /// nothing changes; `SaveFault`, and the client is down.
     pub fn verify(&mut self, run: RunNo, text: &[u8]) -> Result<(Attempt, Frames), Fault>
-        ensures { (o : Opening) (past : List FrameEntry) → StandsFor N.note self.old o past →
-            EndsWithNumber (steps N.note o) past (inputs.Verify run text.now)
-            (words_noted o (packets_heard o past)).attempts self.old self.new result }
+        ensures { (opening : Opening) (past : List FrameEntry) →
+            StandsFor N.note self.old opening past →
+            EndsWithNumber (steps N.note opening) past (inputs.Verify run text.now)
+            (words_noted opening (packets_heard opening past)).attempts self.old self.new result }
     {
         frames_are_short();
         self.hearer.core.verify(run, text)
@@ -75,8 +80,9 @@ impl<N: Notes> Client<N> {
 
     /// Whether a run would be verified by this job file, and so make a save.
     pub fn verify_would_save(&self, run: RunNo, text: &[u8]) -> bool
-        ensures { (o : Opening) (past : List FrameEntry) → StandsFor N.note self.now o past →
-            result ≡ is_some (due o past (inputs.Verify run text.now)) }
+        ensures { (opening : Opening) (past : List FrameEntry) →
+            StandsFor N.note self.now opening past →
+            result ≡ is_some (due opening past (inputs.Verify run text.now)) }
     {
         self.hearer.core.verify_would_save(run, text)
     }
@@ -87,8 +93,9 @@ impl<N: Notes> Client<N> {
     ///
     /// In this order: `Down`; `NoMemory`.
     pub fn tick(&self) -> Result<Frames, Fault>
-        ensures { (o : Opening) (past : List FrameEntry) → StandsFor N.note self.now o past →
-            Ends (steps N.note o) past inputs.Tick self.now self.now result }
+        ensures { (opening : Opening) (past : List FrameEntry) →
+            StandsFor N.note self.now opening past →
+            Ends (steps N.note opening) past inputs.Tick self.now self.now result }
     {
         frames_are_short();
         self.hearer.core.tick()

@@ -24,8 +24,9 @@ impl<N: Notes> Client<N> {
     /// piece.
     pub fn would_save(&self, frame: &Frame) -> Result<bool, AllocError>
         ensures memory { OnErr result (IsPiece frame.now) }
-        ensures saves { (o : Opening) (past : List FrameEntry) → StandsFor N.note self.now o past →
-            IfOk result (λ saves. saves ≡ would_save o past frame.now) }
+        ensures saves { (opening : Opening) (past : List FrameEntry) →
+            StandsFor N.note self.now opening past →
+            IfOk result (λ saves. saves ≡ would_save opening past frame.now) }
     {
         match frame {
             Frame::Whole(packet) => Ok(self.hearer.core.would_save(packet)),
@@ -35,8 +36,9 @@ impl<N: Notes> Client<N> {
 
     /// Whether the delivery of a piece would make a save.
     fn piece_would_save(&self, piece: &Piece) -> Result<bool, AllocError>
-        ensures { (o : Opening) (past : List FrameEntry) → StandsFor N.note self.now o past →
-            IfOk result (λ saves. saves ≡ would_save o past (OfPiece piece.now)) }
+        ensures { (opening : Opening) (past : List FrameEntry) →
+            StandsFor N.note self.now opening past →
+            IfOk result (λ saves. saves ≡ would_save opening past (OfPiece piece.now)) }
     {
         match self.hearer.look(piece) {
             Ok(Some(packet)) => Ok(self.hearer.core.would_save(&packet)),
@@ -52,10 +54,12 @@ impl<N: Notes> Client<N> {
     /// of its tag, which is dropped; `Conflict`, another state of the key is kept; `TableFull`; `NoMemory`,
     /// and nothing changes; `SaveFault`, and the client is down.
     pub fn deliver(&mut self, frame: Frame) -> Result<Frames, Fault>
-        ensures ends { (o : Opening) (past : List FrameEntry) → StandsFor N.note self.old o past →
-            Ends (steps N.note o) past (Deliver frame) self.old self.new result }
-        ensures ranges { (o : Opening) (past : List FrameEntry) → StandsFor N.note self.old o past →
-            HearsInRange IsInRange (sense o past (Deliver frame)) result }
+        ensures ends { (opening : Opening) (past : List FrameEntry) →
+            StandsFor N.note self.old opening past →
+            Ends (steps N.note opening) past (Deliver frame) self.old self.new result }
+        ensures ranges { (opening : Opening) (past : List FrameEntry) →
+            StandsFor N.note self.old opening past →
+            HearsInRange IsInRange (sense opening past (Deliver frame)) result }
     {
         frames_are_short();
         self.hearer.deliver(frame)

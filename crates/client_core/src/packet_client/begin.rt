@@ -29,8 +29,9 @@ impl<N: Notes> PacketClient<N> {
     /// In this order: `Down`; `JobTooLong`; `NumbersSpent`; `NoMemory`, and nothing changes; `SaveFault`,
     /// and the client is down.
     pub(crate) fn begin(&mut self, text: &[u8]) -> Result<(RunNo, Frames), Fault>
-        ensures { (o : Opening) (past : List Entry) → StandsFor N.note self.old o past →
-            EndsWithNumber (steps N.note o) past (Begin text.now) (words_noted o past).runs
+        ensures { (opening : Opening) (past : List Entry) → StandsFor N.note self.old opening past →
+            EndsWithNumber (steps N.note opening) past (Begin text.now)
+            (words_noted opening past).runs
             self.old self.new result }
     {
         notes_are_read_back();
@@ -52,8 +53,8 @@ impl<N: Notes> PacketClient<N> {
 
     /// Whether a run with this job file would be begun, and so make a save.
     pub(crate) fn begin_would_save(&self, text: &[u8]) -> bool
-        ensures { (o : Opening) (past : List Entry) → StandsFor N.note self.now o past →
-            result ≡ would_save o past (Begin text.now) }
+        ensures { (opening : Opening) (past : List Entry) → StandsFor N.note self.now opening past →
+            result ≡ would_save opening past (Begin text.now) }
     {
         self.begin_refusal(text).is_none()
     }

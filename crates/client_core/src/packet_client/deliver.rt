@@ -29,8 +29,8 @@ impl<N: Notes> PacketClient<N> {
     /// In this order: `Down`; `Misdirected`; `Conflict`, another state of the key is kept; `TableFull`;
     /// `NoMemory`, and nothing changes; `SaveFault`, and the client is down.
     pub(crate) fn deliver(&mut self, packet: Packet) -> Result<Frames, Fault>
-        ensures { (o : Opening) (past : List Entry) → StandsFor N.note self.old o past →
-            Ends (steps N.note o) past (Deliver packet) self.old self.new result }
+        ensures { (opening : Opening) (past : List Entry) → StandsFor N.note self.old opening past →
+            Ends (steps N.note opening) past (Deliver packet) self.old self.new result }
     {
         if let Some(fault) = self.refusal(&packet) {
             return Err(fault);
@@ -52,12 +52,12 @@ impl<N: Notes> PacketClient<N> {
         requires body { IsTrue (is_body body) }
         requires state { KeepsState body }
         requires free { faults_of_body self.old.noted body ≡ [] }
-        ensures { (o : Opening) (past : List Entry) (p : Parts) → p.body ≡ body →
+        ensures { (opening : Opening) (past : List Entry) (p : Parts) → p.body ≡ body →
             node_number p.from ≡ server →
             refusal_by (not self.old.durable.down) self.old.peers self.old.noted (Deliver p)
             ≡ None →
-            StandsFor N.note self.old o past →
-            Ends (steps N.note o) past (Deliver p) self.old self.new result }
+            StandsFor N.note self.old opening past →
+            Ends (steps N.note opening) past (Deliver p) self.old self.new result }
     {
         notes_are_read_back();
         found_after_a_push();
@@ -93,12 +93,12 @@ impl<N: Notes> PacketClient<N> {
         requires kind { IsTrue (is_of_mirror (kind_of body.now)) }
         requires state { KeepsState body.now }
         requires free { faults_of_body self.old.noted body.now ≡ [] }
-        ensures { (o : Opening) (past : List Entry) (p : Parts) → p.body ≡ body.now →
+        ensures { (opening : Opening) (past : List Entry) (p : Parts) → p.body ≡ body.now →
             IsTrue (is_mirror p.from) → IsTrue (is_client p.to) →
             refusal_by (not self.old.durable.down) self.old.peers self.old.noted (Deliver p)
             ≡ None →
-            StandsFor N.note self.old o past →
-            Ends (steps N.note o) past (Deliver p) self.old self.new result }
+            StandsFor N.note self.old opening past →
+            Ends (steps N.note opening) past (Deliver p) self.old self.new result }
     {
         notes_are_read_back();
         found_after_a_push();

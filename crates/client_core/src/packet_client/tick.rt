@@ -19,8 +19,8 @@ impl<N: Notes> PacketClient<N> {
     ///
     /// In this order: `Down`; `NoMemory`.
     pub(crate) fn tick(&self) -> Result<Frames, Fault>
-        ensures { (o : Opening) (past : List Entry) → StandsFor N.note self.now o past →
-            Ends (steps N.note o) past Tick self.now self.now result }
+        ensures { (opening : Opening) (past : List Entry) → StandsFor N.note self.now opening past →
+            Ends (steps N.note opening) past Tick self.now self.now result }
     {
         if self.durable.is_down() {
             return Err(Fault::Down);

@@ -21,8 +21,8 @@ impl<N: Notes> PacketClient<N> {
     ///
     /// In this order: `Down`; `NoSuchRun`; `NoMemory`, and nothing changes.
     pub(crate) fn trigger(&mut self, run: RunNo, act: Act) -> Result<Frames, Fault>
-        ensures { (o : Opening) (past : List Entry) → StandsFor N.note self.old o past →
-            Ends (steps N.note o) past (Trigger run act) self.old self.new result }
+        ensures { (opening : Opening) (past : List Entry) → StandsFor N.note self.old opening past →
+            Ends (steps N.note opening) past (Trigger run act) self.old self.new result }
     {
         if let Some(fault) = self.run_refusal(run) {
             return Err(fault);
@@ -45,8 +45,8 @@ impl<N: Notes> PacketClient<N> {
     ///
     /// In this order: `Down`; `NoSuchRun`; `NoMemory`, and nothing changes.
     pub(crate) fn stop(&mut self, run: RunNo) -> Result<Frames, Fault>
-        ensures { (o : Opening) (past : List Entry) → StandsFor N.note self.old o past →
-            Ends (steps N.note o) past (Stop run) self.old self.new result }
+        ensures { (opening : Opening) (past : List Entry) → StandsFor N.note self.old opening past →
+            Ends (steps N.note opening) past (Stop run) self.old self.new result }
     {
         if let Some(fault) = self.run_refusal(run) {
             return Err(fault);

@@ -33,9 +33,9 @@ impl<N: Notes> PacketClient<N> {
     /// In this order: `Down`; `NoSuchRun`; `JobTooLong`; `NumbersSpent`; `NoMemory`, and nothing changes;
     /// `SaveFault`, and the client is down.
     pub(crate) fn verify(&mut self, run: RunNo, text: &[u8]) -> Result<(Attempt, Frames), Fault>
-        ensures { (o : Opening) (past : List Entry) → StandsFor N.note self.old o past →
-            EndsWithNumber (steps N.note o) past (Verifying run text.now)
-            (words_noted o past).attempts self.old self.new result }
+        ensures { (opening : Opening) (past : List Entry) → StandsFor N.note self.old opening past →
+            EndsWithNumber (steps N.note opening) past (Verifying run text.now)
+            (words_noted opening past).attempts self.old self.new result }
     {
         notes_are_read_back();
         if let Some(fault) = self.verify_refusal(run, text) {
@@ -56,8 +56,8 @@ impl<N: Notes> PacketClient<N> {
 
     /// Whether a run would be verified by this job file, and so make a save.
     pub(crate) fn verify_would_save(&self, run: RunNo, text: &[u8]) -> bool
-        ensures { (o : Opening) (past : List Entry) → StandsFor N.note self.now o past →
-            result ≡ would_save o past (Verifying run text.now) }
+        ensures { (opening : Opening) (past : List Entry) → StandsFor N.note self.now opening past →
+            result ≡ would_save opening past (Verifying run text.now) }
     {
         self.verify_refusal(run, text).is_none()
     }

@@ -20,8 +20,10 @@ use messages::{Act, Frame, decode_frame};
 impl ClientFilter {
     /// Asks the client what a record says.
     pub(super) fn ask(&mut self, kind: Told, body: &[u8]) -> Result<Answered, Fault>
-        ensures { (o : Opening) (past : List FrameEntry) → StandsFor note_kept self.old.client o past →
-            BodyEnds note_kept o past (input_in kind body.now) self.old.client self.new.client result }
+        ensures { (opening : Opening) (past : List FrameEntry) →
+            StandsFor note_kept self.old.client opening past →
+            BodyEnds note_kept opening past
+            (input_in kind body.now) self.old.client self.new.client result }
     {
         match kind {
             Told::Frame => self.take(body),
@@ -42,8 +44,10 @@ impl ClientFilter {
 
     /// Takes the frame that these bytes are.
     fn take(&mut self, bytes: &[u8]) -> Result<Answered, Fault>
-        ensures { (o : Opening) (past : List FrameEntry) → StandsFor note_kept self.old.client o past →
-            BodyEnds note_kept o past (input_in told.Frame bytes.now) self.old.client self.new.client
+        ensures { (opening : Opening) (past : List FrameEntry) →
+            StandsFor note_kept self.old.client opening past →
+            BodyEnds note_kept opening past
+            (input_in told.Frame bytes.now) self.old.client self.new.client
             result }
     {
         match decode_frame(self.alloc, bytes) {
@@ -54,8 +58,10 @@ impl ClientFilter {
 
     /// Verifies the run that stands in the first eight bytes, by the job file behind it.
     fn verify_in(&mut self, body: &[u8]) -> Result<Answered, Fault>
-        ensures { (o : Opening) (past : List FrameEntry) → StandsFor note_kept self.old.client o past →
-            BodyEnds note_kept o past (input_in told.Verify body.now) self.old.client self.new.client
+        ensures { (opening : Opening) (past : List FrameEntry) →
+            StandsFor note_kept self.old.client opening past →
+            BodyEnds note_kept opening past
+            (input_in told.Verify body.now) self.old.client self.new.client
             result }
     {
         if body.len() < 8 {
@@ -66,8 +72,10 @@ impl ClientFilter {
     }
 
     fn begin(&mut self, text: &[u8]) -> Result<Answered, Fault>
-        ensures { (o : Opening) (past : List FrameEntry) → StandsFor note_kept self.old.client o past →
-            InputEnds note_kept o past (inputs.Begin text.now) self.old.client self.new.client result }
+        ensures { (opening : Opening) (past : List FrameEntry) →
+            StandsFor note_kept self.old.client opening past →
+            InputEnds note_kept opening past
+            (inputs.Begin text.now) self.old.client self.new.client result }
     {
         let saves = self.client.begin_would_save(text);
         let (run, frames) = self.client.begin(text)?;
@@ -79,8 +87,10 @@ impl ClientFilter {
     }
 
     fn trigger(&mut self, run: RunNo, act: Act) -> Result<Answered, Fault>
-        ensures { (o : Opening) (past : List FrameEntry) → StandsFor note_kept self.old.client o past →
-            InputEnds note_kept o past (inputs.Trigger run act) self.old.client self.new.client result }
+        ensures { (opening : Opening) (past : List FrameEntry) →
+            StandsFor note_kept self.old.client opening past →
+            InputEnds note_kept opening past
+            (inputs.Trigger run act) self.old.client self.new.client result }
     {
         let frames = self.client.trigger(run, act)?;
         Ok(Answered {
@@ -91,8 +101,10 @@ impl ClientFilter {
     }
 
     fn stop(&mut self, run: RunNo) -> Result<Answered, Fault>
-        ensures { (o : Opening) (past : List FrameEntry) → StandsFor note_kept self.old.client o past →
-            InputEnds note_kept o past (inputs.Stop run) self.old.client self.new.client result }
+        ensures { (opening : Opening) (past : List FrameEntry) →
+            StandsFor note_kept self.old.client opening past →
+            InputEnds note_kept opening past
+            (inputs.Stop run) self.old.client self.new.client result }
     {
         let frames = self.client.stop(run)?;
         Ok(Answered {
@@ -103,8 +115,10 @@ impl ClientFilter {
     }
 
     fn verify(&mut self, run: RunNo, text: &[u8]) -> Result<Answered, Fault>
-        ensures { (o : Opening) (past : List FrameEntry) → StandsFor note_kept self.old.client o past →
-            InputEnds note_kept o past (inputs.Verify run text.now) self.old.client self.new.client result }
+        ensures { (opening : Opening) (past : List FrameEntry) →
+            StandsFor note_kept self.old.client opening past →
+            InputEnds note_kept opening past
+            (inputs.Verify run text.now) self.old.client self.new.client result }
     {
         let saves = self.client.verify_would_save(run, text);
         let (attempt, frames) = self.client.verify(run, text)?;
@@ -116,8 +130,9 @@ impl ClientFilter {
     }
 
     fn tick(&self) -> Result<Answered, Fault>
-        ensures { (o : Opening) (past : List FrameEntry) → StandsFor note_kept self.now.client o past →
-            InputEnds note_kept o past inputs.Tick self.now.client self.now.client result }
+        ensures { (opening : Opening) (past : List FrameEntry) →
+            StandsFor note_kept self.now.client opening past →
+            InputEnds note_kept opening past inputs.Tick self.now.client self.now.client result }
     {
         let frames = self.client.tick()?;
         Ok(Answered {
@@ -129,8 +144,10 @@ impl ClientFilter {
 
     #[tactic(auto, using(crate::proofs::ClientLemmas::not_answered))]
     fn deliver(&mut self, frame: Frame) -> Result<Answered, Fault>
-        ensures { (o : Opening) (past : List FrameEntry) → StandsFor note_kept self.old.client o past →
-            InputEnds note_kept o past (inputs.Deliver frame) self.old.client self.new.client result }
+        ensures { (opening : Opening) (past : List FrameEntry) →
+            StandsFor note_kept self.old.client opening past →
+            InputEnds note_kept opening past
+            (inputs.Deliver frame) self.old.client self.new.client result }
     {
         let Ok(saves) = self.client.would_save(&frame) else {
             return Err(Fault::NoMemory);

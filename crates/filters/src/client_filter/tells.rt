@@ -31,7 +31,8 @@ impl ClientFilter {
         writer: &mut W,
     ) -> io::Result<()>
         ensures { OnOk result
-            (AnswersBy (λ o at now answer. TakesBody o at (input_in kind body.now) now answer)
+            (AnswersBy (λ opening at now answer.
+            TakesBody opening at (input_in kind body.now) now answer)
             (IsAt note_kept self.old.client) (IsAt note_kept self.new.client)
             (W.contents writer.old) (W.contents writer.new)) }
     {
@@ -54,7 +55,8 @@ impl ClientFilter {
     /// Writes how a request stands at a server.
     pub(super) fn look<W: Write>(&self, body: &[u8], writer: &mut W) -> io::Result<()>
         ensures { OnOk result
-            (AnswersBy (λ o at now answer. TakesKind o at (Some told.Look) body.now now answer)
+            (AnswersBy (λ opening at now answer.
+            TakesKind opening at (Some told.Look) body.now now answer)
             (IsAt note_kept self.now.client) (IsAt note_kept self.now.client)
             (W.contents writer.old) (W.contents writer.new)) }
     {
@@ -71,7 +73,8 @@ impl ClientFilter {
     /// Writes the report of this place among those that came, if there is one.
     pub(super) fn show<W: Write>(&self, body: &[u8], writer: &mut W) -> io::Result<()>
         ensures { OnOk result
-            (AnswersBy (λ o at now answer. TakesKind o at (Some told.Show) body.now now answer)
+            (AnswersBy (λ opening at now answer.
+            TakesKind opening at (Some told.Show) body.now now answer)
             (IsAt note_kept self.now.client) (IsAt note_kept self.now.client)
             (W.contents writer.old) (W.contents writer.new)) }
     {

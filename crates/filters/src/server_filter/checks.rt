@@ -80,8 +80,9 @@ impl ServerFilter {
 
     /// The state that the check of a job is made with, where it may be made: none for a full pass.
     fn ready(&self, job: JobNo) -> Option<Option<VerifyState>>
-        ensures { (o : Opening) (past : List FrameEntry) → StandsFor note_kept self.now.server o past →
-            result ≡ ready_by (progress o (shown_entries (packets_heard o past)) job) }
+        ensures { (opening : Opening) (past : List FrameEntry) →
+            StandsFor note_kept self.now.server opening past →
+            result ≡ ready_by (progress opening (shown_entries (packets_heard opening past)) job) }
     {
         match self.server.check_progress(job) {
             Some(Progress::Full) => Some(None),
@@ -165,8 +166,9 @@ impl ServerFilter {
         job: JobNo,
         report: CheckReport,
     ) -> Result<Handed, Fault>
-        ensures hands { (o : Opening) (past : List FrameEntry) → StandsFor note_kept self.old.server o past →
-            HandsOut note_kept o past (CheckDone boot attempt job report)
+        ensures hands { (opening : Opening) (past : List FrameEntry) →
+            StandsFor note_kept self.old.server opening past →
+            HandsOut note_kept opening past (CheckDone boot attempt job report)
             self.old.server self.new.server result }
         ensures checks { self.new.checks ≡ self.old.checks }
         ensures fits { IsTrue (is_report report) }
@@ -207,7 +209,7 @@ impl ServerFilter {
         writer: &mut W,
     ) -> io::Result<Result<(), Fault>>
         ensures { IfOk result (λ end.
-            AnswersBy (λ o at now answer. Feeds o at body.now end now answer)
+            AnswersBy (λ opening at now answer. Feeds opening at body.now end now answer)
             (IsHere self.old) (IsHere self.new)
             (W.contents writer.old) (W.contents writer.new)) }
     {
@@ -241,7 +243,7 @@ impl ServerFilter {
         writer: &mut W,
     ) -> io::Result<Result<(), Fault>>
         ensures { IfOk result (λ end.
-            AnswersBy (λ o at now answer. GivesUp o at body.now end now answer)
+            AnswersBy (λ opening at now answer. GivesUp opening at body.now end now answer)
             (IsHere self.old) (IsHere self.new)
             (W.contents writer.old) (W.contents writer.new)) }
     {

@@ -46,8 +46,10 @@ pub(crate) struct Handed {
 impl ServerFilter {
     /// Takes the frame that these bytes are.
     pub(super) fn deliver(&mut self, bytes: &[u8]) -> Result<Handed, Fault>
-        ensures hands { (o : Opening) (past : List FrameEntry) → StandsFor note_kept self.old.server o past →
-            BodyHands note_kept o past (frame_in (frame_faults bytes.now) (frame_at bytes.now))
+        ensures hands { (opening : Opening) (past : List FrameEntry) →
+            StandsFor note_kept self.old.server opening past →
+            BodyHands note_kept opening past
+            (frame_in (frame_faults bytes.now) (frame_at bytes.now))
             self.old.server self.new.server result }
         ensures checks { self.new.checks ≡ self.old.checks }
     {
@@ -60,8 +62,9 @@ impl ServerFilter {
     /// Takes a frame.
     #[tactic(auto, using(crate::proofs::ServerLemmas::not_handed))]
     fn take(&mut self, frame: Frame) -> Result<Handed, Fault>
-        ensures hands { (o : Opening) (past : List FrameEntry) → StandsFor note_kept self.old.server o past →
-            HandsOut note_kept o past (Deliver frame) self.old.server self.new.server result }
+        ensures hands { (opening : Opening) (past : List FrameEntry) →
+            StandsFor note_kept self.old.server opening past →
+            HandsOut note_kept opening past (Deliver frame) self.old.server self.new.server result }
         ensures checks { self.new.checks ≡ self.old.checks }
     {
         let saves = self.server.would_save(&frame);
@@ -75,8 +78,9 @@ impl ServerFilter {
         name: Option<WriteName>,
         end: WriteEnd,
     ) -> Result<Handed, Fault>
-        ensures hands { (o : Opening) (past : List FrameEntry) → StandsFor note_kept self.old.server o past →
-            BodyHands note_kept o past (end_in o past end name)
+        ensures hands { (opening : Opening) (past : List FrameEntry) →
+            StandsFor note_kept self.old.server opening past →
+            BodyHands note_kept opening past (end_in opening past end name)
             self.old.server self.new.server result }
         ensures checks { self.new.checks ≡ self.old.checks }
     {
@@ -98,8 +102,10 @@ impl ServerFilter {
     /// Takes the end of an open write.
     #[tactic(auto, using(crate::proofs::ServerLemmas::not_handed))]
     fn end_open(&mut self, ticket: Ticket, end: WriteEnd) -> Result<Handed, Fault>
-        ensures hands { (o : Opening) (past : List FrameEntry) → StandsFor note_kept self.old.server o past →
-            HandsOut note_kept o past (WriteDone ticket end) self.old.server self.new.server result }
+        ensures hands { (opening : Opening) (past : List FrameEntry) →
+            StandsFor note_kept self.old.server opening past →
+            HandsOut note_kept opening past
+            (WriteDone ticket end) self.old.server self.new.server result }
         ensures checks { self.new.checks ≡ self.old.checks }
     {
         let outs = self.server.step(Input::WriteDone(ticket, end))?;
@@ -118,7 +124,7 @@ impl ServerFilter {
     /// Orders the writes of a job until none can be.
     pub(super) fn order_all<W: Write>(&mut self, job: JobNo, writer: &mut W) -> io::Result<()>
         ensures { OnOk result
-            (AnswersBy (TurnsTo (λ o at now. GivesNone o now.list job))
+            (AnswersBy (TurnsTo (λ opening at now. GivesNone opening now.list job))
             (IsHere self.old) (IsHere self.new)
             (W.contents writer.old) (W.contents writer.new)) }
     {

@@ -30,8 +30,8 @@ impl<N: Notes> Mirror<N> {
     /// `Conflict`, another state of the key is kept; `Old`, a greater generation was granted; `TableFull`;
     /// `NoMemory`, and nothing changes; `SaveFault`, and the mirror is down.
     pub fn deliver(&mut self, frame: &Frame) -> Result<Frames, Fault>
-        ensures { (o : Opening) (past : List Entry) → StandsFor N.note self.old o past →
-            Ends (steps N.note o) past frame.now self.old self.new result }
+        ensures { (opening : Opening) (past : List Entry) → StandsFor N.note self.old opening past →
+            Ends (steps N.note opening) past frame.now self.old self.new result }
     {
         let request = self.admit(frame)?;
         match &request {
@@ -44,10 +44,10 @@ impl<N: Notes> Mirror<N> {
     fn copy(&mut self, state: &VerifyState) -> Result<Frames, Fault>
         requires up { self.old.durable.down ≡ false }
         requires free { faults_of_request self.old.noted (Copy state.now) ≡ [] }
-        ensures { (o : Opening) (past : List Entry) (f : SaidFrame) →
+        ensures { (opening : Opening) (past : List Entry) (f : SaidFrame) →
             request_in f ≡ Some (Copy state.now) →
-            StandsFor N.note self.old o past →
-            Ends (steps N.note o) past f self.old self.new result }
+            StandsFor N.note self.old opening past →
+            Ends (steps N.note opening) past f self.old self.new result }
     {
         notes_are_read_back();
         found_after_a_push();
@@ -67,10 +67,10 @@ impl<N: Notes> Mirror<N> {
         requires range { IsTrue (is_generation generation) }
         requires up { self.old.durable.down ≡ false }
         requires free { faults_of_request self.old.noted (Fetch generation) ≡ [] }
-        ensures { (o : Opening) (past : List Entry) (f : SaidFrame) →
+        ensures { (opening : Opening) (past : List Entry) (f : SaidFrame) →
             request_in f ≡ Some (Fetch generation) →
-            StandsFor N.note self.old o past →
-            Ends (steps N.note o) past f self.old self.new result }
+            StandsFor N.note self.old opening past →
+            Ends (steps N.note opening) past f self.old self.new result }
     {
         notes_are_read_back();
         let Ok(frames) = granted(self.alloc, generation, self.noted.kept.as_slice()) else {

@@ -19,17 +19,17 @@ use fc_base::Fault;
 
 /// It is asked this, or a frame comes to it. `NodeOff`: it doesn't run. Any other fault is the client's own.
 pub(crate) fn ask(node: &mut ClientNode, ask: Ask<'_>) -> Result<ClientOuts, Fault>
-    ensures { (o : Opening) (past : List FrameEntry) → Stands o past node.old →
-        Asks o past (input_of ask.entry) node.new result }
+    ensures { (opening : Opening) (past : List FrameEntry) → Stands opening past node.old →
+        Asks opening past (input_of ask.entry) node.new result }
 {
     ask_client(node.on()?, ask)
 }
 
 /// A client that runs is asked this.
 fn ask_client(client: &mut Client<MemNotes>, ask: Ask<'_>) -> Result<ClientOuts, Fault>
-    ensures { (o : Opening) (past : List FrameEntry) → is_up o past ≡ true →
-        StandsFor note_of client.old o past →
-        Asks o past (input_of ask.entry) (On client.new) result }
+    ensures { (opening : Opening) (past : List FrameEntry) → is_up opening past ≡ true →
+        StandsFor note_of client.old opening past →
+        Asks opening past (input_of ask.entry) (On client.new) result }
 {
     match ask {
         Ask::Begin(text) => {

@@ -22,8 +22,8 @@ pub(crate) fn cut_in_begin(
     landed: bool,
     text: &[u8],
 ) -> Result<(), Fault>
-    ensures { (o : Opening) (past : List FrameEntry) → Stands o past node.old →
-        CutsIn (client_nodes o) past landed (inputs.Begin text.now) node.new result }
+    ensures { (opening : Opening) (past : List FrameEntry) → Stands opening past node.old →
+        CutsIn (client_nodes opening) past landed (inputs.Begin text.now) node.new result }
 {
     let Some(client) = client(node) else {
         return Err(Fault::NodeOff);
@@ -46,8 +46,8 @@ pub(crate) fn cut_in_verify(
     run: RunNo,
     text: &[u8],
 ) -> Result<(), Fault>
-    ensures { (o : Opening) (past : List FrameEntry) → Stands o past node.old →
-        CutsIn (client_nodes o) past landed (inputs.Verify run text.now) node.new result }
+    ensures { (opening : Opening) (past : List FrameEntry) → Stands opening past node.old →
+        CutsIn (client_nodes opening) past landed (inputs.Verify run text.now) node.new result }
 {
     let Some(client) = client(node) else {
         return Err(Fault::NodeOff);
@@ -69,8 +69,8 @@ pub(crate) fn cut_in_delivery(
     landed: bool,
     frame: Frame,
 ) -> Result<(), Fault>
-    ensures { (o : Opening) (past : List FrameEntry) → Stands o past node.old →
-        CutsIn (client_nodes o) past landed (inputs.Deliver frame) node.new result }
+    ensures { (opening : Opening) (past : List FrameEntry) → Stands opening past node.old →
+        CutsIn (client_nodes opening) past landed (inputs.Deliver frame) node.new result }
 {
     if let Err(fault) = try_delivery(node, &frame) {
         return Err(fault);
@@ -85,12 +85,12 @@ pub(crate) fn cut_in_delivery(
 /// Whether it would make a save of a frame: `NodeOff`, `NoSave`, `NoMemory` where it wouldn't.
 fn try_delivery(node: &ClientNode, frame: &Frame) -> Result<(), Fault>
     ensures saves { OnOk result
-        ((o : Opening) (past : List FrameEntry) → Stands o past node.now →
-        is_some (due o past (inputs.Deliver frame.now)) ≡ true) }
+        ((opening : Opening) (past : List FrameEntry) → Stands opening past node.now →
+        is_some (due opening past (inputs.Deliver frame.now)) ≡ true) }
     ensures fails { IfErr result
-        (λ fault. (o : Opening) (past : List FrameEntry) → Stands o past node.now →
+        (λ fault. (opening : Opening) (past : List FrameEntry) → Stands opening past node.now →
         (landed : Bool) →
-        CutsIn (client_nodes o) past landed (inputs.Deliver frame.now) node.now (Err fault)) }
+        CutsIn (client_nodes opening) past landed (inputs.Deliver frame.now) node.now (Err fault)) }
 {
     let Some(client) = client(node) else {
         return Err(Fault::NodeOff);
@@ -104,9 +104,9 @@ fn try_delivery(node: &ClientNode, frame: &Frame) -> Result<(), Fault>
 
 /// It loses its power once a run's number is saved.
 fn cut_behind_begin(node: &mut ClientNode, alloc: Global, text: &[u8]) -> Result<(), Fault>
-    ensures { (o : Opening) (past : List FrameEntry) → Stands o past node.old →
-        is_some (due o past (inputs.Begin text.now)) ≡ true →
-        CutsIn (client_nodes o) past true (inputs.Begin text.now) node.new result }
+    ensures { (opening : Opening) (past : List FrameEntry) → Stands opening past node.old →
+        is_some (due opening past (inputs.Begin text.now)) ≡ true →
+        CutsIn (client_nodes opening) past true (inputs.Begin text.now) node.new result }
 {
     if let Err(fault) = ask(node, Ask::Begin(text)) {
         return Err(fault);
@@ -122,9 +122,9 @@ fn cut_behind_verify(
     run: RunNo,
     text: &[u8],
 ) -> Result<(), Fault>
-    ensures { (o : Opening) (past : List FrameEntry) → Stands o past node.old →
-        is_some (due o past (inputs.Verify run text.now)) ≡ true →
-        CutsIn (client_nodes o) past true (inputs.Verify run text.now) node.new result }
+    ensures { (opening : Opening) (past : List FrameEntry) → Stands opening past node.old →
+        is_some (due opening past (inputs.Verify run text.now)) ≡ true →
+        CutsIn (client_nodes opening) past true (inputs.Verify run text.now) node.new result }
 {
     if let Err(fault) = ask(node, Ask::Verify(run, text)) {
         return Err(fault);
@@ -135,9 +135,9 @@ fn cut_behind_verify(
 
 /// It loses its power once a frame's state is saved.
 fn cut_behind_delivery(node: &mut ClientNode, alloc: Global, frame: Frame) -> Result<(), Fault>
-    ensures { (o : Opening) (past : List FrameEntry) → Stands o past node.old →
-        is_some (due o past (inputs.Deliver frame)) ≡ true →
-        CutsIn (client_nodes o) past true (inputs.Deliver frame) node.new result }
+    ensures { (opening : Opening) (past : List FrameEntry) → Stands opening past node.old →
+        is_some (due opening past (inputs.Deliver frame)) ≡ true →
+        CutsIn (client_nodes opening) past true (inputs.Deliver frame) node.new result }
 {
     if let Err(fault) = ask(node, Ask::Deliver(frame)) {
         return Err(fault);

@@ -34,8 +34,8 @@ pub(crate) fn open_renewed(alloc: Global, servers: u32) -> Result<ClientNode, Al
 ///
 /// `NodeOn`: it runs, and nothing changes.
 pub(crate) fn lose(node: &mut ClientNode, alloc: Global) -> Result<(), Fault>
-    ensures { (o : Opening) (past : List FrameEntry) → Stands o past node.old →
-        Loses o past node.new result }
+    ensures { (opening : Opening) (past : List FrameEntry) → Stands opening past node.old →
+        Loses opening past node.new result }
 {
     match node {
         Power::Off(notes) => {
@@ -58,9 +58,9 @@ pub(crate) fn renew(
     requires some { 1 ≤ servers }
     requires few { servers ≤ MAX_SERVERS }
     requires fits { IsTrue (is_generation generation) }
-    ensures { (o : Opening) (past : List FrameEntry) → o.servers ≡ servers →
-        Stands o past node.old →
-        Renews o past generation node.new result }
+    ensures { (opening : Opening) (past : List FrameEntry) → opening.servers ≡ servers →
+        Stands opening past node.old →
+        Renews opening past generation node.new result }
 {
     client_core::one_note();
     if node.core().is_some() {
@@ -85,9 +85,9 @@ pub(crate) fn cut_in_renewal(
     requires some { 1 ≤ servers }
     requires few { servers ≤ MAX_SERVERS }
     requires fits { IsTrue (is_generation generation) }
-    ensures { (o : Opening) (past : List FrameEntry) → o.servers ≡ servers →
-        Stands o past node.old →
-        CutsInRenewal o past landed generation node.new result }
+    ensures { (opening : Opening) (past : List FrameEntry) → opening.servers ≡ servers →
+        Stands opening past node.old →
+        CutsInRenewal opening past landed generation node.new result }
 {
     if let Err(fault) = renew(node, alloc, servers, generation) {
         return Err(if fault == Fault::BadNote {

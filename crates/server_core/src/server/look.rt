@@ -25,16 +25,18 @@ impl<N: Notes> Server<N> {
 
     /// Whether it is on: no save has failed since it was restarted.
     pub fn on(&self) -> bool
-        ensures { (o : Opening) (past : List FrameEntry) → StandsFor N.note self.now o past →
-            result ≡ is_on (packets_heard o past) }
+        ensures { (opening : Opening) (past : List FrameEntry) →
+            StandsFor N.note self.now opening past →
+            result ≡ is_on (packets_heard opening past) }
     {
         !self.hearer.core.durable.is_down()
     }
 
     /// Its number.
     pub fn me(&self) -> ServerNo
-        ensures { (o : Opening) (past : List FrameEntry) → StandsFor N.note self.now o past →
-            result ≡ o.me }
+        ensures { (opening : Opening) (past : List FrameEntry) →
+            StandsFor N.note self.now opening past →
+            result ≡ opening.me }
     {
         self.hearer.core.machine.me
     }
@@ -42,24 +44,29 @@ impl<N: Notes> Server<N> {
     /// How far it is: up to a failed save, where one has failed. Its boot and its last run are those of
     /// the note.
     pub fn status(&self) -> Status
-        ensures { (o : Opening) (past : List FrameEntry) → StandsFor N.note self.now o past →
-            result ≡ status o (shown_entries (packets_heard o past)) }
+        ensures { (opening : Opening) (past : List FrameEntry) →
+            StandsFor N.note self.now opening past →
+            result ≡ status opening (shown_entries (packets_heard opening past)) }
     {
         self.hearer.core.machine.status()
     }
 
     /// A job of the present run: of that up to a failed save, where one has failed.
     pub fn run_job(&self, job: JobNo) -> Option<&Job>
-        ensures { (o : Opening) (past : List FrameEntry) → StandsFor N.note self.now o past →
-            option_copied result ≡ run_job o (shown_entries (packets_heard o past)) job }
+        ensures { (opening : Opening) (past : List FrameEntry) →
+            StandsFor N.note self.now opening past →
+            option_copied result ≡ run_job opening
+            (shown_entries (packets_heard opening past)) job }
     {
         self.hearer.core.machine.run_job(job)
     }
 
     /// The state that was taken of a job of the present run: up to a failed save, where one has failed.
     pub fn taken(&self, job: JobNo) -> Option<&VerifyState>
-        ensures { (o : Opening) (past : List FrameEntry) → StandsFor N.note self.now o past →
-            option_copied result ≡ state_taken o (shown_entries (packets_heard o past)) job }
+        ensures { (opening : Opening) (past : List FrameEntry) →
+            StandsFor N.note self.now opening past →
+            option_copied result ≡ state_taken opening
+            (shown_entries (packets_heard opening past)) job }
     {
         self.hearer.core.machine.taken(job)
     }
@@ -67,16 +74,19 @@ impl<N: Notes> Server<N> {
     /// The ticket of this write of a job of the present run, where it is open, issued and neither done nor
     /// failed: up to a failed save, where one has failed.
     pub fn open_write(&self, job: JobNo, write: Seq) -> Option<Ticket>
-        ensures { (o : Opening) (past : List FrameEntry) → StandsFor N.note self.now o past →
-            result ≡ open_write o (shown_entries (packets_heard o past)) job write }
+        ensures { (opening : Opening) (past : List FrameEntry) →
+            StandsFor N.note self.now opening past →
+            result ≡ open_write opening (shown_entries (packets_heard opening past)) job write }
     {
         self.hearer.core.machine.open_write(job, write)
     }
 
     /// A job of the open check: of that up to a failed save, where one has failed.
     pub fn check_job(&self, job: JobNo) -> Option<&Job>
-        ensures { (o : Opening) (past : List FrameEntry) → StandsFor N.note self.now o past →
-            option_copied result ≡ check_job o (shown_entries (packets_heard o past)) job }
+        ensures { (opening : Opening) (past : List FrameEntry) →
+            StandsFor N.note self.now opening past →
+            option_copied result ≡ check_job opening
+            (shown_entries (packets_heard opening past)) job }
     {
         self.hearer.core.machine.check_job(job)
     }
@@ -84,9 +94,10 @@ impl<N: Notes> Server<N> {
     /// How far the check of a job is, where it is one of the open check: of that up to a failed save, where
     /// one has failed.
     pub fn check_progress(&self, job: JobNo) -> Option<&Progress>
-        ensures { (o : Opening) (past : List FrameEntry) → StandsFor N.note self.now o past →
+        ensures { (opening : Opening) (past : List FrameEntry) →
+            StandsFor N.note self.now opening past →
             option_map progress_of (option_copied result)
-            ≡ progress o (shown_entries (packets_heard o past)) job }
+            ≡ progress opening (shown_entries (packets_heard opening past)) job }
     {
         self.hearer.core.machine.check_progress(job)
     }

@@ -1,6 +1,7 @@
 use denote.Param.Send.{sendable}
 use Rattle.std.proofs.Crossing.{crosses}
-use Rattle.fleet_threads.proofs.Sending.{hand_sent, seat_sent, nodes_sync, flags_sync}
+use Rattle.cells.proofs.Sending.{seat_sent}
+use Rattle.fleet_threads.proofs.Sending.{hand_sent, nodes_sync, flags_sync}
 use Rattle.fleet_threads.proofs.threads.fn.run_threads.scope.Goals as goal
 
 pub spawn-requires-send-F : goal.spawn-requires-send-F
