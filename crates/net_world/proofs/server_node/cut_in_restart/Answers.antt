@@ -1,4 +1,6 @@
-use Rattle.std.proofs.Common.{sym, subst, Bool, Ok, Err}
+use Rattle.std.proofs.Common.{sym, subst, Bool, ◌∷◌, Ok, Err}
+use Rattle.disk_model.specs.declared.left.Left.TheVariants.{Saved}
+use Rattle.server_core.specs.Hearing.{Restart}
 use Rattle.net_world.specs.ServerNodes.{CutsInRestart}
 use Rattle.net_world.proofs.CutLemmas.{restart_new, restart_fails}
 use Rattle.net_world.proofs.server_node.cut_in_restart.Goals as goal
@@ -11,7 +13,7 @@ pub returns-in-Ok : goal.returns-in-Ok
 returns-in-Ok c o past me stands =
     let h = c.in-Ok.ensures o past me stands in
     subst (λ (b : Bool). CutsInRestart o past b c.cut.new.node (Ok tt)) (sym c.if-not-landed.false)
-    (restart_new o past c.cut.new.node h.0 h.1 (c.cut.ensures o _ h.2))
+    (restart_new o past c.cut.new.node h.0 h.1 (c.cut.ensures o (Restart Saved ∷ past) h.2))
 
 pub returns-in-Err : goal.returns-in-Err
 returns-in-Err c o past me stands =

@@ -1,4 +1,5 @@
-use Rattle.std.proofs.Common.{true}
+use Rattle.std.proofs.Common.{true, ◌∷◌}
+use Rattle.disk_model.specs.Steps.{answered}
 use Rattle.client_core.specs.declared.input.Input.TheVariants as inputs
 use Rattle.client_core.specs.Hearing.{Cut}
 use Rattle.net_world.specs.ClientNodes.{client_nodes}
@@ -14,4 +15,4 @@ returns-in-Err c o past stands due =
 pub returns : goal.returns
 returns c o past stands due =
     let e = inputs.Verify c.args.run c.args.text.now in
-    cut_new (client_nodes o) Cut past e c.cut.new.node (saves o past e due) (c.cut.ensures o _ (c.in_default.ensures o past stands).1.stands)
+    cut_new (client_nodes o) Cut past e c.cut.new.node (saves o past e due) (c.cut.ensures o (answered (client_nodes o).core past e ∷ past) (c.in_default.ensures o past stands).1.stands)
