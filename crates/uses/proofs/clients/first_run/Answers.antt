@@ -1,6 +1,9 @@
-use Rattle.std.proofs.Common.{◌≡◌, [], refl, inr, ap, ◌∙◌, arith}
+use Rattle.std.proofs.Common.{◌≡◌, List, [], ◌∷◌, false, refl, inr, ap, ◌∙◌, arith}
 use Rattle.disk_model.specs.MemNotes.{Saved}
+use Rattle.client_core.specs.declared.input.Input.TheVariants.{Begin}
 use Rattle.client_core.specs.History.{Opening}
+use Rattle.client_core.specs.Hearing.{FrameEntry, Restart}
+use Rattle.client_core.specs.FrameAnswers.{answered_entry}
 use Rattle.client_core.specs.Note.{Says, IsNoted, blank}
 use Rattle.uses.proofs.clients.first_run.Goals as goal
 
@@ -18,9 +21,10 @@ returns c =
     } in
     let says : Says c.new-notes.result.bytes blank = record { note = ranges; spelled = inr (empty, refl) } in
     let stood = c.in-Ok.ensures.stands o [] refl says in
-    let given = c.in_ok-run.ensures o _ stood in
+    let past : List FrameEntry = Restart false ∷ [] in
+    let given = c.in_ok-run.ensures o past stood in
     record {
       run = given.0;
       frames = given.1.sends.frames_are;
-      note = c.off-notes.ensures.says o _ given.1.stands;
+      note = c.off-notes.ensures.says o (answered_entry o past (Begin c.args.text.now) ∷ past) given.1.stands;
     }
