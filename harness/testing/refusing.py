@@ -67,7 +67,7 @@ def folders():
     said to be there."""
     os.mkdir("targets")
     os.mkdir("states")
-    env = {"LD_PRELOAD": LIAR, "LIE_LOG": "synced", "LIE_SYNCS": "1", "LIE_TARGET": "/new"}
+    env = {"LD_PRELOAD": LIAR, "LIE_LOG": os.path.abspath("synced"), "LIE_SYNCS": "1", "LIE_TARGET": "/new"}
     tell("a new target", run("write", "two.fio", "targets/new", "states/ns", env=env)[0], 0)
     lines = read("synced").decode().splitlines()
     first = next(at for at, line in enumerate(lines) if line.startswith("made "))
