@@ -22,10 +22,8 @@ use Rattle.messages.specs.Assemblies.{look_at_piece}
 use Rattle.messages.specs.Kinds.{is_of_server}
 use Rattle.messages.specs.Nodes.{is_client}
 use Rattle.messages.specs.Pieces.{frames_of}
-use Rattle.client_core.specs.declared.call.Call.{Call}
-use Rattle.client_core.specs.declared.call.Call.TheVariants as calls
-use Rattle.client_core.specs.declared.input.Input.{Input}
-use Rattle.client_core.specs.declared.input.Input.TheVariants as inputs
+use Rattle.client_core.specs.Inputs.{PacketInput, FrameInput}
+use Rattle.client_core.specs.Inputs as inputs
 use Rattle.client_core.specs.History as history
 use Rattle.client_core.specs.History.{Opening}
 use Rattle.client_core.specs.Life.{life}
@@ -69,7 +67,7 @@ whole_to true false others h = absurd (no_pass Misdirected refl h)
 whole_to false good others h = absurd (no_pass Down refl h)
 
 piece_to : (o : Opening) (past : List history.Entry) (on a b : Bool) (m : Meaning)
-    → MayPass (refusal_of_sense (hearing o) past (sense_of calls.Deliver (if on && (a && b) then m else Strays))) → a ≡ true
+    → MayPass (refusal_of_sense (hearing o) past (sense_of inputs.Deliver (if on && (a && b) then m else Strays))) → a ≡ true
 piece_to o past true true b m h = refl
 piece_to o past true false b m h = absurd (strays (is_on past) Misdirected Down refl refl h)
 piece_to o past false a b m h = absurd (strays (is_on past) Misdirected Down refl refl h)
@@ -100,20 +98,20 @@ unanswered (Some fault) y left h = refl
 unanswered None y left (inl h) = no_answer y left h
 unanswered None y left (inr h) = cc
 
-call_quiet : (o : Opening) (list : List history.Entry) (c : Call) (left : Left) → Quiet (is_lost left) (words.refusal o list c)
+call_quiet : (o : Opening) (list : List history.Entry) (c : PacketInput) (left : Left) → Quiet (is_lost left) (words.refusal o list c)
     → frames_by (packets o) list (Some (history.Met c left)) ≡ []
 call_quiet o list c left h =
     ap (λ b. flat_map frames_of (if b then packets_for (words.peers o list) (words_noted o list) (life o list) c else []))
     (unanswered (words.refusal o list c) (words.due o list c) left h)
 
-sense_quiet : (o : Opening) (list : List history.Entry) (left : Left) (x : Sense Call) → Quiet (is_lost left) (refusal_of_sense (hearing o) list x)
+sense_quiet : (o : Opening) (list : List history.Entry) (left : Left) (x : Sense PacketInput) → Quiet (is_lost left) (refusal_of_sense (hearing o) list x)
     → frames_by (packets o) list (entry_by (hearing o) left x) ≡ []
 sense_quiet o list left (Hears c) h = call_quiet o list c left h
 sense_quiet o list left Keeps h = refl
 sense_quiet o list left Drops h = refl
 sense_quiet o list left Misses h = refl
 
-quiet : (o : Opening) (past : List FrameEntry) (e : Input) (left : Left) → Quiet (is_lost left) (answers.refusal o past e)
+quiet : (o : Opening) (past : List FrameEntry) (e : FrameInput) (left : Left) → Quiet (is_lost left) (answers.refusal o past e)
     → answers.frames o past (Met e left) ≡ []
 quiet o past e left h =
     ap (frames_by (packets o) (packets_heard o past)) (entry_is (hearing o) (heard_at o past) (arrival e) left)
@@ -122,7 +120,7 @@ quiet o past e left h =
 -- ---- the entry of an event
 
 -- The entry is of what was asked, where it is a frame, and that is for the client; and it has no mirror.
-pub IsAsked : Ask Input → FrameEntry → Type 0
+pub IsAsked : Ask FrameInput → FrameEntry → Type 0
 IsAsked ask (Met (inputs.Deliver f) left) = (ask ≡ Meets (inputs.Deliver f)) × (to_of f ≡ Client)
 IsAsked ask (Met (inputs.Begin text) left) = Unit {0}
 IsAsked ask (Met (inputs.Trigger run act) left) = Unit {0}
@@ -134,7 +132,7 @@ IsAsked ask (Restart mirror) = mirror ≡ false
 IsAsked ask (Renew g left) = ⊥
 IsAsked ask Lose = ⊥
 
-met_asked : (o : Opening) (past : List FrameEntry) (e : Input) (left : Left) → MayPass (answers.refusal o past e) → IsAsked (Meets e) (Met e left)
+met_asked : (o : Opening) (past : List FrameEntry) (e : FrameInput) (left : Left) → MayPass (answers.refusal o past e) → IsAsked (Meets e) (Met e left)
 unfolding IsAsked
 met_asked o past (inputs.Deliver f) left h = (refl, to_me o past f h)
 met_asked o past (inputs.Begin text) left h = tt
@@ -143,7 +141,7 @@ met_asked o past (inputs.Stop run) left h = tt
 met_asked o past (inputs.Verify run text) left h = tt
 met_asked o past inputs.Tick left h = tt
 
-lost_save : (o : Opening) (past : List FrameEntry) (e : Input) (landed : Bool) (entry : FrameEntry) → answers.refusal o past e ≡ None
+lost_save : (o : Opening) (past : List FrameEntry) (e : FrameInput) (landed : Bool) (entry : FrameEntry) → answers.refusal o past e ≡ None
     → (core o).unsaved past e (left_by landed) ≡ Some entry → IsLost (core o) IsAsked past (Meets e) entry
 lost_save o past e landed entry free is =
     lost_met past e (Met e (left_by landed)) entry (answers.due o past e)
@@ -173,7 +171,7 @@ known o = record {
 -- ---- what it is in a trace
 
 -- What is asked is of these frames.
-IsOf : List Frame → Ask Input → Type 0
+IsOf : List Frame → Ask FrameInput → Type 0
 IsOf frames (Meets (inputs.Deliver f)) = Contains frames f
 IsOf frames (Meets (inputs.Begin text)) = Unit {0}
 IsOf frames (Meets (inputs.Trigger run act)) = Unit {0}
@@ -203,7 +201,7 @@ asked_of frames came.Tick h = tt
 asked_of frames came.Cut h = tt
 asked_of frames came.Restart h = tt
 
-happens : (frames : List Frame) (ask : Ask Input) (e : FrameEntry) → IsOf frames ask → IsAsked ask e → MayHappen frames (OfClient (coming_of e))
+happens : (frames : List Frame) (ask : Ask FrameInput) (e : FrameEntry) → IsOf frames ask → IsAsked ask e → MayHappen frames (OfClient (coming_of e))
 unfolding IsOf IsAsked
 happens frames ask (Met (inputs.Deliver f) left) h k = (subst (IsOf frames) k.0 h, k.1)
 happens frames ask (Met (inputs.Begin text) left) h k = refl
@@ -221,7 +219,7 @@ pub client_happens : (frames : List Frame) (c : NodeInput) (e : FrameEntry) → 
     → MayHappen frames (OfClient (coming_of e))
 client_happens frames c e h k = happens frames (ask_of c) e (asked_of frames c h) k
 
-allowed : (n : ℕ) (t : List FrameStep) (ask : Ask Input) (e : FrameEntry) → IsAsked ask e → is_allowed (without_mirror n) t (OfClient (coming_of e)) ≡ true
+allowed : (n : ℕ) (t : List FrameStep) (ask : Ask FrameInput) (e : FrameEntry) → IsAsked ask e → is_allowed (without_mirror n) t (OfClient (coming_of e)) ≡ true
 unfolding IsAsked
 allowed n t ask (Met (inputs.Deliver f) left) k = refl
 allowed n t ask (Met (inputs.Begin text) left) k = refl

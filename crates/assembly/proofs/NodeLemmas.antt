@@ -14,11 +14,11 @@ use Rattle.messages.specs.Hearing.{Coming, entry_of, frames_by, heard}
 use Rattle.hub.specs.Waiting.{is_same_node}
 use Rattle.server_core.specs.History as server
 use Rattle.server_core.specs.Answers.{packets as server_packets}
-use Rattle.server_core.specs.declared.input.Input.{Input as ServerInput}
+use Rattle.server_core.specs.Inputs.{FrameInput as ServerInput}
 use Rattle.server_core.specs.Hearing.{FrameEntry as ServerEntry, coming_of as server_coming}
 use Rattle.client_core.specs.History as client
 use Rattle.client_core.specs.Packets.{packets as client_packets}
-use Rattle.client_core.specs.declared.input.Input.{Input as ClientInput}
+use Rattle.client_core.specs.Inputs.{FrameInput as ClientInput}
 use Rattle.client_core.specs.Hearing.{FrameEntry as ClientEntry, coming_of as client_coming}
 use Rattle.cells.specs.declared.answer.Answer.TheVariants.{Plain}
 use Rattle.cells.specs.declared.entry.HistoryEntry.{HistoryEntry}

@@ -25,9 +25,7 @@ use Rattle.messages.specs.Assemblies.{look_at_piece}
 use Rattle.messages.specs.Kinds.{is_of_client}
 use Rattle.messages.specs.Nodes.{is_client, is_server}
 use Rattle.messages.specs.Pieces.{frames_of}
-use Rattle.server_core.specs.declared.event.Event.{Event}
-use Rattle.server_core.specs.declared.event.Event.TheVariants as events
-use Rattle.server_core.specs.declared.input.Input.{Input}
+use Rattle.server_core.specs.Inputs.{PacketInput, FrameInput}
 use Rattle.server_core.specs.declared.input.Input.TheVariants as inputs
 use Rattle.server_core.specs.History as history
 use Rattle.server_core.specs.History.{Opening}
@@ -65,7 +63,7 @@ whole_to now true false b body h = absurd (no_pass Misdirected refl h)
 whole_to now false a b body h = absurd (no_pass Down refl h)
 
 piece_to : (o : Opening) (past : List history.Entry) (on a b c : Bool) (m : Meaning)
-    → MayPass (refusal_of_sense (hearing o) past (sense_of events.Deliver (if on && (a && (b && c)) then m else Strays))) → b ≡ true
+    → MayPass (refusal_of_sense (hearing o) past (sense_of inputs.Deliver (if on && (a && (b && c)) then m else Strays))) → b ≡ true
 piece_to o past true true true c m h = refl
 piece_to o past true true false c m h = absurd (strays (is_on past) Misdirected Down refl refl h)
 piece_to o past true false b c m h = absurd (strays (is_on past) Misdirected Down refl refl h)
@@ -85,18 +83,18 @@ none_sent me gone (Some fault) bodies h = refl
 none_sent me gone None bodies (inl h) = ap (λ b. flat_map frames_of (to_client me (if b then [] else bodies))) h
 none_sent me gone None bodies (inr h) = cc
 
-event_quiet : (o : Opening) (list : List history.Entry) (e : Event) (left : Left) → Quiet (is_lost left) (words.refusal o list e)
+event_quiet : (o : Opening) (list : List history.Entry) (e : PacketInput) (left : Left) → Quiet (is_lost left) (words.refusal o list e)
     → frames_by (words.packets o) list (Some (history.Met e left)) ≡ []
 event_quiet o list e left h = none_sent o.me (is_lost left) (words.refusal o list e) (replies (words.now o list) (requests.request_of o.me e)) h
 
-sense_quiet : (o : Opening) (list : List history.Entry) (left : Left) (x : Sense Event) → Quiet (is_lost left) (refusal_of_sense (hearing o) list x)
+sense_quiet : (o : Opening) (list : List history.Entry) (left : Left) (x : Sense PacketInput) → Quiet (is_lost left) (refusal_of_sense (hearing o) list x)
     → frames_by (words.packets o) list (entry_by (hearing o) left x) ≡ []
 sense_quiet o list left (Hears e) h = event_quiet o list e left h
 sense_quiet o list left Keeps h = refl
 sense_quiet o list left Drops h = refl
 sense_quiet o list left Misses h = refl
 
-quiet : (o : Opening) (past : List FrameEntry) (e : Input) (left : Left) → Quiet (is_lost left) (answers.refusal o past e)
+quiet : (o : Opening) (past : List FrameEntry) (e : FrameInput) (left : Left) → Quiet (is_lost left) (answers.refusal o past e)
     → answers.frames o past (Met e left) ≡ []
 quiet o past e left h =
     ap (frames_by (words.packets o) (packets_heard o past)) (entry_is (hearing o) (heard_at o past) (arrival e) left)
@@ -105,7 +103,7 @@ quiet o past e left h =
 -- ---- the entry of an event
 
 -- The entry is of what was asked: a frame that is for the server, or the report of a check.
-pub IsAsked : Opening → Ask Input → FrameEntry → Type 0
+pub IsAsked : Opening → Ask FrameInput → FrameEntry → Type 0
 IsAsked o ask (Met (inputs.Deliver f) left) = (ask ≡ Meets (inputs.Deliver f)) × (to_of f ≡ Server o.me)
 IsAsked o ask (Met (inputs.Issue j) left) = Unit {0}
 IsAsked o ask (Met (inputs.WriteDone ticket end) left) = Unit {0}
@@ -113,14 +111,14 @@ IsAsked o ask (Met (inputs.CheckDone boot a j report) left) = ask ≡ Meets (inp
 IsAsked o ask Cut = Unit {0}
 IsAsked o ask (Restart left) = Unit {0}
 
-met_asked : (o : Opening) (past : List FrameEntry) (e : Input) (left : Left) → MayPass (answers.refusal o past e) → IsAsked o (Meets e) (Met e left)
+met_asked : (o : Opening) (past : List FrameEntry) (e : FrameInput) (left : Left) → MayPass (answers.refusal o past e) → IsAsked o (Meets e) (Met e left)
 unfolding IsAsked
 met_asked o past (inputs.Deliver f) left h = (refl, to_me o past f h)
 met_asked o past (inputs.Issue j) left h = tt
 met_asked o past (inputs.WriteDone ticket end) left h = tt
 met_asked o past (inputs.CheckDone boot a j report) left h = refl
 
-lost_save : (o : Opening) (past : List FrameEntry) (e : Input) (landed : Bool) (entry : FrameEntry) → answers.refusal o past e ≡ None
+lost_save : (o : Opening) (past : List FrameEntry) (e : FrameInput) (landed : Bool) (entry : FrameEntry) → answers.refusal o past e ≡ None
     → (core o).unsaved past e (left_by landed) ≡ Some entry → IsLost (core o) (IsAsked o) past (Meets e) entry
 lost_save o past e landed entry free is =
     lost_met past e (Met e (left_by landed)) entry (answers.due o past e)
@@ -156,7 +154,7 @@ known o = record {
 -- ---- what it is in a trace
 
 -- What is asked is of these frames, and within its ranges.
-IsOf : List Frame → Ask Input → Type 0
+IsOf : List Frame → Ask FrameInput → Type 0
 IsOf frames (Meets (inputs.Deliver f)) = Contains frames f
 IsOf frames (Meets (inputs.Issue j)) = Unit {0}
 IsOf frames (Meets (inputs.WriteDone ticket end)) = Unit {0}
@@ -190,7 +188,7 @@ asked_of frames came.Tick h = tt
 asked_of frames came.Cut h = tt
 asked_of frames came.Restart h = tt
 
-happens : (frames : List Frame) (s : ℕ) (ask : Ask Input) (e : FrameEntry) (o : Opening) → o.me ≡ s → IsOf frames ask → IsAsked o ask e
+happens : (frames : List Frame) (s : ℕ) (ask : Ask FrameInput) (e : FrameEntry) (o : Opening) → o.me ≡ s → IsOf frames ask → IsAsked o ask e
     → MayHappen frames (OfServer s (coming_of e))
 unfolding IsOf IsAsked
 happens frames s ask (Met (inputs.Deliver f) left) o me h k = (subst (IsOf frames) k.0 h, k.1 ∙ ap (λ i. Server i) me)
@@ -200,7 +198,7 @@ happens frames s ask (Met (inputs.CheckDone boot a j report) left) o me h k = re
 happens frames s ask Cut o me h k = refl
 happens frames s ask (Restart left) o me h k = refl
 
-fits : (frames : List Frame) (s : ℕ) (ask : Ask Input) (e : FrameEntry) (o : Opening) → s < 8 → IsOf frames ask → IsAsked o ask e
+fits : (frames : List Frame) (s : ℕ) (ask : Ask FrameInput) (e : FrameEntry) (o : Opening) → s < 8 → IsOf frames ask → IsAsked o ask e
     → FrameStepFits (OfServer s (coming_of e))
 unfolding IsOf IsAsked
 fits frames s ask (Met (inputs.Deliver f) left) o l h k = l

@@ -14,7 +14,7 @@ use Rattle.messages.specs.FrameBytes.{frame_spelling}
 use Rattle.messages.specs.Hearing.{frames_by, with_entry}
 use Rattle.hub.specs.Laws.{FramesAreSpelled}
 use Rattle.hub.specs.Network.{Network, Room, HasRoom, IsSpelled}
-use Rattle.client_core.specs.declared.input.Input.{Input}
+use Rattle.client_core.specs.Inputs.{FrameInput}
 use Rattle.client_core.specs.declared.client.Client.{Client}
 use Rattle.client_core.specs.Bounds.{AreShort}
 use Rattle.client_core.specs.Packets.{packets}
@@ -50,13 +50,13 @@ use Rattle.cells.proofs.ClientCellLemmas.{with_history}
 
 -- ---- the room for its frames
 
-short : {T : Type 0} (note : T → Note) (o : Opening) (past : List FrameEntry) (e : Input) (new : Power (Client T) T) (step : Result ClientOuts Fault)
+short : {T : Type 0} (note : T → Note) (o : Opening) (past : List FrameEntry) (e : FrameInput) (new : Power (Client T) T) (step : Result ClientOuts Fault)
     → most_packets o past e ≡ 8 → OpensInRange o → CameInRange (packets_heard o past) → StepEnds (client_kind note o) past e new (reply_and_frames step)
     → AreShort 8 (outcome_of (reply_and_frames step)).1
 short note o past e new (Ok outs) eight i h f = subst (λ most. AreShort most outs.frames) eight (f.short i h)
 short note o past e new (Err fault) eight i h f = record { few = omega arith; short = omega arith }
 
-pub has_room : {T : Type 0} (note : T → Note) (log : ClientLog) (power : Power (Client T) T) (cell : IsCell note log power) (e : Input)
+pub has_room : {T : Type 0} (note : T → Note) (log : ClientLog) (power : Power (Client T) T) (cell : IsCell note log power) (e : FrameInput)
     (new : Power (Client T) T) (step : Result ClientOuts Fault) (room : Room) → most_packets log.opening cell.kept.past e ≡ 8
     → StepEnds (client_kind note log.opening) cell.kept.past e new (reply_and_frames step) → HasRoom room 136 137864
     → HasRoom room (length (outcome_of (reply_and_frames step)).1) (sum_by (λ (frame : List ℕ). length frame) (outcome_of (reply_and_frames step)).1)
@@ -97,7 +97,7 @@ by_entry : FramesAreSpelled → PacketsAreInRange → (o : Opening) (past : List
 by_entry law ranges o past i None came = All-nil IsSpelled
 by_entry law ranges o past i (Some x) came = hub.packets_spelled law (packets o past x) (ranges o past x i (came x refl))
 
-pub sent_spelled : {T : Type 0} (note : T → Note) (log : ClientLog) (power : Power (Client T) T) (cell : IsCell note log power) (e : Input)
+pub sent_spelled : {T : Type 0} (note : T → Note) (log : ClientLog) (power : Power (Client T) T) (cell : IsCell note log power) (e : FrameInput)
     (new : Power (Client T) T) (step : Result ClientOuts Fault) → FramesAreSpelled → PacketsAreInRange
     → StepEnds (client_kind note log.opening) cell.kept.past e new (reply_and_frames step) → All IsSpelled (outcome_of (reply_and_frames step)).1
 sent_spelled note log power cell e new step law ranges f =
@@ -110,7 +110,7 @@ sent_spelled note log power cell e new step law ranges f =
 -- ---- what came is entered
 
 -- A cell behind what came.
-pub heard_cell : {T : Type 0} (note : T → Note) (log : ClientLog) (power new : Power (Client T) T) (cell : IsCell note log power) (e : Input)
+pub heard_cell : {T : Type 0} (note : T → Note) (log : ClientLog) (power new : Power (Client T) T) (cell : IsCell note log power) (e : FrameInput)
     (step : Result ClientOuts Fault) (came : NodeInput) (taken : Option ℕ) (net after : Network) (history : List HistoryEntry) (failures : ℕ) → ask_of came ≡ Meets e
     → StepEnds (client_kind note log.opening) cell.kept.past e new (reply_and_frames step)
     → Hears (is_left_out (outcome_of (reply_and_frames step)).0) nodes.Client came taken (outcome_of (reply_and_frames step)).0
@@ -127,13 +127,13 @@ replayed note log power cell = (cell.kept.past, cell.kept.made)
 
 -- ---- why it was refused
 
-pub unready_why : {T : Type 0} (note : T → Note) (log : ClientLog) (power : Power (Client T) T) (cell : IsCell note log power) (e : Input) (fault : Fault)
+pub unready_why : {T : Type 0} (note : T → Note) (log : ClientLog) (power : Power (Client T) T) (cell : IsCell note log power) (e : FrameInput) (fault : Fault)
     (shown : ClientLog) → IsReady (is_up log.opening cell.kept.past) (Err fault) → log ≡ shown → HasWhy (rules shown.opening) shown.history (Meets e) fault
 unready_why note log power cell e fault shown h view =
     subst (λ (l : ClientLog). HasWhy (rules l.opening) l.history (Meets e) fault) view
     (hub.unready_why (client_kind note log.opening) log.history power cell.kept (Meets e) fault h)
 
-pub told_why : {T : Type 0} (note : T → Note) (log : ClientLog) (power new : Power (Client T) T) (cell : IsCell note log power) (e : Input)
+pub told_why : {T : Type 0} (note : T → Note) (log : ClientLog) (power new : Power (Client T) T) (cell : IsCell note log power) (e : FrameInput)
     (step : Result ClientOuts Fault) (first sent : ℕ) (result : Result CallerAnswer Fault) (shown : ClientLog) → is_up log.opening cell.kept.past ≡ true
     → StepEnds (client_kind note log.opening) cell.kept.past e new (reply_and_frames step) → result ≡ told_at first sent (outcome_of (reply_and_frames step)).0
     → log ≡ shown

@@ -10,7 +10,7 @@ use Rattle.messages.specs.FrameBytes.{frame_spelling}
 use Rattle.messages.specs.Hearing.{frames_by, with_entry}
 use Rattle.hub.specs.Laws.{FramesAreSpelled}
 use Rattle.hub.specs.Network.{Room, HasRoom, IsSpelled}
-use Rattle.server_core.specs.declared.input.Input.{Input}
+use Rattle.server_core.specs.Inputs.{FrameInput}
 use Rattle.server_core.specs.declared.outs.Outs.{Outs}
 use Rattle.server_core.specs.declared.server.Server.{Server}
 use Rattle.server_core.specs.Bounds.{AreShort}
@@ -40,7 +40,7 @@ use Rattle.hub.specs.Network.{Network}
 none_short : AreShort []
 none_short = record { few = omega arith; short = All-nil (λ (frame : List ℕ). length frame ≤ 1073) }
 
-pub short : {T : Type 0} (note : T → Note) (o : Opening) (past : List FrameEntry) (e : Input) (new : Power (Server T) T) (step : Result Outs Fault)
+pub short : {T : Type 0} (note : T → Note) (o : Opening) (past : List FrameEntry) (e : FrameInput) (new : Power (Server T) T) (step : Result Outs Fault)
     → OpensInRange o → CameInRange (packets_heard o past) → StepEnds (server_kind note o) past e new (reply_and_frames step)
     → AreShort (outcome_of (reply_and_frames step)).1
 short note o past e new (Ok outs) i h f = f.short i h
@@ -61,7 +61,7 @@ by_entry : FramesAreSpelled → PacketsAreInRange → (o : Opening) (past : List
 by_entry law ranges o past i None came = All-nil IsSpelled
 by_entry law ranges o past i (Some x) came = packets_spelled law (packets o past x) (ranges o past x i (came x refl))
 
-pub sent_spelled : {T : Type 0} (note : T → Note) (o : Opening) (past : List FrameEntry) (e : Input) (new : Power (Server T) T) (step : Result Outs Fault)
+pub sent_spelled : {T : Type 0} (note : T → Note) (o : Opening) (past : List FrameEntry) (e : FrameInput) (new : Power (Server T) T) (step : Result Outs Fault)
     → FramesAreSpelled → PacketsAreInRange → OpensInRange o → CameInRange (packets_heard o past) → StepEnds (server_kind note o) past e new (reply_and_frames step)
     → All IsSpelled (outcome_of (reply_and_frames step)).1
 sent_spelled note o past e new step law ranges i h f =
@@ -72,7 +72,7 @@ sent_spelled note o past e new step law ranges i h f =
 -- ---- what came is entered
 
 pub heard_cell : {T : Type 0} (note : T → Note) (o : Opening) (power new : Power (Server T) T) (before after : List HistoryEntry) (applied : List ℕ)
-    (cell : IsCell note o power before applied) (e : Input) (step : Result Outs Fault) (node : Node) (came : NodeInput) (taken : Option ℕ) (net net' : Network)
+    (cell : IsCell note o power before applied) (e : FrameInput) (step : Result Outs Fault) (node : Node) (came : NodeInput) (taken : Option ℕ) (net net' : Network)
     → ask_of came ≡ Meets e
     → StepEnds (server_kind note o) cell.kept.past e new (reply_and_frames step)
     → Hears (is_left_out (outcome_of (reply_and_frames step)).0) node came taken (outcome_of (reply_and_frames step)).0

@@ -8,9 +8,7 @@ use Rattle.disk_model.specs.Notes.{Note}
 use Rattle.disk_model.specs.Steps as steps
 use Rattle.messages.specs.Hearing.{Meaning, Says as Speaks, Waits, Spoils, Strays, meaning, heard_by, with_entry}
 use Rattle.messages.specs.Senses.{Sense, Hears, Keeps, Drops, Misses, sense_of, is_drop, refusal_of_sense, SenseInRange, UnlessMemory, HearsInRange}
-use Rattle.server_core.specs.declared.event.Event.{Event}
-use Rattle.server_core.specs.declared.event.Event.TheVariants as events
-use Rattle.server_core.specs.declared.input.Input.{Input}
+use Rattle.server_core.specs.Inputs.{PacketInput, FrameInput}
 use Rattle.server_core.specs.declared.input.Input.TheVariants as inputs
 use Rattle.server_core.specs.declared.outs.Outs.{Outs}
 use Rattle.server_core.specs.declared.server.Server.{Server}
@@ -30,14 +28,14 @@ use Rattle.cells.specs.ServerStands.{reply_and_frames}
 
 -- ---- what came stays within its ranges
 
-by_meaning : (o : Opening) (past : List packets.Entry) (left : Left) (m : Meaning) → SenseInRange IsInRange (sense_of events.Deliver m) → CameInRange past
+by_meaning : (o : Opening) (past : List packets.Entry) (left : Left) (m : Meaning) → SenseInRange IsInRange (sense_of inputs.Deliver m) → CameInRange past
     → CameInRange (with_entry (heard_by (hearing o) left m) past)
 by_meaning o past left (Speaks p) h came = (h, came)
 by_meaning o past left Waits h came = came
 by_meaning o past left Spoils h came = came
 by_meaning o past left Strays h came = came
 
-came_after : (o : Opening) (past : List FrameEntry) (e : Input) (left : Left) → SenseInRange IsInRange (sense o past e) → CameInRange (packets_heard o past)
+came_after : (o : Opening) (past : List FrameEntry) (e : FrameInput) (left : Left) → SenseInRange IsInRange (sense o past e) → CameInRange (packets_heard o past)
     → CameInRange (packets_heard o (Met e left ∷ past))
 came_after o past (inputs.Deliver f) left h came = by_meaning o (packets_heard o past) left (meaning (hearing o) (heard_at o past) f) h came
 came_after o past (inputs.Issue j) left h came = (h, came)
@@ -46,7 +44,7 @@ came_after o past (inputs.CheckDone now a j report) left h came = (h, came)
 
 -- ---- a step
 
-no_drop : (o : Opening) (past : List FrameEntry) (s : Sense Event) (fault : Fault) → refusal_of_sense (hearing o) (packets_heard o past) s ≡ Some fault
+no_drop : (o : Opening) (past : List FrameEntry) (s : Sense PacketInput) (fault : Fault) → refusal_of_sense (hearing o) (packets_heard o past) s ≡ Some fault
     → (fault ≡ FrameBadField → ⊥) → is_drop s ≡ false
 no_drop o past (Hears e) fault h k = refl
 no_drop o past Keeps fault h k = refl
@@ -56,7 +54,7 @@ no_drop o past Drops fault h k = absurd (k (same FrameBadField fault h))
     same x y h = cc
 no_drop o past Misses fault h k = refl
 
-fits : {T : Type 0} (note : T → Note) (o : Opening) (past : List FrameEntry) (e : Input)
+fits : {T : Type 0} (note : T → Note) (o : Opening) (past : List FrameEntry) (e : FrameInput)
     → Fits (server_kind note o) past e (λ sort. UnlessMemory IsInRange sort (sense o past e))
 fits note o past e = record {
   same_up = refl;
@@ -70,7 +68,7 @@ fits note o past e = record {
 }
 
 -- A server that is on takes what comes.
-pub step_ends : {T : Type 0} (note : T → Note) (o : Opening) (past : List FrameEntry) (e : Input) (old server : Server T) (result : Result Outs Fault)
+pub step_ends : {T : Type 0} (note : T → Note) (o : Opening) (past : List FrameEntry) (e : FrameInput) (old server : Server T) (result : Result Outs Fault)
     → is_up o past ≡ true
     → steps.Ends (ends.steps note o) past e old server result → HearsInRange IsInRange (sense o past e) result
     → StepEnds (server_kind note o) past e (On server) (reply_and_frames result)
@@ -83,7 +81,7 @@ step_ends note o past e old server (Err fault) on f h =
 -- ---- the device's failures
 
 -- A step counts a failed save.
-pub step_counts : {T : Type 0} (note : T → Note) (o : Opening) (past : List FrameEntry) (e : Input) (old server : Server T) (result : Result Outs Fault)
+pub step_counts : {T : Type 0} (note : T → Note) (o : Opening) (past : List FrameEntry) (e : FrameInput) (old server : Server T) (result : Result Outs Fault)
     → steps.Ends (ends.steps note o) past e old server result
     → Counts false (note_in note old).failures (note_in note server).failures (reply_and_frames result)
 step_counts note o past e old server (Ok outs) a = tt

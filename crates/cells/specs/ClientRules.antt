@@ -5,8 +5,8 @@ use Rattle.disk_model.specs.declared.left.Left.TheVariants.{NoSave}
 use Rattle.messages.specs.declared.frame.Frame.{Frame}
 use Rattle.messages.specs.declared.refusal.Act.TheVariants as acts
 use Rattle.messages.specs.FrameBytes.{frame_at}
-use Rattle.client_core.specs.declared.input.Input.{Input}
-use Rattle.client_core.specs.declared.input.Input.TheVariants as inputs
+use Rattle.client_core.specs.Inputs.{FrameInput}
+use Rattle.client_core.specs.Inputs as inputs
 use Rattle.client_core.specs.History.{Opening}
 use Rattle.client_core.specs.Words.{words_noted}
 use Rattle.client_core.specs.Hearing.{FrameEntry, Met, Cut, Restart, packets_heard, is_up}
@@ -19,12 +19,12 @@ use Rattle.cells.specs.CoreRules.{CoreRules, rules_of}
 use Rattle.cells.specs.Rules.{Ask, Meets, Cuts, Restarts, Nothing, Rules}
 
 -- The frame that the bytes say is delivered.
-abbrev pub ask_of_frame : Option Frame → Ask Input
+abbrev pub ask_of_frame : Option Frame → Ask FrameInput
 ask_of_frame None = Nothing
 ask_of_frame (Some f) = Meets (inputs.Deliver f)
 
 -- What is asked of the client.
-abbrev pub ask_of : NodeInput → Ask Input
+abbrev pub ask_of : NodeInput → Ask FrameInput
 ask_of (came.Frame bytes) = ask_of_frame (frame_at bytes)
 ask_of (came.Begin text) = Meets (inputs.Begin text)
 ask_of (came.Trigger run act) = Meets (inputs.Trigger run act)
@@ -36,7 +36,7 @@ ask_of came.Restart = Restarts
 ask_of _ = Nothing
 
 -- A begin is answered by its run, a verify by its attempt.
-abbrev pub answer_to : Opening → List FrameEntry → Input → Answer
+abbrev pub answer_to : Opening → List FrameEntry → FrameInput → Answer
 answer_to opening past (inputs.Begin text) =
     Run ((words_noted opening (packets_heard opening past)).runs + 1)
 answer_to opening past (inputs.Verify run text) =
@@ -45,7 +45,7 @@ answer_to opening past _ = Plain
 
 -- What is known of the core of a client, which asks nothing of its caller. A restart is one without
 -- a mirror, and saves nothing; a renewal and the loss of a note are never added.
-abbrev pub core : Opening → CoreRules Input FrameEntry
+abbrev pub core : Opening → CoreRules FrameInput FrameEntry
 core opening = record {
   asked = ask_of;
   is_up = is_up opening;
@@ -62,5 +62,5 @@ core opening = record {
 }
 
 -- The rules of a client that opens by a restart without a mirror.
-abbrev pub rules : Opening → Rules Input FrameEntry
+abbrev pub rules : Opening → Rules FrameInput FrameEntry
 rules opening = rules_of (core opening)

@@ -1,7 +1,7 @@
 -- What is asked of the client, as what comes to it.
 use Rattle.std.specs.Prelude.{Bool, true, false}
-use Rattle.client_core.specs.declared.input.Input.{Input}
-use Rattle.client_core.specs.declared.input.Input.TheVariants as inputs
+use Rattle.client_core.specs.Inputs.{FrameInput}
+use Rattle.client_core.specs.Inputs as inputs
 use Rattle.cells.specs.declared.input.NodeInput.{NodeInput}
 use Rattle.cells.specs.declared.input.NodeInput.TheVariants as came
 use Rattle.cells.specs.declared.client_cell.task.ClientTask.{ClientTask}
@@ -29,7 +29,7 @@ came_of (Stop run) = came.Stop run
 came_of (Verify run text) = came.Verify run text
 
 -- What its core meets by a request.
-abbrev pub input_of : ClientRequest → Input
+abbrev pub input_of : ClientRequest → FrameInput
 input_of (Begin text) = inputs.Begin text
 input_of (Trigger run act) = inputs.Trigger run act
 input_of (Stop run) = inputs.Stop run
@@ -41,6 +41,6 @@ came_in (Frame came frame) = came
 came_in (Request request) = came_of request
 
 -- What its core meets of that.
-abbrev pub input_in : Incoming → Input
+abbrev pub input_in : Incoming → FrameInput
 input_in (Frame came frame) = inputs.Deliver frame
 input_in (Request request) = input_of request

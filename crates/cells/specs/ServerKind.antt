@@ -1,7 +1,7 @@
 -- What kind of node a server under its lock is.
 use Rattle.std.specs.Prelude.{refl, List}
 use Rattle.disk_model.specs.Notes.{Note}
-use Rattle.server_core.specs.declared.input.Input.{Input}
+use Rattle.server_core.specs.Inputs.{FrameInput}
 use Rattle.server_core.specs.declared.outs.Outs.{Outs}
 use Rattle.server_core.specs.declared.server.Server.{Server}
 use Rattle.server_core.specs.Bounds.{AreShort}
@@ -16,7 +16,7 @@ use Rattle.cells.specs.ServerRules.{core}
 
 -- The kind of a server that was opened so.
 abbrev pub server_kind : {T : Type 0} → (T → Note) → Opening →
-    Kind (Server T) T Input FrameEntry Staged Outs
+    Kind (Server T) T FrameInput FrameEntry Staged Outs
 server_kind note opening = record {
   node = nodes.server_kind note opening;
   core = core opening;

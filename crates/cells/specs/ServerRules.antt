@@ -7,7 +7,7 @@ use Rattle.engine.specs.declared.issue.Issue.{Issue}
 use Rattle.disk_model.specs.declared.left.Left.TheVariants.{NoSave, Saved}
 use Rattle.messages.specs.declared.frame.Frame.{Frame}
 use Rattle.messages.specs.FrameBytes.{frame_at}
-use Rattle.server_core.specs.declared.input.Input.{Input}
+use Rattle.server_core.specs.Inputs.{FrameInput}
 use Rattle.server_core.specs.declared.input.Input.TheVariants as inputs
 use Rattle.server_core.specs.History.{Opening}
 use Rattle.server_core.specs.Words.{has_boot}
@@ -21,17 +21,17 @@ use Rattle.cells.specs.CoreRules.{CoreRules, rules_of}
 use Rattle.cells.specs.Rules.{Ask, Meets, Cuts, Restarts, Nothing, Rules}
 
 -- The frame that the bytes say is delivered.
-abbrev pub ask_of_frame : Option Frame → Ask Input
+abbrev pub ask_of_frame : Option Frame → Ask FrameInput
 ask_of_frame None = Nothing
 ask_of_frame (Some f) = Meets (inputs.Deliver f)
 
 -- The report of a check comes, as all that are handed in are within their ranges.
-abbrev pub ask_of_report : Bool → Input → Ask Input
+abbrev pub ask_of_report : Bool → FrameInput → Ask FrameInput
 ask_of_report true e = Meets e
 ask_of_report false e = Nothing
 
 -- What is asked of a server.
-abbrev pub ask_of : NodeInput → Ask Input
+abbrev pub ask_of : NodeInput → Ask FrameInput
 ask_of (came.Frame bytes) = ask_of_frame (frame_at bytes)
 ask_of (came.Issue j) = Meets (inputs.Issue j)
 ask_of (came.WriteDone ticket end) = Meets (inputs.WriteDone ticket end)
@@ -47,7 +47,7 @@ answer_of None = Plain
 answer_of (Some issue) = Issued issue
 
 -- What is known of the core of a server.
-abbrev pub core : Opening → CoreRules Input FrameEntry
+abbrev pub core : Opening → CoreRules FrameInput FrameEntry
 core opening = record {
   asked = ask_of;
   is_up = is_up opening;
@@ -69,5 +69,5 @@ core opening = record {
 }
 
 -- The rules of a server that opens by a restart.
-abbrev pub rules : Opening → Rules Input FrameEntry
+abbrev pub rules : Opening → Rules FrameInput FrameEntry
 rules opening = rules_of (core opening)

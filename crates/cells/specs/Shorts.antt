@@ -3,7 +3,7 @@ use Rattle.std.specs.Prelude.{[], Some, Result, Ok}
 use Rattle.fc_base.specs.declared.fault.Fault.{Fault}
 use Rattle.engine.specs.declared.issue.Issue.TheVariants as issues
 use Rattle.engine.specs.declared.issue.Ticket.{Ticket}
-use Rattle.server_core.specs.declared.event.WriteEnd.TheVariants as ends
+use Rattle.server_core.specs.declared.input.WriteEnd.TheVariants as ends
 use Rattle.messages.specs.declared.refusal.Act.TheVariants as acts
 use Rattle.cells.specs.declared.answer.Answer.{Answer}
 use Rattle.cells.specs.declared.answer.Answer.TheVariants.{Plain, Issued}

@@ -9,8 +9,7 @@ use Rattle.disk_model.specs.Steps.{Answers, Faults}
 use Rattle.messages.specs.declared.packet.PacketParts.{PacketParts}
 use Rattle.messages.specs.declared.body.Body.{Body}
 use Rattle.messages.specs.Nodes.{is_client, is_mirror}
-use Rattle.client_core.specs.declared.call.Call.{Call}
-use Rattle.client_core.specs.declared.call.Call.TheVariants.{Deliver}
+use Rattle.client_core.specs.Inputs.{PacketInput, Deliver}
 use Rattle.client_core.specs.declared.note.ClientNote.{ClientNote}
 use Rattle.client_core.specs.declared.packet_client.PacketClient.{PacketClient}
 use Rattle.client_core.specs.declared.life.Life.{Life}
@@ -31,7 +30,7 @@ use Rattle.client_core.proofs.PeersLemmas.{heard_peers, peers_stay}
 use Rattle.client_core.proofs.RefusalLemmas.{refusal_is}
 
 -- A client that isn't refused is up, and knows what its list says.
-pub free_now : {T : Type 0} (note : T → Note) (client : PacketClient T) (o : Opening) (past : List Entry) (c : Call) → client.durable.down ≡ false
+pub free_now : {T : Type 0} (note : T → Note) (client : PacketClient T) (o : Opening) (past : List Entry) (c : PacketInput) → client.durable.down ≡ false
     → StandsFor note client o past → refusal_by (not client.durable.down) client.peers client.noted c ≡ None
     → (refusal o past c ≡ None) × (words_noted o past ≡ client.noted) × (peers o past ≡ client.peers) × LifeIs client.life (life o past)
 free_now note client o past c up s r =
@@ -40,7 +39,7 @@ free_now note client o past c up s r =
 
 -- The call's save fails.
 pub fails_stored : {T : Type 0} (note : T → Note) (old new : PacketClient T) (kept : Life) (a : Addition) (fault : Fault) (o : Opening) (past : List Entry)
-    (c : Call) → SaysWhatIsWritten → old.durable.down ≡ false → refusal_by (not old.durable.down) old.peers old.noted c ≡ None
+    (c : PacketInput) → SaysWhatIsWritten → old.durable.down ≡ false → refusal_by (not old.durable.down) old.peers old.noted c ≡ None
     → addition_of old.noted c ≡ Some a → (IsNoted old.noted → IsNoted (with_addition a old.noted)) → EachLife old.life (LifeIs kept)
     → Stores note a (record old { life = kept }) new (Err fault) → StandsFor note old o past → Faults (steps note o) past c (sort_of fault) fault old new
 fails_stored note old new kept a fault o past c read up r adds fits same stored s =
@@ -49,7 +48,7 @@ fails_stored note old new kept a fault o past c read up r adds fits same stored 
     (subst (λ n. IsNoted (with_addition a n)) (sym f.1) (fits (subst IsNoted f.1 s.durable.note))) same (sort_of fault) stored
 
 -- The call is answered with a save.
-pub answers_stored : {T : Type 0} (note : T → Note) (old new : PacketClient T) (kept after : Life) (a : Addition) (o : Opening) (past : List Entry) (c : Call)
+pub answers_stored : {T : Type 0} (note : T → Note) (old new : PacketClient T) (kept after : Life) (a : Addition) (o : Opening) (past : List Entry) (c : PacketInput)
     (frames : List (List ℕ)) → SaysWhatIsWritten → old.durable.down ≡ false → refusal_by (not old.durable.down) old.peers old.noted c ≡ None
     → addition_of old.noted c ≡ Some a → (IsNoted old.noted → IsNoted (with_addition a old.noted)) → (u : Unit {0})
     → Stores note a (record old { life = kept }) new (Ok u)
@@ -69,7 +68,7 @@ answers_stored note old new kept after a o past c frames read up r adds fits u s
     }
 
 -- The call is answered without a save.
-pub answers_heard : {T : Type 0} (note : T → Note) (old : PacketClient T) (after : Life) (o : Opening) (past : List Entry) (c : Call) (frames : List (List ℕ))
+pub answers_heard : {T : Type 0} (note : T → Note) (old : PacketClient T) (after : Life) (o : Opening) (past : List Entry) (c : PacketInput) (frames : List (List ℕ))
     → old.durable.down ≡ false → refusal_by (not old.durable.down) old.peers old.noted c ≡ None
     → addition_of old.noted c ≡ None
     → EachLife old.life (λ deeds. frames ≡ frame_bytes (packets_for old.peers old.noted deeds c))
@@ -88,7 +87,7 @@ answers_heard note old after o past c frames up r adds sends lives with is s =
     }
 
 -- The call is answered without a save, and grants nothing.
-pub answers_plain : {T : Type 0} (note : T → Note) (old : PacketClient T) (after : Life) (o : Opening) (past : List Entry) (c : Call) (frames : List (List ℕ))
+pub answers_plain : {T : Type 0} (note : T → Note) (old : PacketClient T) (after : Life) (o : Opening) (past : List Entry) (c : PacketInput) (frames : List (List ℕ))
     → old.durable.down ≡ false → refusal_by (not old.durable.down) old.peers old.noted c ≡ None
     → addition_of old.noted c ≡ None
     → EachLife old.life (λ deeds. frames ≡ frame_bytes (packets_for old.peers old.noted deeds c))

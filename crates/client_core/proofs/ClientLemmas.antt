@@ -3,8 +3,7 @@ use Rattle.std.proofs.Common.{◌≡◌, refl, sym, ◌∙◌, ap, Bool, true, f
 use Rattle.std.specs.Prelude.{not, is_none, is_some}
 use Rattle.fc_base.specs.declared.fault.Fault.{Fault}
 use Rattle.messages.specs.declared.packet.PacketParts.{PacketParts}
-use Rattle.client_core.specs.declared.call.Call.{Call}
-use Rattle.client_core.specs.declared.call.Call.TheVariants.{Deliver}
+use Rattle.client_core.specs.Inputs.{PacketInput, Deliver}
 use Rattle.client_core.specs.declared.packet_client.PacketClient.{PacketClient}
 use Rattle.disk_model.specs.Notes.{Note}
 use Rattle.client_core.specs.Stands.{StandsFor}
@@ -59,7 +58,7 @@ free_adds : (r : Option Fault) (a : Addition) → is_none r ≡ is_some (unless_
 free_adds None a = refl
 free_adds (Some f) a = refl
 
-pub call_would : {T : Type 0} (note : T → Note) (client : PacketClient T) (o : Opening) (past : List Entry) (c : Call) (a : Addition)
+pub call_would : {T : Type 0} (note : T → Note) (client : PacketClient T) (o : Opening) (past : List Entry) (c : PacketInput) (a : Addition)
     → ((x : ClientNote) → addition_of x c ≡ Some a) → StandsFor note client o past
     → is_none (refusal_by (not client.durable.down) client.peers client.noted c) ≡ would_save o past c
 call_would note client o past c a adds s =

@@ -10,7 +10,7 @@ use Rattle.messages.specs.declared.body.Body.TheVariants as bodies
 use Rattle.messages.specs.Nodes.{node_number, is_client, is_mirror, is_node}
 use Rattle.messages.specs.Packets.{is_packet}
 use Rattle.messages.specs.Ranges.{is_body}
-use Rattle.client_core.specs.declared.call.Call.TheVariants.{Deliver}
+use Rattle.client_core.specs.Inputs.{Deliver}
 use Rattle.messages.specs.Bodies.{kind_of}
 use Rattle.messages.specs.Kinds.{is_of_mirror}
 use Rattle.client_core.specs.declared.note.ClientNote.{ClientNote}

@@ -14,7 +14,7 @@ use Rattle.disk_model.specs.Notes.{Note}
 use Rattle.disk_model.specs.Saving.{Unsaved}
 use Rattle.disk_model.specs.Steps.{LeavesNote, Fails, Faults}
 use Rattle.disk_model.proofs.StepLemmas.{and_true, is_own_answer, not_lost, lost_off}
-use Rattle.client_core.specs.declared.call.Call.{Call}
+use Rattle.client_core.specs.Inputs.{PacketInput}
 use Rattle.client_core.specs.declared.packet_client.PacketClient.{PacketClient}
 use Rattle.client_core.specs.declared.life.Life.{Life}
 use Rattle.client_core.specs.declared.note.ClientNote.{ClientNote}
@@ -70,7 +70,7 @@ not_answered None fault b e = cc
 not_answered (Some g) fault b e = refl
 
 -- A refused call in the list changes none of its words.
-pub refused_stands : {T : Type 0} (note : T → Note) (client : PacketClient T) (o : Opening) (past : List Entry) (c : Call) (fault : Fault)
+pub refused_stands : {T : Type 0} (note : T → Note) (client : PacketClient T) (o : Opening) (past : List Entry) (c : PacketInput) (fault : Fault)
     → refusal o past c ≡ Some fault → StandsFor note client o past → StandsFor note client o (Met c NoSave ∷ past)
 refused_stands note client o past c fault r s = record {
   on = s.on ∙ ap not (sym (and_true (is_on past)));
@@ -94,14 +94,14 @@ refused_stands note client o past c fault r s = record {
     by_on true f y e = e refl
     by_on false f y e = refl
 
-pub is_answered_now : (o : Opening) (past : List Entry) (c : Call) → refusal o past c ≡ None → is_answered o past c (saved_for (due o past c)) ≡ true
+pub is_answered_now : (o : Opening) (past : List Entry) (c : PacketInput) → refusal o past c ≡ None → is_answered o past c (saved_for (due o past c)) ≡ true
 is_answered_now o past c free = ap (λ r. is_none r && is_answer (due o past c) (saved_for (due o past c))) free ∙ is_own_answer (due o past c)
 
-pub due_now : (o : Opening) (past : List Entry) (c : Call) → refusal o past c ≡ None → due o past c ≡ addition_of (words_noted o past) c
+pub due_now : (o : Opening) (past : List Entry) (c : PacketInput) → refusal o past c ≡ None → due o past c ≡ addition_of (words_noted o past) c
 due_now o past c free = ap (λ r. unless_refused r (addition_of (words_noted o past) c)) free
 
 -- What an answered call sends.
-pub sends_now : (o : Opening) (past : List Entry) (c : Call) → refusal o past c ≡ None
+pub sends_now : (o : Opening) (past : List Entry) (c : PacketInput) → refusal o past c ≡ None
     → frame_bytes (packets_for (peers o past) (words_noted o past) (life o past) c) ≡ frame_bytes (packets o past (answered_entry o past c))
 sends_now o past c free =
     ap (λ b. frame_bytes (if b then packets_for (peers o past) (words_noted o past) (life o past) c else [])) (sym (is_answered_now o past c free))
@@ -111,7 +111,7 @@ new_noted None n = refl
 new_noted (Some a) n = refl
 
 -- An answered call is added, where what is kept and noted is what it leaves.
-pub answered_stands : {T : Type 0} (note : T → Note) (client : PacketClient T) (o : Opening) (past : List Entry) (c : Call) → refusal o past c ≡ None
+pub answered_stands : {T : Type 0} (note : T → Note) (client : PacketClient T) (o : Opening) (past : List Entry) (c : PacketInput) → refusal o past c ≡ None
     → is_on past ≡ true → client.durable.down ≡ false → client.peers ≡ peers o (answered_entry o past c ∷ past) → o.servers ≤ MAX_SERVERS
     → Says (note client.durable.notes).bytes (noted_after true (addition_of (words_noted o past) c) (words_noted o past))
     → client.noted ≡ noted_after true (addition_of (words_noted o past) c) (words_noted o past)
@@ -138,7 +138,7 @@ answered_stands note client o past c free on up with few says knows lives = reco
 
 -- ---- calls that aren't answered
 
-pub refuses : {T : Type 0} (note : T → Note) (client : PacketClient T) (o : Opening) (past : List Entry) (c : Call) (fault : Fault)
+pub refuses : {T : Type 0} (note : T → Note) (client : PacketClient T) (o : Opening) (past : List Entry) (c : PacketInput) (fault : Fault)
     → refusal_by (not client.durable.down) client.peers client.noted c ≡ Some fault → StandsFor note client o past
     → Faults (steps note o) past c (sort_of fault) fault client client
 refuses note client o past c fault r s =
@@ -151,7 +151,7 @@ pub with_life : {T : Type 0} (note : T → Note) (client : PacketClient T) (kept
 with_life note client kept o past same s =
     record { on = s.on; peers = s.peers; few = s.few; durable = s.durable; knows = s.knows; lives = same (life o (shown_entries past)) s.lives }
 
-pub lacks : {T : Type 0} (note : T → Note) (client : PacketClient T) (kept : Life) (o : Opening) (past : List Entry) (c : Call)
+pub lacks : {T : Type 0} (note : T → Note) (client : PacketClient T) (kept : Life) (o : Opening) (past : List Entry) (c : PacketInput)
     → EachLife client.life (LifeIs kept) → StandsFor note client o past
     → Faults (steps note o) past c sorts.Memory NoMemory client (record client { life = kept })
 lacks note client kept o past c same s = record { why = refl; same_note = refl; unchanged = with_life note client kept o past same s }
@@ -159,7 +159,7 @@ lacks note client kept o past c same s = record { why = refl; same_note = refl; 
 -- ---- a save
 
 -- A client that is down at a failed save stands for the list with what was lost.
-lost_stands : {T : Type 0} (note : T → Note) (client : PacketClient T) (notes : T) (o : Opening) (past : List Entry) (c : Call) (left : Left)
+lost_stands : {T : Type 0} (note : T → Note) (client : PacketClient T) (notes : T) (o : Opening) (past : List Entry) (c : PacketInput) (left : Left)
     → is_on past ≡ true → is_lost left ≡ true → StandsFor note client o past
     → Says (note notes).bytes (noted_after (has_new left) (due o past c) (words_noted o past))
     → StandsFor note (record client { durable = record { notes = notes; down = true } }) o (Met c left ∷ past)
@@ -178,7 +178,7 @@ lost_stands note client notes o past c left on lost s says = record {
 
 -- A call whose save isn't answered.
 pub unsaved : {T : Type 0} (note : T → Note) (old new : PacketClient T) (kept : Life) (a : Addition) (fault : Fault) (o : Opening) (past : List Entry)
-    (c : Call) → SaysWhatIsWritten → old.durable.down ≡ false → StandsFor note old o past → refusal o past c ≡ None
+    (c : PacketInput) → SaysWhatIsWritten → old.durable.down ≡ false → StandsFor note old o past → refusal o past c ≡ None
     → addition_of (words_noted o past) c ≡ Some a → IsNoted (with_addition a (words_noted o past)) → EachLife old.life (LifeIs kept) → (t : FaultSort)
     → Unsaved (λ k. note k.durable.notes) (save_of (with_addition a old.noted) (record old { life = kept }) new) t fault (record old { life = kept }) new
     → Faults (steps note o) past c t fault old new
@@ -229,13 +229,13 @@ unsaved note old new kept a fault o past c read up s free adds fits same sorts.S
         failed LostNew refl is (subst (λ bytes. Says bytes (with_addition a (words_noted o past))) (sym is) (read (with_addition a (words_noted o past)) fits))
 
 -- What a call leaves of the note.
-pub leaves_plain : {T : Type 0} (note : T → Note) (notes : T) (o : Opening) (past : List Entry) (c : Call) → refusal o past c ≡ None
+pub leaves_plain : {T : Type 0} (note : T → Note) (notes : T) (o : Opening) (past : List Entry) (c : PacketInput) → refusal o past c ≡ None
     → addition_of (words_noted o past) c ≡ None
     → LeavesNote (due o past c) (spelling (words_noted o (answered_entry o past c ∷ past))) (note notes) (note notes)
 leaves_plain note notes o past c free adds =
     subst (λ d. LeavesNote d (spelling (words_noted o (answered_entry o past c ∷ past))) (note notes) (note notes)) (sym (due_now o past c free ∙ adds)) refl
 
-pub leaves_stored : {T : Type 0} (note : T → Note) (old new : PacketClient T) (kept : Life) (a : Addition) (o : Opening) (past : List Entry) (c : Call)
+pub leaves_stored : {T : Type 0} (note : T → Note) (old new : PacketClient T) (kept : Life) (a : Addition) (o : Opening) (past : List Entry) (c : PacketInput)
     → old.noted ≡ words_noted o past → refusal o past c ≡ None → addition_of (words_noted o past) c ≡ Some a
     → (r : Unit {0}) → Stores note a (record old { life = kept }) new (Ok r)
     → LeavesNote (due o past c) (spelling (words_noted o (answered_entry o past c ∷ past))) (note old.durable.notes) (note new.durable.notes)
@@ -245,7 +245,7 @@ leaves_stored note old new kept a o past c knows free adds r stored =
     (stored.0 ∙ ap (λ n. record (note old.durable.notes) { bytes = spelling (with_addition a n) }) knows)
 
 -- A call that is answered with a save.
-pub stored_stands : {T : Type 0} (note : T → Note) (old new : PacketClient T) (kept after : Life) (a : Addition) (o : Opening) (past : List Entry) (c : Call)
+pub stored_stands : {T : Type 0} (note : T → Note) (old new : PacketClient T) (kept after : Life) (a : Addition) (o : Opening) (past : List Entry) (c : PacketInput)
     → SaysWhatIsWritten → old.durable.down ≡ false → StandsFor note old o past → refusal o past c ≡ None
     → addition_of (words_noted o past) c ≡ Some a → IsNoted (with_addition a (words_noted o past)) → (r : Unit {0})
     → Stores note a (record old { life = kept }) new (Ok r)
@@ -265,7 +265,7 @@ stored_stands note old new kept after a o past c read up s free adds fits r stor
     (ap (λ (m : PacketClient _). m.noted) stored.1 ∙ is ∙ grown) lives
 
 -- A call that is answered without a save.
-pub plain_stands : {T : Type 0} (note : T → Note) (old : PacketClient T) (after : Life) (o : Opening) (past : List Entry) (c : Call) → old.durable.down ≡ false
+pub plain_stands : {T : Type 0} (note : T → Note) (old : PacketClient T) (after : Life) (o : Opening) (past : List Entry) (c : PacketInput) → old.durable.down ≡ false
     → StandsFor note old o past → refusal o past c ≡ None → addition_of (words_noted o past) c ≡ None
     → LifeIs after (deeds_of (words_noted o past) c ++ life o past) → (with : Peers) → with ≡ peers o (answered_entry o past c ∷ past)
     → StandsFor note (record old { life = after; peers = with }) o (answered_entry o past c ∷ past)

@@ -17,8 +17,7 @@ use Rattle.messages.specs.FrameLaws.{FramesAreFew}
 use Rattle.messages.specs.FramesOf.{spelled_frames}
 use Rattle.messages.specs.Laws.{IsPacket, LengthsAreBounded}
 use Rattle.messages.specs.Nodes.{node_number}
-use Rattle.client_core.specs.declared.call.Call.{Call}
-use Rattle.client_core.specs.declared.call.Call.TheVariants.{Begin, Trigger, Stop, Verify, Deliver, Tick}
+use Rattle.client_core.specs.Inputs.{PacketInput, Begin, Trigger, Stop, Verify, Deliver, Tick}
 use Rattle.client_core.specs.declared.note.ClientNote.{ClientNote}
 use Rattle.client_core.specs.Words.{words_noted, peers, has_mirror, is_answered}
 use Rattle.state_table.specs.Kept.{kept_of}
@@ -92,7 +91,7 @@ mirror_few false b g states deeds = omega arith
 together : (f r c : List PacketParts) (a b : ℕ) → length r ≤ a → length f + length c ≤ b → length (f ++ (r ++ c)) ≤ a + b
 together f r c a b h k = omega (arith, length-append f (r ++ c), length-append r c)
 
-called : (o : Opening) (past : List Entry) (c : Call) → o.servers ≤ MAX_SERVERS
+called : (o : Opening) (past : List Entry) (c : PacketInput) → o.servers ≤ MAX_SERVERS
     → length (packets_for (peers o past) (words_noted o past) (life o past) c) ≤ most_packets o past c
 called o past (Begin text) l = each_server o.servers (bodies.Jobs ((words_noted o past).runs + 1) text) l
 called o past (Trigger run act) l = each_server o.servers (bodies.Trigger run act) l

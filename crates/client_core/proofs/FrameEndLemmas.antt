@@ -14,10 +14,8 @@ use Rattle.messages.proofs.SenseLemmas.{hears_in_range}
 use Rattle.hearing.specs.Hearers as hearers
 use Rattle.hearing.proofs.HearerLemmas.{with_core, unframed_ends}
 use Rattle.hearing.proofs.NodeLemmas.{answers, faults, sent}
-use Rattle.client_core.specs.declared.call.Call.{Call}
-use Rattle.client_core.specs.declared.call.Call.TheVariants as calls
-use Rattle.client_core.specs.declared.input.Input.{Input}
-use Rattle.client_core.specs.declared.input.Input.TheVariants.{Begin, Trigger, Stop, Verify, Deliver, Tick}
+use Rattle.client_core.specs.Inputs.{PacketInput, FrameInput, Begin, Trigger, Stop, Verify, Deliver, Tick}
+use Rattle.client_core.specs.Inputs as inputs
 use Rattle.client_core.specs.declared.packet_client.PacketClient.{PacketClient}
 use Rattle.client_core.specs.declared.client.Client.{Client}
 use Rattle.client_core.specs.History as history
@@ -33,25 +31,25 @@ use Rattle.client_core.specs.FrameAnswers.{sense}
 use Rattle.client_core.specs.HearingKind.{hearing_kind, hearing_laws}
 use Rattle.client_core.specs.FrameEnds.{StandsFor, Sends, most_packets, client_node, steps}
 
-came_with : (c : Call) (left : Left) (past : List history.Entry) → IsInRange c → CameInRange past → CameInRange (history.Met c left ∷ past)
-came_with (calls.Begin text) left past b h = h
-came_with (calls.Trigger run act) left past b h = h
-came_with (calls.Stop run) left past b h = h
-came_with (calls.Verify run text) left past b h = h
-came_with (calls.Deliver p) left past b h = (b, h)
-came_with calls.Tick left past b h = h
+came_with : (c : PacketInput) (left : Left) (past : List history.Entry) → IsInRange c → CameInRange past → CameInRange (history.Met c left ∷ past)
+came_with (inputs.Begin text) left past b h = h
+came_with (inputs.Trigger run act) left past b h = h
+came_with (inputs.Stop run) left past b h = h
+came_with (inputs.Verify run text) left past b h = h
+came_with (inputs.Deliver p) left past b h = (b, h)
+came_with inputs.Tick left past b h = h
 
 -- How many packets at most, by what the input is.
-abbrev most_in : Opening → List history.Entry → Sense Call → ℕ
+abbrev most_in : Opening → List history.Entry → Sense PacketInput → ℕ
 most_in o past s = heard_or MAX_SERVERS (bounds.most_packets o past) s
 
-meaning_most : (o : Opening) (past : List history.Entry) (m : Meaning) → most_in o past (sense_of calls.Deliver m) ≡ MAX_SERVERS
+meaning_most : (o : Opening) (past : List history.Entry) (m : Meaning) → most_in o past (sense_of inputs.Deliver m) ≡ MAX_SERVERS
 meaning_most o past (Says p) = refl
 meaning_most o past Waits = refl
 meaning_most o past Spoils = refl
 meaning_most o past Strays = refl
 
-most_is : (o : Opening) (past : List FrameEntry) (e : Input) → most_in o (packets_heard o past) (sense o past e) ≡ most_packets o past e
+most_is : (o : Opening) (past : List FrameEntry) (e : FrameInput) → most_in o (packets_heard o past) (sense o past e) ≡ most_packets o past e
 most_is o past (Begin text) = refl
 most_is o past (Trigger run act) = refl
 most_is o past (Stop run) = refl
@@ -62,8 +60,8 @@ most_is o past Tick = refl
 -- ---- what is sent
 
 -- It is what the list says.
-sends : {T : Type 0} (note : T → Note) (o : Opening) (past : List FrameEntry) (e : Input) (frames : List (List ℕ)) → FramesAreShort
-    → (s : Sense Call) → sense o past e ≡ s → SenseInRange IsInRange s
+sends : {T : Type 0} (note : T → Note) (o : Opening) (past : List FrameEntry) (e : FrameInput) (frames : List (List ℕ)) → FramesAreShort
+    → (s : Sense PacketInput) → sense o past e ≡ s → SenseInRange IsInRange s
     → hearers.Sends (hearing_kind note o) (packets_heard o past) s frames → Sends o past e frames
 sends note o past e frames short (Hears c) is brings a =
     let list = packets_heard o past in
@@ -83,7 +81,7 @@ sends note o past e frames short Misses is brings a = absurd a
 -- ---- how a call ends
 
 -- As what hears in the client ends.
-pub hearer_ends : {T : Type 0} (note : T → Note) (o : Opening) (past : List FrameEntry) (e : Input) (old new : Client T)
+pub hearer_ends : {T : Type 0} (note : T → Note) (o : Opening) (past : List FrameEntry) (e : FrameInput) (old new : Client T)
     (result : Result (List (List ℕ)) Fault) → FramesAreShort → HearsInRange IsInRange (sense o past e) result
     → Ends (hearers.steps (hearing_kind note o)) (map coming_of past) (arrival e) old.hearer new.hearer result → Ends (steps note o) past e old new result
 hearer_ends note o past e old new (Ok frames) short brings h =
@@ -95,7 +93,7 @@ abbrev with_hearers_core : {T : Type 0} → Client T → PacketClient T → Clie
 with_hearers_core client core = record { hearer = with_core client.hearer core }
 
 -- What isn't a frame is heard as it comes.
-pub whole_ends : {T : Type 0} (note : T → Note) (o : Opening) (past : List FrameEntry) (e : Input) (c : Call) (old : Client T) (core : PacketClient T)
+pub whole_ends : {T : Type 0} (note : T → Note) (o : Opening) (past : List FrameEntry) (e : FrameInput) (c : PacketInput) (old : Client T) (core : PacketClient T)
     (result : Result (List (List ℕ)) Fault) → FramesAreShort → IsInRange c → arrival e ≡ Unframed c → StandsFor note old o past
     → Ends (whole.steps note o) (packets_heard o past) c old.hearer.core core result → Ends (steps note o) past e old (with_hearers_core old core) result
 whole_ends note o past e c old core result short brings is w h =
@@ -106,7 +104,7 @@ whole_ends note o past e c old core result short brings is w h =
     (subst (λ a. Ends (hearers.steps k) list a old.hearer (with_core old.hearer core) result) (sym is)
     (unframed_ends k (hearing_laws note o) list c old.hearer core result w h))
 
-pub whole_gives : {T : Type 0} (note : T → Note) (o : Opening) (past : List FrameEntry) (e : Input) (c : Call) (used : ℕ) (old : Client T)
+pub whole_gives : {T : Type 0} (note : T → Note) (o : Opening) (past : List FrameEntry) (e : FrameInput) (c : PacketInput) (used : ℕ) (old : Client T)
     (core : PacketClient T) (result : Result (ℕ × List (List ℕ)) Fault) → FramesAreShort → IsInRange c → arrival e ≡ Unframed c
     → StandsFor note old o past → EndsWithNumber (whole.steps note o) (packets_heard o past) c used old.hearer.core core result
     → EndsWithNumber (steps note o) past e used old (with_hearers_core old core) result

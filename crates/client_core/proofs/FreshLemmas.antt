@@ -13,8 +13,7 @@ use Rattle.messages.specs.Nodes.{node_number}
 use Rattle.disk_model.specs.declared.left.Left.{Left}
 use Rattle.disk_model.specs.declared.left.Left.TheVariants.{NoSave, Saved, LostNew, LostOld}
 use Rattle.disk_model.specs.Left.{has_new}
-use Rattle.client_core.specs.declared.call.Call.{Call}
-use Rattle.client_core.specs.declared.call.Call.TheVariants.{Begin, Trigger, Stop, Verify, Deliver, Tick}
+use Rattle.client_core.specs.Inputs.{PacketInput, Begin, Trigger, Stop, Verify, Deliver, Tick}
 use Rattle.state_table.specs.Kept.{kept_of}
 use Rattle.client_core.specs.declared.note.ClientNote.{ClientNote}
 use Rattle.client_core.specs.History.{Opening, Entry, Met, Cut, Restart, Renew, Lose}
@@ -23,7 +22,8 @@ use Rattle.client_core.specs.Saves.{Addition, unless_kept, addition_by, addition
 use Rattle.client_core.specs.Words.{is_on, words_noted, peers, may_renew}
 use Rattle.client_core.specs.Note.{is_blank, new_note}
 use Rattle.client_core.specs.Life.{Deed, Triggers, Stops, Hears, deeds_of, deeds_done}
-use Rattle.client_core.specs.Laws.{loses_nothing, runs_in, attempts_in, AreFresh, RunsAreFresh, AttemptsAreFresh}
+use Rattle.client_core.specs.Laws.{loses_nothing}
+use Rattle.client_core.specs.Numbering.{runs_in, attempts_in, AreFresh, RunsAreFresh, AttemptsAreFresh}
 use Rattle.client_core.proofs.KeptLemmas.{blank_then}
 use Rattle.fc_base.proofs.ListLemmas.{all_weaker}
 
@@ -113,7 +113,7 @@ body_only new n (bodies.State jobs state) = state_only new n (kept_of state.key 
 body_only new n (bodies.Copy state) = state_only new n (kept_of state.key n.kept) state
 body_only new n _ = (refl, refl)
 
-pub run_step : (first : ℕ) (n : ClientNote) (c : Call) (r : Option Fault) (left : Left) (ds : List Deed) → Known first n.runs (runs_in ds)
+pub run_step : (first : ℕ) (n : ClientNote) (c : PacketInput) (r : Option Fault) (left : Left) (ds : List Deed) → Known first n.runs (runs_in ds)
     → Known first (noted_after (has_new left) (unless_refused r (addition_of n c)) n).runs
     (runs_in (if is_none r && is_answer (unless_refused r (addition_of n c)) left then deeds_of n c ++ ds else ds))
 run_step first n c (Some f) left ds k = k
@@ -147,7 +147,7 @@ known_runs o (Lose ∷ past) h = cc
 pub runs_are_fresh : RunsAreFresh
 runs_are_fresh o past h = (known_runs o past h).fresh
 
-pub attempt_step : (first : ℕ) (n : ClientNote) (c : Call) (r : Option Fault) (left : Left) (ds : List Deed) → Known first n.attempts (attempts_in ds)
+pub attempt_step : (first : ℕ) (n : ClientNote) (c : PacketInput) (r : Option Fault) (left : Left) (ds : List Deed) → Known first n.attempts (attempts_in ds)
     → Known first (noted_after (has_new left) (unless_refused r (addition_of n c)) n).attempts
     (attempts_in (if is_none r && is_answer (unless_refused r (addition_of n c)) left then deeds_of n c ++ ds else ds))
 attempt_step first n c (Some f) left ds k = k

@@ -14,8 +14,7 @@ use Rattle.messages.specs.Ranges.{is_generation, is_text}
 use Rattle.disk_model.specs.declared.left.Left.{Left}
 use Rattle.disk_model.specs.declared.left.Left.TheVariants.{NoSave, Saved, LostNew, LostOld}
 use Rattle.disk_model.specs.Left.{has_new, is_lost, is_saved}
-use Rattle.client_core.specs.declared.call.Call.{Call}
-use Rattle.client_core.specs.declared.call.Call.TheVariants.{Begin, Trigger, Stop, Verify, Deliver, Tick}
+use Rattle.client_core.specs.Inputs.{PacketInput, Begin, Trigger, Stop, Verify, Deliver, Tick}
 use Rattle.client_core.specs.declared.note.ClientNote.{ClientNote}
 use Rattle.client_core.specs.declared.peers.Peers.{Peers}
 use Rattle.client_core.specs.History.{Opening, Entry, Met, Cut, Restart, Renew, Lose}
@@ -24,7 +23,7 @@ use Rattle.client_core.specs.Refusals.{is_begun, is_of_generation, is_free_to_nu
 use Rattle.client_core.specs.Saves.{Addition, addition_by, addition_of, unless_refused, due_by, noted_after, is_answer}
 use Rattle.client_core.specs.Words.{is_on, words_noted, peers, may_renew}
 use Rattle.client_core.specs.Life.{Deed, Triggers, Stops, Hears, deeds_of, deeds_done}
-use Rattle.client_core.specs.Laws.{runs_in, attempts_in, generations, is_mirrored, NumbersAreGivenOnce}
+use Rattle.client_core.specs.Numbering.{runs_in, attempts_in, generations, is_mirrored, NumbersAreGivenOnce}
 use Rattle.client_core.proofs.ApartLemmas.{Apart, give, lose, pass, renew, start, unsaved}
 use Rattle.client_core.proofs.FreshLemmas.{attempts_are_fresh, body_only, runs_are_fresh}
 use Rattle.client_core.proofs.NotedLemmas.{begin_faults, verify_faults}
@@ -55,7 +54,7 @@ either : (gs : List ℕ) (f : List Deed → List ℕ) (b : Bool) (g used : ℕ) 
 either gs f true g used x y h k = h
 either gs f false g used x y h k = k
 
-run_step : (gs : List ℕ) (on : Bool) (peers : Peers) (n : ClientNote) (c : Call) (r : Option Fault) (left : Left) (ds : List Deed) → r ≡ refusal_by on peers n c
+run_step : (gs : List ℕ) (on : Bool) (peers : Peers) (n : ClientNote) (c : PacketInput) (r : Option Fault) (left : Left) (ds : List Deed) → r ≡ refusal_by on peers n c
     → (on ≡ true → 1 ≤ n.generation) → Apart gs n.generation n.runs (runs_in ds)
     → Apart gs n.generation (noted_after (has_new left) (unless_refused r (addition_of n c)) n).runs
     (runs_in (if is_none r && is_answer (unless_refused r (addition_of n c)) left then deeds_of n c ++ ds else ds))
@@ -81,7 +80,7 @@ run_step gs on peers n (Deliver p) None left ds e g k =
     (either gs runs_in b n.generation n.runs (Hears (node_number p.from) p.body ∷ ds) ds k k)
 run_step gs on peers n Tick None left ds e g k = either gs runs_in (is_answer {D = Addition} None left) n.generation n.runs ds ds k k
 
-attempt_step : (gs : List ℕ) (on : Bool) (peers : Peers) (n : ClientNote) (c : Call) (r : Option Fault) (left : Left) (ds : List Deed) → r ≡ refusal_by on peers n c
+attempt_step : (gs : List ℕ) (on : Bool) (peers : Peers) (n : ClientNote) (c : PacketInput) (r : Option Fault) (left : Left) (ds : List Deed) → r ≡ refusal_by on peers n c
     → (on ≡ true → 1 ≤ n.generation) → Apart gs n.generation n.attempts (attempts_in ds)
     → Apart gs n.generation (noted_after (has_new left) (unless_refused r (addition_of n c)) n).attempts
     (attempts_in (if is_none r && is_answer (unless_refused r (addition_of n c)) left then deeds_of n c ++ ds else ds))
@@ -124,7 +123,7 @@ above_none g h = omega arith
 some_or_none : (g : ℕ) → (g == 0) ≡ false → 1 ≤ g
 some_or_none g h = grind (arith, nat_tests)
 
-off_blank : (on new : Bool) (ps : Peers) (n : ClientNote) (c : Call) → (on ≡ true → ⊥) → is_blank n ≡ true → is_blank (noted_after new (due_by on ps n c) n) ≡ true
+off_blank : (on new : Bool) (ps : Peers) (n : ClientNote) (c : PacketInput) → (on ≡ true → ⊥) → is_blank n ≡ true → is_blank (noted_after new (due_by on ps n c) n) ≡ true
 off_blank true new ps n c f h = absurd (f refl)
 off_blank false new ps n c f h = h
 

@@ -13,8 +13,7 @@ use Rattle.messages.specs.Ranges.{is_text, is_generation, KeepsState}
 use Rattle.messages.specs.Laws.{IsPacket}
 use Rattle.disk_model.specs.declared.left.Left.{Left}
 use Rattle.disk_model.specs.Left.{has_new}
-use Rattle.client_core.specs.declared.call.Call.{Call}
-use Rattle.client_core.specs.declared.call.Call.TheVariants.{Begin, Trigger, Stop, Verify, Deliver, Tick}
+use Rattle.client_core.specs.Inputs.{PacketInput, Begin, Trigger, Stop, Verify, Deliver, Tick}
 use Rattle.fc_base.specs.declared.limits.TheConstants.{MAX_GENERATION}
 use Rattle.state_table.specs.Kept.{kept_of}
 use Rattle.state_table.specs.Laws.{KeysStayApart}
@@ -90,7 +89,7 @@ body_step apart new n (bodies.State jobs s) e h k = one_state apart new n (kept_
 body_step apart new n (bodies.Copy s) e h k = one_state apart new n (kept_of s.key n.kept) s refl e h k
 body_step apart new n _ e h k = k
 
-step : KeysStayApart → (on : Bool) (peers : Peers) (n : ClientNote) (c : Call) (left : Left) (r : Option Fault) → r ≡ refusal_by on peers n c
+step : KeysStayApart → (on : Bool) (peers : Peers) (n : ClientNote) (c : PacketInput) (left : Left) (r : Option Fault) → r ≡ refusal_by on peers n c
     → AllByRecursion IsPacket (packet_in (Met c left)) → IsNoted n → IsNoted (noted_after (has_new left) (unless_refused r (addition_of n c)) n)
 step apart on peers n c left (Some f) e h k = k
 step apart on peers n (Begin text) left None e h k =

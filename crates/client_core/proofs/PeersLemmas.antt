@@ -12,8 +12,7 @@ use Rattle.messages.specs.declared.body.Body.TheVariants as bodies
 use Rattle.messages.specs.declared.node.Node.{Node}
 use Rattle.messages.specs.declared.node.Node.TheVariants as nodes
 use Rattle.messages.specs.Nodes.{node_number, is_client, is_mirror}
-use Rattle.client_core.specs.declared.call.Call.{Call}
-use Rattle.client_core.specs.declared.call.Call.TheVariants.{Deliver}
+use Rattle.client_core.specs.Inputs.{PacketInput, Deliver}
 use Rattle.client_core.specs.declared.note.ClientNote.{ClientNote}
 use Rattle.client_core.specs.declared.peers.Peers.{Peers}
 use Rattle.client_core.specs.History.{Opening, Entry, Met}
@@ -29,7 +28,7 @@ generation_stays true (Some NextAttempt) n = refl
 generation_stays true (Some (Keep state)) n = refl
 generation_stays false (Some a) n = refl
 
-pub same_generation : (o : Opening) (past : List Entry) (c : Call) (left : Left)
+pub same_generation : (o : Opening) (past : List Entry) (c : PacketInput) (left : Left)
     → (words_noted o (Met c left ∷ past)).generation ≡ (words_noted o past).generation
 same_generation o past c left = generation_stays (has_new left) (due o past c) (words_noted o past)
 
@@ -37,7 +36,7 @@ grants_if : (b : Bool) (now before : List ℕ) → (b ≡ true → now ≡ []) �
 grants_if true now before e = ap (λ gs. gs ++ before) (e refl)
 grants_if false now before e = refl
 
-by_parts : (o : Opening) (past : List Entry) (c : Call) (left : Left) → granted_generations (Met c left ∷ past) ≡ granted_generations past
+by_parts : (o : Opening) (past : List Entry) (c : PacketInput) (left : Left) → granted_generations (Met c left ∷ past) ≡ granted_generations past
     → peers o (Met c left ∷ past) ≡ peers o past
 by_parts o past c left e = λ i. record {
   servers = o.servers;
@@ -46,7 +45,7 @@ by_parts o past c left e = λ i. record {
 }
 
 -- A call that grants nothing leaves with whom the client is.
-pub peers_stay : (o : Opening) (past : List Entry) (c : Call) (left : Left) → granted_by c ≡ [] → peers o (Met c left ∷ past) ≡ peers o past
+pub peers_stay : (o : Opening) (past : List Entry) (c : PacketInput) (left : Left) → granted_by c ≡ [] → peers o (Met c left ∷ past) ≡ peers o past
 peers_stay o past c left e = by_parts o past c left (grants_if (is_on past && has_mirror past) (granted_by c) (granted_generations past) (λ b. e))
 
 -- ---- a refused call
@@ -70,7 +69,7 @@ grant_of peers n nodes.Client to body fault m h = no_sender (is_client to)
 grant_of peers n nodes.Mirror nodes.Mirror body fault m h = refl
 grant_of peers n nodes.Mirror (nodes.Server t) body fault m h = refl
 
-no_grant : (peers : Peers) (n : ClientNote) (c : Call) (fault : Fault) → peers.mirror ≡ true → refusal_by true peers n c ≡ Some fault → granted_by c ≡ []
+no_grant : (peers : Peers) (n : ClientNote) (c : PacketInput) (fault : Fault) → peers.mirror ≡ true → refusal_by true peers n c ≡ Some fault → granted_by c ≡ []
 no_grant peers n (Deliver p) fault m h = grant_of peers n p.from p.to p.body fault m h
 no_grant peers n _ fault m h = refl
 
@@ -80,7 +79,7 @@ on_parts true false h = cc
 on_parts false b h = cc
 
 -- A refused call leaves with whom the client is: a grant is never refused.
-pub refused_peers : (o : Opening) (past : List Entry) (c : Call) (left : Left) (fault : Fault) → refusal o past c ≡ Some fault
+pub refused_peers : (o : Opening) (past : List Entry) (c : PacketInput) (left : Left) (fault : Fault) → refusal o past c ≡ Some fault
     → peers o (Met c left ∷ past) ≡ peers o past
 refused_peers o past c left fault r = by_parts o past c left (grants_if (is_on past && has_mirror past) (granted_by c) (granted_generations past) (λ b.
     let on = on_parts (is_on past) (has_mirror past) b in

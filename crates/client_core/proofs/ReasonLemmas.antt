@@ -12,8 +12,7 @@ use Rattle.messages.specs.Nodes.{node_number}
 use Rattle.messages.specs.Bodies.{kind_of}
 use Rattle.messages.specs.Kinds.{is_of_mirror}
 use Rattle.disk_model.specs.declared.left.Left.{Left}
-use Rattle.client_core.specs.declared.call.Call.{Call}
-use Rattle.client_core.specs.declared.call.Call.TheVariants.{Begin, Trigger, Stop, Verify, Deliver, Tick}
+use Rattle.client_core.specs.Inputs.{PacketInput, Begin, Trigger, Stop, Verify, Deliver, Tick}
 use Rattle.state_table.specs.Kept.{kept_of}
 use Rattle.client_core.specs.declared.note.ClientNote.{ClientNote}
 use Rattle.client_core.specs.declared.peers.Peers.{Peers}
@@ -50,11 +49,11 @@ IsAsked (requests.Open ts) = Unit {0}
 IsAsked _ = ⊥
 
 -- the server says this
-abbrev pub IsSaid : Call → ℕ → Body → Type 0
+abbrev pub IsSaid : PacketInput → ℕ → Body → Type 0
 IsSaid c s body = c ≡ Deliver (from_server body s)
 
 -- why this goes to the server
-abbrev pub Why : ClientNote → List Deed → Call → ℕ → Body → Type 0
+abbrev pub Why : ClientNote → List Deed → PacketInput → ℕ → Body → Type 0
 Why n deeds c s (bodies.Jobs run text) = ((c ≡ Begin text) × (run ≡ n.runs + 1)) ⊎ ((text ≡ text_of run deeds) × IsBegun (begin_at run s deeds))
 Why n deeds c s (bodies.Start run) = IsBegun (begin_at run s deeds)
 Why n deeds c s (bodies.Trigger run act) = (c ≡ Trigger run act) ⊎ ((1 ≤ run) × (run ≤ n.runs))
@@ -71,56 +70,56 @@ Why n deeds c s (bodies.NoSaved run attempt job) = IsSaid c s (bodies.WantState 
 Why n deeds c s _ = ⊥
 
 -- a packet that is sent to a server
-abbrev pub SendsTo : ℕ → ClientNote → List Deed → Call → PacketParts → Type 0
+abbrev pub SendsTo : ℕ → ClientNote → List Deed → PacketInput → PacketParts → Type 0
 SendsTo servers n deeds c p = (s : ℕ) × (s < servers) × (p ≡ to_server p.body s) × Why n deeds c s p.body
 
 -- why this goes to the mirror
-abbrev pub WhyMirror : ClientNote → Call → Body → Type 0
+abbrev pub WhyMirror : ClientNote → PacketInput → Body → Type 0
 WhyMirror n c (bodies.Copy state) = Contains n.kept state ⊎ ((s : ℕ) × (jobs : ℕ) × IsSaid c s (bodies.State jobs state))
 WhyMirror n c (bodies.Fetch generation) = (generation ≡ n.generation) × (0 < generation)
 WhyMirror n c _ = ⊥
 
 -- a packet that is sent to the mirror
-abbrev pub Mirrors : Bool → ClientNote → Call → PacketParts → Type 0
+abbrev pub Mirrors : Bool → ClientNote → PacketInput → PacketParts → Type 0
 Mirrors mirror n c p = (mirror ≡ true) × (p ≡ to_mirror p.body) × WhyMirror n c p.body
 
 -- a packet that is sent
-abbrev pub Sends : Peers → ClientNote → List Deed → Call → PacketParts → Type 0
+abbrev pub Sends : Peers → ClientNote → List Deed → PacketInput → PacketParts → Type 0
 Sends peers n deeds c p = SendsTo peers.servers n deeds c p ⊎ Mirrors peers.mirror n c p
 
-to_each : (servers : ℕ) (n : ClientNote) (deeds : List Deed) (c : Call) (body : Body) → ((s : ℕ) → Why n deeds c s body)
+to_each : (servers : ℕ) (n : ClientNote) (deeds : List Deed) (c : PacketInput) (body : Body) → ((s : ℕ) → Why n deeds c s body)
     → AllByRecursion (SendsTo servers n deeds c) (to_all servers body)
 to_each servers n deeds c body w = map_of (λ s. s < servers) (SendsTo servers n deeds c) (to_server body) (numbers_below servers)
     (all_below servers servers (omega arith)) (λ s l. (s, l, refl, w s))
 
-starting : (servers : ℕ) (n : ClientNote) (deeds : List Deed) (c : Call) (run s : ℕ) (b : Beginning) → s < servers → begin_at run s deeds ≡ b
+starting : (servers : ℕ) (n : ClientNote) (deeds : List Deed) (c : PacketInput) (run s : ℕ) (b : Beginning) → s < servers → begin_at run s deeds ≡ b
     → AllByRecursion (SendsTo servers n deeds c) (start_for run s b)
 starting servers n deeds c run s begins.Staging l e = ((s, l, refl, subst IsBegun (sym e) tt), tt)
 starting servers n deeds c run s _ l e = tt
 
-jobs_again : (servers : ℕ) (n : ClientNote) (deeds : List Deed) (c : Call) (run s : ℕ) (b : Beginning) → s < servers → begin_at run s deeds ≡ b
+jobs_again : (servers : ℕ) (n : ClientNote) (deeds : List Deed) (c : PacketInput) (run s : ℕ) (b : Beginning) → s < servers → begin_at run s deeds ≡ b
     → AllByRecursion (SendsTo servers n deeds c) (jobs_once_more run (text_of run deeds) s b)
 jobs_again servers n deeds c run s begins.Starting l e = ((s, l, refl, inr (refl, subst IsBegun (sym e) tt)), tt)
 jobs_again servers n deeds c run s _ l e = tt
 
-wanted : (servers : ℕ) (n : ClientNote) (deeds : List Deed) (c : Call) (run attempt job s : ℕ) (x : Option State) → s < servers
+wanted : (servers : ℕ) (n : ClientNote) (deeds : List Deed) (c : PacketInput) (run attempt job s : ℕ) (x : Option State) → s < servers
     → IsSaid c s (bodies.WantState run attempt job) → kept_of (record { run = run; server = s; job = job }) n.kept ≡ x
     → SendsTo servers n deeds c (state_for run attempt job s x)
 wanted servers n deeds c run attempt job s (Some state) l h e = (s, l, refl, (run, job, h, e))
 wanted servers n deeds c run attempt job s None l h e = (s, l, refl, h)
 
 -- what goes to servers may go out
-server_too : (peers : Peers) (n : ClientNote) (deeds : List Deed) (c : Call) (ps : List PacketParts) → AllByRecursion (SendsTo peers.servers n deeds c) ps
+server_too : (peers : Peers) (n : ClientNote) (deeds : List Deed) (c : PacketInput) (ps : List PacketParts) → AllByRecursion (SendsTo peers.servers n deeds c) ps
     → AllByRecursion (Sends peers n deeds c) ps
 server_too peers n deeds c ps h = all_weaker (SendsTo peers.servers n deeds c) (Sends peers n deeds c) ps (λ p w. inl w) h
 
-copied : (peers : Peers) (n : ClientNote) (deeds : List Deed) (c : Call) (s jobs : ℕ) (state : State) (m : Bool) (x : Option State) → peers.mirror ≡ m
+copied : (peers : Peers) (n : ClientNote) (deeds : List Deed) (c : PacketInput) (s jobs : ℕ) (state : State) (m : Bool) (x : Option State) → peers.mirror ≡ m
     → IsSaid c s (bodies.State jobs state) → AllByRecursion (Sends peers n deeds c) (copy_for m state x)
 copied peers n deeds c s jobs state true None m h = (inr (m, refl, inr (s, jobs, h)), tt)
 copied peers n deeds c s jobs state true (Some k) m h = tt
 copied peers n deeds c s jobs state false x m h = tt
 
-replied : (peers : Peers) (n : ClientNote) (deeds : List Deed) (c : Call) (s : ℕ) (body : Body) → s < peers.servers → IsSaid c s body
+replied : (peers : Peers) (n : ClientNote) (deeds : List Deed) (c : PacketInput) (s : ℕ) (body : Body) → s < peers.servers → IsSaid c s body
     → AllByRecursion (Sends peers n deeds c) (replies peers.mirror n deeds s body)
 replied peers n deeds c s (bodies.JobsOk run jobs) l h =
     server_too peers n deeds c (start_for run s (begin_at run s deeds)) (starting peers.servers n deeds c run s (begin_at run s deeds) l refl)
@@ -135,18 +134,18 @@ replied peers n deeds c s (bodies.Refused r) l h =
     (λ b. jobs_again peers.servers n deeds c r.run s (begin_at r.run s deeds) l refl))
 replied peers n deeds c s _ l h = tt
 
-begun_again : (servers : ℕ) (n : ClientNote) (deeds : List Deed) (c : Call) (run s : ℕ) (b : Beginning) → s < servers → begin_at run s deeds ≡ b
+begun_again : (servers : ℕ) (n : ClientNote) (deeds : List Deed) (c : PacketInput) (run s : ℕ) (b : Beginning) → s < servers → begin_at run s deeds ≡ b
     → AllByRecursion (SendsTo servers n deeds c) (begin_again run (text_of run deeds) s b)
 begun_again servers n deeds c run s begins.Staging l e = ((s, l, refl, inr (refl, subst IsBegun (sym e) tt)), tt)
 begun_again servers n deeds c run s begins.Starting l e = ((s, l, refl, subst IsBegun (sym e) tt), tt)
 begun_again servers n deeds c run s _ l e = tt
 
-asked_again : (servers : ℕ) (n : ClientNote) (deeds : List Deed) (c : Call) (body : Body) (s : ℕ) (q : Request) → s < servers → (IsAsked q → Why n deeds c s body)
+asked_again : (servers : ℕ) (n : ClientNote) (deeds : List Deed) (c : PacketInput) (body : Body) (s : ℕ) (q : Request) → s < servers → (IsAsked q → Why n deeds c s body)
     → AllByRecursion (SendsTo servers n deeds c) (packets_again body s q)
 asked_again servers n deeds c body s (requests.Open ts) l w = ((s, l, refl, w tt), tt)
 asked_again servers n deeds c body s _ l w = tt
 
-of_run : (servers : ℕ) (n : ClientNote) (deeds : List Deed) (c : Call) (run : ℕ) → (1 ≤ run) × (run ≤ n.runs)
+of_run : (servers : ℕ) (n : ClientNote) (deeds : List Deed) (c : PacketInput) (run : ℕ) → (1 ≤ run) × (run ≤ n.runs)
     → AllByRecursion (SendsTo servers n deeds c) (run_again servers deeds run)
 of_run servers n deeds c run used =
     let low : 1 ≤ run = used.0 in
@@ -163,7 +162,7 @@ of_run servers n deeds c run used =
     (flat_of (λ s. s < servers) (SendsTo servers n deeds c) (λ s. packets_again (bodies.Stop run) s (stop_at run s deeds)) (numbers_below servers) each
     (λ s l. asked_again servers n deeds c (bodies.Stop run) s (stop_at run s deeds) l (λ a. inr (low, high)))))
 
-of_attempt : (servers : ℕ) (n : ClientNote) (deeds : List Deed) (c : Call) (attempt : ℕ)
+of_attempt : (servers : ℕ) (n : ClientNote) (deeds : List Deed) (c : PacketInput) (attempt : ℕ)
     → AllByRecursion (SendsTo servers n deeds c) (attempt_again servers deeds attempt)
 of_attempt servers n deeds c attempt =
     flat_of (λ s. s < servers) (SendsTo servers n deeds c)
@@ -181,26 +180,26 @@ heard peers n deeds p ours = elim (cases_Bool (is_of_mirror (kind_of p.body))) [
 ]
 
 -- what a tick sends to the mirror
-fetched : (peers : Peers) (n : ClientNote) (deeds : List Deed) (c : Call) (m g r : Bool) → peers.mirror ≡ m → nat_lt 0 n.generation ≡ g
+fetched : (peers : Peers) (n : ClientNote) (deeds : List Deed) (c : PacketInput) (m g r : Bool) → peers.mirror ≡ m → nat_lt 0 n.generation ≡ g
     → AllByRecursion (Sends peers n deeds c) (if m && (g && r) then to_mirror (bodies.Fetch n.generation) ∷ [] else [])
 fetched peers n deeds c true true true m g = (inr (m, refl, (refl, ltb-true 0 n.generation g)), tt)
 fetched peers n deeds c true true false m g = tt
 fetched peers n deeds c true false r m g = tt
 fetched peers n deeds c false g r m e = tt
 
-copied_again : (peers : Peers) (n : ClientNote) (deeds : List Deed) (c : Call) (state : State) (known : Bool) → peers.mirror ≡ true → Contains n.kept state
+copied_again : (peers : Peers) (n : ClientNote) (deeds : List Deed) (c : PacketInput) (state : State) (known : Bool) → peers.mirror ≡ true → Contains n.kept state
     → AllByRecursion (Sends peers n deeds c) (if known then [] else to_mirror (bodies.Copy state) ∷ [])
 copied_again peers n deeds c state true m h = tt
 copied_again peers n deeds c state false m h = (inr (m, refl, inl h), tt)
 
-all_copied : (peers : Peers) (n : ClientNote) (deeds : List Deed) (c : Call) (m : Bool) → peers.mirror ≡ m
+all_copied : (peers : Peers) (n : ClientNote) (deeds : List Deed) (c : PacketInput) (m : Bool) → peers.mirror ≡ m
     → AllByRecursion (Sends peers n deeds c) (copies_again m n.kept deeds)
 all_copied peers n deeds c true m =
     flat_of (λ s. Contains n.kept s) (Sends peers n deeds c) (copy_again deeds) n.kept (each_is_there n.kept)
     (λ s h. copied_again peers n deeds c s (is_copied s.key deeds) m h)
 all_copied peers n deeds c false m = tt
 
-called : (on : Bool) (peers : Peers) (n : ClientNote) (deeds : List Deed) (c : Call) → AllByRecursion (λ r. (1 ≤ r) × (r ≤ n.runs)) (runs_of deeds)
+called : (on : Bool) (peers : Peers) (n : ClientNote) (deeds : List Deed) (c : PacketInput) → AllByRecursion (λ r. (1 ≤ r) × (r ≤ n.runs)) (runs_of deeds)
     → refusal_by on peers n c ≡ None → AllByRecursion (Sends peers n deeds c) (packets_for peers n deeds c)
 called on peers n deeds (Begin text) begun e = server_too peers n deeds (Begin text) (to_all peers.servers (bodies.Jobs (n.runs + 1) text))
     (to_each peers.servers n deeds (Begin text) (bodies.Jobs (n.runs + 1) text) (λ s. inl (refl, refl)))
@@ -223,12 +222,12 @@ called on peers n deeds Tick begun e =
     (all_copied peers n deeds Tick peers.mirror refl))
 
 -- an answered call, and why it sends a packet
-pub record IsSent (o : Opening) (past : List Entry) (c : Call) (left : Left) (p : PacketParts) : Type 0 where
+pub record IsSent (o : Opening) (past : List Entry) (c : PacketInput) (left : Left) (p : PacketParts) : Type 0 where
   pub answers : is_answered o past c left ≡ true
   pub taken : refusal o past c ≡ None
   pub why : Sends (peers o past) (words_noted o past) (life o past) c p
 
-pub all_sent : (o : Opening) (past : List Entry) (c : Call) (left : Left) → AllByRecursion (IsSent o past c left) (packets o past (Met c left))
+pub all_sent : (o : Opening) (past : List Entry) (c : PacketInput) (left : Left) → AllByRecursion (IsSent o past c left) (packets o past (Met c left))
 all_sent o past c left =
     all_where (IsSent o past c left) (is_answered o past c left) (packets_for (peers o past) (words_noted o past) (life o past) c)
     (λ a.
@@ -237,5 +236,5 @@ all_sent o past c left =
     (packets_for (peers o past) (words_noted o past) (life o past) c) (λ p w. record { answers = a; taken = e; why = w })
     (called (is_on past) (peers o past) (words_noted o past) (life o past) c (runs_were_begun o past) e))
 
-pub sent_why : (o : Opening) (past : List Entry) (c : Call) (left : Left) (p : PacketParts) → Contains (packets o past (Met c left)) p → IsSent o past c left p
+pub sent_why : (o : Opening) (past : List Entry) (c : PacketInput) (left : Left) (p : PacketParts) → Contains (packets o past (Met c left)) p → IsSent o past c left p
 sent_why o past c left p h = each_of (IsSent o past c left) (packets o past (Met c left)) p (all_sent o past c left) h

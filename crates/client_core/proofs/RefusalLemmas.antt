@@ -9,8 +9,7 @@ use Rattle.disk_model.specs.Notes.{Note}
 use Rattle.messages.specs.declared.body.Body.{Body}
 use Rattle.messages.specs.declared.body.Body.TheVariants as bodies
 use Rattle.messages.specs.Ranges.{is_text}
-use Rattle.client_core.specs.declared.call.Call.{Call}
-use Rattle.client_core.specs.declared.call.Call.TheVariants.{Begin, Trigger, Stop, Verify, Deliver, Tick}
+use Rattle.client_core.specs.Inputs.{PacketInput, Begin, Trigger, Stop, Verify, Deliver, Tick}
 use Rattle.client_core.specs.declared.packet_client.PacketClient.{PacketClient}
 use Rattle.client_core.specs.declared.note.ClientNote.{ClientNote}
 use Rattle.client_core.specs.declared.peers.Peers.{Peers}
@@ -27,12 +26,12 @@ on_of true false e = refl
 on_of false true e = refl
 on_of false false e = cc
 
-same_refusal : (on : Bool) (p q : Peers) (n m : ClientNote) (c : Call) → (on ≡ true → p ≡ q) → (on ≡ true → m ≡ n) → refusal_by on p m c ≡ refusal_by on q n c
+same_refusal : (on : Bool) (p q : Peers) (n m : ClientNote) (c : PacketInput) → (on ≡ true → p ≡ q) → (on ≡ true → m ≡ n) → refusal_by on p m c ≡ refusal_by on q n c
 same_refusal true p q n m c f e = ap (λ x. refusal_by true x m c) (f refl) ∙ ap (λ x. refusal_by true q x c) (e refl)
 same_refusal false p q n m c f e = refl
 
 -- What the client refuses is what the list says.
-pub refusal_is : {T : Type 0} (note : T → Note) (client : PacketClient T) (o : Opening) (past : List Entry) (c : Call) → StandsFor note client o past
+pub refusal_is : {T : Type 0} (note : T → Note) (client : PacketClient T) (o : Opening) (past : List Entry) (c : PacketInput) → StandsFor note client o past
     → refusal_by (not client.durable.down) client.peers client.noted c ≡ refusal o past c
 refusal_is note client o past c s =
     ap (λ on. refusal_by on client.peers client.noted c) (on_of client.durable.down (is_on past) s.on)
@@ -44,7 +43,7 @@ body_refusals n (bodies.State jobs state) = state_refusals n.kept state
 body_refusals n (bodies.Copy state) = state_refusals n.kept state
 body_refusals n _ = tt
 
-call_refusals : (servers : Peers) (n : ClientNote) (c : Call) → AllByRecursion IsRefusal (faults_of servers n c)
+call_refusals : (servers : Peers) (n : ClientNote) (c : PacketInput) → AllByRecursion IsRefusal (faults_of servers n c)
 call_refusals servers n (Begin text) = let spent = not (has_next servers n.generation n.runs) in
     more_refusals (not (is_text text)) JobTooLong (when spent NumbersSpent) refl (one_refusal spent NumbersSpent refl)
 call_refusals servers n (Trigger run act) = one_refusal (not (is_begun n run)) NoSuchRun refl
@@ -57,7 +56,7 @@ call_refusals servers n (Verify run text) =
 call_refusals servers n (Deliver p) = more_refusals (not (is_for_client servers p)) Misdirected (faults_of_body n p.body) refl (body_refusals n p.body)
 call_refusals servers n Tick = tt
 
-pub refusal_sort : (on : Bool) (servers : Peers) (n : ClientNote) (c : Call) (fault : Fault) → refusal_by on servers n c ≡ Some fault → IsRefusal fault
+pub refusal_sort : (on : Bool) (servers : Peers) (n : ClientNote) (c : PacketInput) (fault : Fault) → refusal_by on servers n c ≡ Some fault → IsRefusal fault
 refusal_sort on servers n c fault e = first_refusal _ fault (more_refusals (not on) Down (faults_of servers n c) refl (call_refusals servers n c)) e
 
 -- ---- what a call that isn't refused has

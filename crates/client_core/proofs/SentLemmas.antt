@@ -11,8 +11,7 @@ use Rattle.messages.specs.declared.node.Node.TheVariants as nodes
 use Rattle.messages.specs.Bodies.{kind_of}
 use Rattle.disk_model.specs.declared.left.Left.{Left}
 use Rattle.disk_model.specs.Left.{has_new}
-use Rattle.client_core.specs.declared.call.Call.{Call}
-use Rattle.client_core.specs.declared.call.Call.TheVariants.{Deliver}
+use Rattle.client_core.specs.Inputs.{PacketInput, Deliver}
 use Rattle.state_table.specs.Kept.{kept_of}
 use Rattle.state_table.specs.Laws.{FoundHasItsKey, LastIsFound}
 use Rattle.client_core.specs.declared.note.ClientNote.{ClientNote}
@@ -27,7 +26,7 @@ use Rattle.client_core.proofs.HeardLemmas.{has_one, own_state, taken_in}
 use Rattle.fc_base.proofs.ListLemmas.{first_of, none_in}
 use Rattle.client_core.proofs.ReasonLemmas.{IsSaid, SendsTo, Why, WhyMirror, sent_why}
 
-client_kind : (n : ClientNote) (deeds : List Deed) (c : Call) (s : ℕ) (body : Body) → Why n deeds c s body → is_for_server (kind_of body) ≡ true
+client_kind : (n : ClientNote) (deeds : List Deed) (c : PacketInput) (s : ℕ) (body : Body) → Why n deeds c s body → is_for_server (kind_of body) ≡ true
 client_kind n deeds c s (bodies.Jobs run text) w = refl
 client_kind n deeds c s (bodies.Start run) w = refl
 client_kind n deeds c s (bodies.Trigger run act) w = refl
@@ -38,7 +37,7 @@ client_kind n deeds c s (bodies.Saved attempt state) w = refl
 client_kind n deeds c s (bodies.NoSaved run attempt job) w = refl
 client_kind n deeds c s _ w = absurd w
 
-mirror_kind : (n : ClientNote) (c : Call) (body : Body) → WhyMirror n c body → is_for_mirror (kind_of body) ≡ true
+mirror_kind : (n : ClientNote) (c : PacketInput) (body : Body) → WhyMirror n c body → is_for_mirror (kind_of body) ≡ true
 mirror_kind n c (bodies.Copy state) w = refl
 mirror_kind n c (bodies.Fetch generation) w = refl
 mirror_kind n c _ w = absurd w
@@ -53,7 +52,7 @@ packets_go_to_peers o past (Restart mirror) p h = absurd (none_in p h)
 packets_go_to_peers o past (Renew g left) p h = absurd (none_in p h)
 packets_go_to_peers o past Lose p h = absurd (none_in p h)
 
-saved_by : FoundHasItsKey → (o : Opening) (past : List Entry) (c : Call) (p : PacketParts) (attempt : ℕ) (state : State)
+saved_by : FoundHasItsKey → (o : Opening) (past : List Entry) (c : PacketInput) (p : PacketParts) (attempt : ℕ) (state : State)
     → SendsTo o.servers (words_noted o past) (life o past) c p → p.body ≡ bodies.Saved attempt state → kept_state o past state.key ≡ Some state
 saved_by has o past c p attempt state w e =
     let v : Why (words_noted o past) (life o past) c w.0 (bodies.Saved attempt state) = subst (Why (words_noted o past) (life o past) c w.0) e w.3 in
@@ -72,7 +71,7 @@ saved_is_kept has o past (Renew g left) p attempt state h e = absurd (none_in p 
 saved_is_kept has o past Lose p attempt state h e = absurd (none_in p h)
 
 -- Each Copy is of a state of the note, or of the State that has just come.
-copy_by : (o : Opening) (past : List Entry) (c : Call) (left : Left) (state : State) → WhyMirror (words_noted o past) c (bodies.Copy state)
+copy_by : (o : Opening) (past : List Entry) (c : PacketInput) (left : Left) (state : State) → WhyMirror (words_noted o past) c (bodies.Copy state)
     → Contains (words_noted o past).kept state ⊎ ((server jobs : ℕ) × Contains (packet_in (Met c left)) (from_server (bodies.State jobs state) server))
 copy_by o past c left state (inl kept) = inl kept
 copy_by o past c left state (inr said) =
@@ -100,7 +99,7 @@ answered_one : LastIsFound → (n : ClientNote) (left : Left) (state : State) (r
 answered_one last n left state None a = has_one last n left (kept_of state.key n.kept) state refl a
 answered_one last n left state (Some f) a = cc
 
-kept_by : LastIsFound → (o : Opening) (past : List Entry) (c : Call) (left : Left) (jobs s : ℕ) (state : State) → IsSaid c s (bodies.State jobs state)
+kept_by : LastIsFound → (o : Opening) (past : List Entry) (c : PacketInput) (left : Left) (jobs s : ℕ) (state : State) → IsSaid c s (bodies.State jobs state)
     → is_answered o past c left ≡ true → refusal o past c ≡ None
     → (state.key.server ≡ s) × ((x : State) × (kept_of state.key (words_noted o (Met c left ∷ past)).kept ≡ Some x))
 kept_by last o past c left jobs s state e a r =
@@ -119,7 +118,7 @@ AckedFor after entry run server job =
     ((state : State) × (kept_of (record { run = run; server = server; job = job }) after.kept ≡ Some state))
     ⊎ ((jobs : ℕ) × Contains (packet_in entry) (from_server (bodies.NoState run job jobs) server))
 
-acked : LastIsFound → (o : Opening) (past : List Entry) (c : Call) (left : Left) (run server job : ℕ) → is_answered o past c left ≡ true
+acked : LastIsFound → (o : Opening) (past : List Entry) (c : PacketInput) (left : Left) (run server job : ℕ) → is_answered o past c left ≡ true
     → refusal o past c ≡ None → Why (words_noted o past) (life o past) c server (bodies.StateAck run job)
     → AckedFor (words_noted o (Met c left ∷ past)) (Met c left) run server job
 acked last o past c left run server job a r (inl w) =

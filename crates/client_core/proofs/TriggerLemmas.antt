@@ -20,8 +20,7 @@ use Rattle.messages.specs.declared.refusal.Reason.TheVariants as reasons
 use Rattle.messages.specs.Nodes.{node_number}
 use Rattle.disk_model.specs.declared.left.Left.{Left}
 use Rattle.disk_model.specs.Left.{has_new}
-use Rattle.client_core.specs.declared.call.Call.{Call}
-use Rattle.client_core.specs.declared.call.Call.TheVariants.{Begin, Trigger, Stop, Verify, Deliver, Tick}
+use Rattle.client_core.specs.Inputs.{PacketInput, Begin, Trigger, Stop, Verify, Deliver, Tick}
 use Rattle.state_table.specs.Kept.{kept_of}
 use Rattle.state_table.specs.Laws.{LastIsFound}
 use Rattle.client_core.specs.declared.note.ClientNote.{ClientNote}
@@ -198,7 +197,7 @@ heard last servers n run server from to (bodies.Refused r) left before q ours a 
     either n more run server (r.run == run) (trigger_refused r.asked r.reason q) q (λ e. denied n more run server r.asked r.reason q k) k
 heard last servers n run server from to _ left before q ours a here k = k
 
-called : LastIsFound → (on : Bool) (servers : Peers) (n : ClientNote) (c : Call) (left : Left) (before : List PacketParts) (run server : ℕ) (deeds : List Deed)
+called : LastIsFound → (on : Bool) (servers : Peers) (n : ClientNote) (c : PacketInput) (left : Left) (before : List PacketParts) (run server : ℕ) (deeds : List Deed)
     (r : Option Fault) → r ≡ refusal_by on servers n c
     → Known (noted_after (has_new left) (unless_refused r (addition_of n c)) n) (packet_in (Met c left) ++ before) run server (trigger_at run server deeds)
     → Known (noted_after (has_new left) (unless_refused r (addition_of n c)) n) (packet_in (Met c left) ++ before) run server

@@ -8,8 +8,7 @@ use Rattle.disk_model.specs.declared.left.Left.{Left}
 use Rattle.disk_model.specs.declared.left.Left.TheVariants.{NoSave, Saved, LostNew, LostOld}
 use Rattle.disk_model.specs.Left.{has_new}
 use Rattle.messages.specs.Nodes.{node_number}
-use Rattle.client_core.specs.declared.call.Call.{Call}
-use Rattle.client_core.specs.declared.call.Call.TheVariants.{Begin, Trigger, Stop, Verify, Deliver, Tick}
+use Rattle.client_core.specs.Inputs.{PacketInput, Begin, Trigger, Stop, Verify, Deliver, Tick}
 use Rattle.client_core.specs.declared.note.ClientNote.{ClientNote}
 use Rattle.client_core.specs.declared.peers.Peers.{Peers}
 use Rattle.client_core.specs.History.{Opening, Entry, Met, Cut, Restart, Renew, Lose}
@@ -43,7 +42,7 @@ weaker : (r a s b : ℕ) (ds : List Deed) → r ≤ s → a ≤ b → AllByRecur
 weaker r a s b ds l m h = all_weaker (Within r a) (Within s b) ds (λ d k. more r a s b d l m k) h
 
 -- a run that is triggered or stopped was begun
-abbrev Own : ClientNote → Call → Type 0
+abbrev Own : ClientNote → PacketInput → Type 0
 Own n (Trigger run act) = (1 ≤ run) × (run ≤ n.runs)
 Own n (Stop run) = (1 ≤ run) × (run ≤ n.runs)
 Own n _ = Unit {0}
@@ -52,7 +51,7 @@ begun_below : (n : ClientNote) (run : ℕ) → is_begun n run ≡ true → (1 �
 unfolding is_begun
 begun_below n run h = let p = and_parts (nat_le 1 run) (nat_le run n.runs) h in (leb-true 1 run p.0, leb-true run n.runs p.1)
 
-own : (on : Bool) (servers : Peers) (n : ClientNote) (c : Call) → refusal_by on servers n c ≡ None → Own n c
+own : (on : Bool) (servers : Peers) (n : ClientNote) (c : PacketInput) → refusal_by on servers n c ≡ None → Own n c
 own true servers n (Trigger run act) h = begun_below n run (run_free false (is_begun n run) h).1
 own true servers n (Stop run) h = begun_below n run (run_free false (is_begun n run) h).1
 own false servers n (Trigger run act) h = cc
@@ -71,7 +70,7 @@ same : (runs attempts : ℕ) (b : Bool) (ds : List Deed) → AllByRecursion (Wit
 same runs attempts true ds k = k
 same runs attempts false ds k = k
 
-step : (n : ClientNote) (c : Call) (r : Option Fault) (left : Left) (ds : List Deed) → (r ≡ None → Own n c) → AllByRecursion (Within n.runs n.attempts) ds
+step : (n : ClientNote) (c : PacketInput) (r : Option Fault) (left : Left) (ds : List Deed) → (r ≡ None → Own n c) → AllByRecursion (Within n.runs n.attempts) ds
     → AllByRecursion (Within (noted_after (has_new left) (unless_refused r (addition_of n c)) n).runs
     (noted_after (has_new left) (unless_refused r (addition_of n c)) n).attempts)
     (if is_none r && is_answer (unless_refused r (addition_of n c)) left then deeds_of n c ++ ds else ds)

@@ -3,8 +3,7 @@ use Rattle.std.specs.Prelude.{ℕ, ◌+◌, ◌*◌, ◌≤◌, Bool, true, fals
 use Rattle.fc_base.specs.declared.limits.TheConstants.{MAX_SERVERS}
 use Rattle.messages.specs.declared.limits.TheConstants.{MAX_FRAMED, MAX_FRAMES}
 use Rattle.disk_model.specs.declared.left.Left.{Left}
-use Rattle.client_core.specs.declared.call.Call.{Call}
-use Rattle.client_core.specs.declared.call.Call.TheVariants.{Tick}
+use Rattle.client_core.specs.Inputs.{PacketInput, Tick}
 use Rattle.client_core.specs.History.{Opening, Entry, Met}
 use Rattle.client_core.specs.Framed.{frame_bytes}
 use Rattle.client_core.specs.Life.{Deed, Hears, life}
@@ -27,14 +26,14 @@ most_copies opening past = if has_mirror past then 1 + length (words_noted openi
 
 -- A tick sends at most one packet to each server for each request of this life, and those to the
 -- mirror; any other call at most 8 packets.
-abbrev pub most_packets : Opening → List Entry → Call → ℕ
+abbrev pub most_packets : Opening → List Entry → PacketInput → ℕ
 most_packets opening past Tick = opening.servers * requests opening past + most_copies opening past
 most_packets opening past _ = MAX_SERVERS
 
 -- A call sends no more.
 abbrev pub PacketsAreFew : Type 0
 PacketsAreFew =
-    (opening : Opening) (past : List Entry) (c : Call) (left : Left) →
+    (opening : Opening) (past : List Entry) (c : PacketInput) (left : Left) →
     opening.servers ≤ MAX_SERVERS →
     length (packets opening past (Met c left)) ≤ most_packets opening past c
 
@@ -46,6 +45,6 @@ pub record AreShort (most : ℕ) (frames : List (List ℕ)) : Type 0 where
 -- What a call sends is short, where what came is within its ranges.
 abbrev pub FramesAreShort : Type 0
 FramesAreShort =
-    (opening : Opening) (past : List Entry) (c : Call) (left : Left) →
+    (opening : Opening) (past : List Entry) (c : PacketInput) (left : Left) →
     OpensInRange opening → CameInRange (Met c left ∷ past) →
     AreShort (most_packets opening past c) (frame_bytes (packets opening past (Met c left)))

@@ -5,7 +5,7 @@ use Rattle.disk_model.specs.Left.{saved_for}
 use Rattle.disk_model.specs.Notes.{Note}
 use Rattle.disk_model.specs.Saving.{Save, Saves}
 use Rattle.disk_model.specs.Steps.{Steps}
-use Rattle.client_core.specs.declared.call.Call.{Call}
+use Rattle.client_core.specs.Inputs.{PacketInput}
 use Rattle.client_core.specs.declared.packet_client.PacketClient.{PacketClient}
 use Rattle.client_core.specs.declared.note.ClientNote.{ClientNote}
 use Rattle.client_core.specs.Note.{spelling}
@@ -17,13 +17,13 @@ use Rattle.client_core.specs.Packets.{packets}
 use Rattle.client_core.specs.Stands.{StandsFor}
 
 -- What an answered call leaves in the list: it saved, where it was due to.
-abbrev pub answered_entry : Opening → List Entry → Call → Entry
+abbrev pub answered_entry : Opening → List Entry → PacketInput → Entry
 answered_entry opening past c = Met c (saved_for (due opening past c))
 
 -- The steps of a client that takes packets: its note, what its list says of a call, and what is
 -- sent. A refused call leaves it as it was.
 abbrev pub steps : {T : Type 0} → (T → Note) → Opening →
-    Steps (PacketClient T) Call Entry Addition (List (List ℕ))
+    Steps (PacketClient T) PacketInput Entry Addition (List (List ℕ))
 steps note opening = record {
   note = λ client. note client.durable.notes;
   StandsFor = λ past client. StandsFor note client opening past;

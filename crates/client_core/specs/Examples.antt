@@ -13,8 +13,7 @@ use Rattle.messages.specs.declared.refusal.Asked.TheVariants as asks
 use Rattle.messages.specs.declared.refusal.Reason.{Reason}
 use Rattle.messages.specs.declared.refusal.Reason.TheVariants as reasons
 use Rattle.state_table.specs.Examples.{state}
-use Rattle.client_core.specs.declared.call.Call.{Call}
-use Rattle.client_core.specs.declared.call.Call.TheVariants.{Begin, Trigger, Stop, Verify, Deliver, Tick}
+use Rattle.client_core.specs.Inputs.{PacketInput, Begin, Trigger, Stop, Verify, Deliver, Tick}
 use Rattle.client_core.specs.declared.outcome.Outcome.TheVariants as outcomes
 use Rattle.client_core.specs.declared.outcome.RequestKind.TheVariants as kinds
 use Rattle.client_core.specs.Note.{blank}
@@ -35,11 +34,11 @@ abbrev pub text : List ℕ
 text = 91 ∷ []
 
 -- Server 0 says this.
-abbrev pub server_says : Body → Call
+abbrev pub server_says : Body → PacketInput
 server_says body = Deliver (from_server body 0)
 
 -- It refuses a request of run 1, in this attempt.
-abbrev pub server_refuses : Asked → Reason → ℕ → Call
+abbrev pub server_refuses : Asked → Reason → ℕ → PacketInput
 server_refuses asked reason attempt =
     server_says (bodies.Refused (record {
       asked = asked;
@@ -52,16 +51,16 @@ server_refuses asked reason attempt =
     }))
 
 -- A call that is answered: it saves where it has something to save.
-abbrev pub answered_entry : List Entry → Call → Entry
+abbrev pub answered_entry : List Entry → PacketInput → Entry
 answered_entry past c = Met c (if is_some (due opening past c) then Saved else NoSave)
 
 -- The list of these calls, the newest first, behind these entries.
-abbrev pub with_calls : List Entry → List Call → List Entry
+abbrev pub with_calls : List Entry → List PacketInput → List Entry
 with_calls past [] = past
 with_calls past (c ∷ calls) = answered_entry (with_calls past calls) c ∷ with_calls past calls
 
 -- What is sent in answer to a call.
-abbrev pub sent_bodies : List Entry → Call → List Body
+abbrev pub sent_bodies : List Entry → PacketInput → List Body
 sent_bodies past c = map (λ p. p.body) (packets opening past (answered_entry past c))
 
 -- Run 1 is begun.

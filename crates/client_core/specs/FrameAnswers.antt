@@ -7,9 +7,7 @@ use Rattle.messages.specs.declared.frame.Frame.TheVariants.{Whole, Piece}
 use Rattle.messages.specs.Hearing.{entry_of, frames_by}
 use Rattle.messages.specs.Senses as senses
 use Rattle.messages.specs.Senses.{Sense, refusal_of_sense, heard_or}
-use Rattle.client_core.specs.declared.call.Call.{Call}
-use Rattle.client_core.specs.declared.input.Input.{Input}
-use Rattle.client_core.specs.declared.input.Input.TheVariants.{Deliver}
+use Rattle.client_core.specs.Inputs.{PacketInput, FrameInput, Deliver}
 use Rattle.client_core.specs.History as history
 use Rattle.client_core.specs.History.{Opening}
 use Rattle.client_core.specs.Saves.{Addition}
@@ -18,16 +16,16 @@ use Rattle.client_core.specs.Packets.{packets}
 use Rattle.client_core.specs.Hearing.{FrameEntry, Met, rules, arrival, coming_of, heard_at, packets_heard}
 
 -- What comes is to a client that has heard this list.
-abbrev pub sense : Opening → List FrameEntry → Input → Sense Call
+abbrev pub sense : Opening → List FrameEntry → FrameInput → Sense PacketInput
 sense opening past e = senses.sense (rules opening) (heard_at opening past) (arrival e)
 
 -- Why what comes is refused, if it is.
-abbrev pub refusal : Opening → List FrameEntry → Input → Option Fault
+abbrev pub refusal : Opening → List FrameEntry → FrameInput → Option Fault
 refusal opening past e =
     refusal_of_sense (rules opening) (packets_heard opening past) (sense opening past e)
 
 -- What is due to be added to the note: only what is heard is due to add something.
-abbrev pub due : Opening → List FrameEntry → Input → Option Addition
+abbrev pub due : Opening → List FrameEntry → FrameInput → Option Addition
 due opening past e = heard_or None (words.due opening (packets_heard opening past))
     (sense opening past e)
 
@@ -41,7 +39,7 @@ IsPiece (Whole p) = ⊥
 IsPiece (Piece q) = Unit {0}
 
 -- What an answered input leaves in the list: it saved, where it was due to.
-abbrev pub answered_entry : Opening → List FrameEntry → Input → FrameEntry
+abbrev pub answered_entry : Opening → List FrameEntry → FrameInput → FrameEntry
 answered_entry opening past e = Met e (saved_for (due opening past e))
 
 -- The entry that is heard of what happens.

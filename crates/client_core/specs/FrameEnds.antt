@@ -11,11 +11,9 @@ use Rattle.messages.specs.Ranges.{is_generation}
 use Rattle.hearing.specs.Hearers as hearers
 use Rattle.hearing.specs.Nodes as nodes
 use Rattle.hearing.specs.Nodes.{Node}
-use Rattle.client_core.specs.declared.call.Call.{Call}
+use Rattle.client_core.specs.Inputs.{PacketInput, FrameInput, Tick}
 use Rattle.client_core.specs.declared.packet_client.PacketClient.{PacketClient}
 use Rattle.client_core.specs.declared.client.Client.{Client}
-use Rattle.client_core.specs.declared.input.Input.{Input}
-use Rattle.client_core.specs.declared.input.Input.TheVariants.{Tick}
 use Rattle.client_core.specs.declared.note.ClientNote.{ClientNote}
 use Rattle.client_core.specs.History.{Opening, Entry}
 use Rattle.client_core.specs.Note.{Says, new_note, spelling}
@@ -40,7 +38,7 @@ StandsFor note client opening past =
 
 -- A tick sends at most one packet to each server for each request of this life, and those to the
 -- mirror; any other input at most 8 packets.
-abbrev pub most_packets : Opening → List FrameEntry → Input → ℕ
+abbrev pub most_packets : Opening → List FrameEntry → FrameInput → ℕ
 most_packets opening past Tick =
     opening.servers * requests opening (packets_heard opening past)
     + most_copies opening (packets_heard opening past)
@@ -48,7 +46,7 @@ most_packets opening past _ = MAX_SERVERS
 
 -- The frames that are sent are those of the list; and where the packets that were heard keep their
 -- ranges, they are few and short.
-pub record Sends (opening : Opening) (past : List FrameEntry) (e : Input)
+pub record Sends (opening : Opening) (past : List FrameEntry) (e : FrameInput)
     (sent : List (List ℕ)) : Type 0 where
   pub frames_are : sent ≡ map frame_spelling (frames opening past (answered_entry opening past e))
   pub short : OpensInRange opening → CameInRange (packets_heard opening past)
@@ -56,7 +54,7 @@ pub record Sends (opening : Opening) (past : List FrameEntry) (e : Input)
 
 -- A client as a node whose core hears frames.
 abbrev pub client_node : {T : Type 0} → (T → Note) → Opening →
-    Node (Client T) Input FrameEntry (PacketClient T) Call Entry Addition (List (List ℕ))
+    Node (Client T) FrameInput FrameEntry (PacketClient T) PacketInput Entry Addition (List (List ℕ))
 client_node note opening = record {
   kind = hearing_kind note opening;
   hearer = λ client. client.hearer;
@@ -69,7 +67,7 @@ client_node note opening = record {
 -- The steps of a client: its note, what its list says of what comes, and what is sent. What is
 -- refused leaves it as it was, but where it drops a tag: that alone changes.
 abbrev pub steps : {T : Type 0} → (T → Note) → Opening →
-    Steps (Client T) Input FrameEntry Addition (List (List ℕ))
+    Steps (Client T) FrameInput FrameEntry Addition (List (List ℕ))
 steps note opening = nodes.steps (client_node note opening)
 
 -- For each list of which the durable bytes say what it says, the client stands for that list with a

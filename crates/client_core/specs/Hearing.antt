@@ -7,10 +7,8 @@ use Rattle.messages.specs.Assemblies.{Row}
 use Rattle.messages.specs.Hearing.{Rules, Heard, Coming, Happens, heard}
 use Rattle.messages.specs.Senses.{Arrival, Framed, Unframed, coming}
 use Rattle.disk_model.specs.declared.left.Left.{Left}
-use Rattle.client_core.specs.declared.call.Call.{Call}
-use Rattle.client_core.specs.declared.call.Call.TheVariants as calls
-use Rattle.client_core.specs.declared.input.Input.{Input}
-use Rattle.client_core.specs.declared.input.Input.TheVariants.{Begin, Trigger, Stop, Verify, Deliver, Tick}
+use Rattle.client_core.specs.Inputs.{PacketInput, FrameInput, Begin, Trigger, Stop, Verify, Deliver, Tick}
+use Rattle.client_core.specs.Inputs as inputs
 use Rattle.client_core.specs.History as history
 use Rattle.client_core.specs.History.{Opening}
 use Rattle.client_core.specs.Refusals.{is_server_of}
@@ -19,7 +17,7 @@ use Rattle.client_core.specs.Words.{is_on, refusal}
 -- What came to a client, with what its save left; a cut; a restart, which makes no save, with a
 -- mirror or without one; a renewal with what its save left; the loss of the note.
 pub data FrameEntry : Type 0 where
-  Met : Input → Left → FrameEntry
+  Met : FrameInput → Left → FrameEntry
   Cut : FrameEntry
   Restart : Bool → FrameEntry
   Renew : ℕ → Left → FrameEntry
@@ -39,9 +37,9 @@ is_end (history.Renew g left) = true
 is_end history.Lose = true
 
 -- How a client hears.
-abbrev pub rules : Opening → Rules Call history.Entry Left
+abbrev pub rules : Opening → Rules PacketInput history.Entry Left
 rules opening = record {
-  delivers = calls.Deliver;
+  delivers = inputs.Deliver;
   met = history.Met;
   refusal = refusal opening;
   is_on = is_on;
@@ -49,14 +47,14 @@ rules opening = record {
   ends = is_end;
 }
 
--- What comes to a client is a frame, or a call past the network.
-abbrev pub arrival : Input → Arrival Call
-arrival (Begin text) = Unframed (calls.Begin text)
-arrival (Trigger run act) = Unframed (calls.Trigger run act)
-arrival (Stop run) = Unframed (calls.Stop run)
-arrival (Verify run text) = Unframed (calls.Verify run text)
+-- What comes to a client is a frame, or its caller asks, past the network.
+abbrev pub arrival : FrameInput → Arrival PacketInput
+arrival (Begin text) = Unframed (inputs.Begin text)
+arrival (Trigger run act) = Unframed (inputs.Trigger run act)
+arrival (Stop run) = Unframed (inputs.Stop run)
+arrival (Verify run text) = Unframed (inputs.Verify run text)
 arrival (Deliver f) = Framed f
-arrival Tick = Unframed calls.Tick
+arrival Tick = Unframed inputs.Tick
 
 -- What happens to a client, in the terms of hearing.
 abbrev pub coming_of : FrameEntry → Coming history.Entry Left

@@ -2,8 +2,7 @@
 use Rattle.std.specs.Prelude.{refl, ℕ, List, []}
 use Rattle.disk_model.specs.Notes.{Note}
 use Rattle.hearing.specs.Hearers.{Kind, Laws}
-use Rattle.client_core.specs.declared.call.Call.{Call}
-use Rattle.client_core.specs.declared.call.Call.TheVariants.{Deliver}
+use Rattle.client_core.specs.Inputs.{PacketInput, Deliver}
 use Rattle.client_core.specs.declared.packet_client.PacketClient.{PacketClient}
 use Rattle.client_core.specs.History.{Opening, Entry}
 use Rattle.client_core.specs.Words.{is_on}
@@ -14,7 +13,7 @@ use Rattle.client_core.specs.Ranges.{IsInRange}
 
 -- The kind of the core of a client that was opened so.
 abbrev pub hearing_kind : {T : Type 0} → (T → Note) → Opening →
-    Kind (PacketClient T) Call Entry Addition (List (List ℕ))
+    Kind (PacketClient T) PacketInput Entry Addition (List (List ℕ))
 hearing_kind note opening = record {
   core = steps note opening;
   delivers = Deliver;

@@ -1,8 +1,7 @@
 -- What holds of every list of what came to a client.
-use Rattle.std.specs.Prelude.{◌≡◌, ◌⊎◌, ℕ, ◌<◌, ◌≤◌, Bool, true, false, not, ◌&&◌, nat_lt, List, [], ◌∷◌, ◌++◌, Some, Contains, IsTrue}
-use Rattle.std.specs.List.{AllByRecursion, flat_map}
+use Rattle.std.specs.Prelude.{◌≡◌, ◌⊎◌, ℕ, ◌<◌, Bool, true, false, not, ◌&&◌, List, [], ◌∷◌, ◌++◌, Some, Contains, IsTrue}
+use Rattle.std.specs.List.{AllByRecursion}
 use Rattle.fc_base.specs.declared.numbers.Key.{Key}
-use Rattle.fc_base.specs.Counted.{has, is_distinct}
 use Rattle.disk_model.specs.declared.left.Left.{Left}
 use Rattle.verify_state.specs.State.{State}
 use Rattle.messages.specs.declared.packet.PacketParts.{PacketParts}
@@ -12,19 +11,18 @@ use Rattle.messages.specs.declared.node.Node.TheVariants as nodes
 use Rattle.messages.specs.Bodies.{kind_of}
 use Rattle.messages.specs.declared.kind.PacketKind.{PacketKind}
 use Rattle.messages.specs.declared.kind.PacketKind.TheVariants as kinds
-use Rattle.messages.specs.Ranges.{is_generation}
 use Rattle.messages.specs.Laws.{IsPacket}
-use Rattle.client_core.specs.declared.call.Call.TheVariants.{Tick}
+use Rattle.client_core.specs.Inputs.{Tick}
 use Rattle.client_core.specs.declared.received.Received.{Received}
 use Rattle.state_table.specs.Kept.{kept_of}
 use Rattle.client_core.specs.declared.note.ClientNote.{ClientNote}
-use Rattle.client_core.specs.Note.{IsNoted, blank, is_blank}
-use Rattle.client_core.specs.History.{Opening, Entry, Met, Restart, Renew, Lose}
+use Rattle.client_core.specs.Note.{IsNoted, blank}
+use Rattle.client_core.specs.History.{Opening, Entry, Met, Lose}
 use Rattle.client_core.specs.Words.{is_on, has_mirror, words_noted, kept_state, shown_entries}
-use Rattle.client_core.specs.Life.{Deed, Begins, Verifies, life, deeds_done}
+use Rattle.client_core.specs.Life.{life, deeds_done}
 use Rattle.client_core.specs.Requests.{Served, trigger_at}
 use Rattle.client_core.specs.Reports.{has_report, reports}
-use Rattle.client_core.specs.Packets.{to_server, to_mirror, packets, sent_packets}
+use Rattle.client_core.specs.Packets.{to_server, to_mirror, packets}
 use Rattle.client_core.specs.Ranges.{packet_in, packets_come, CameInRange, OpensInRange}
 
 -- A packet of a server to the client.
@@ -108,92 +106,6 @@ AcksAreFor =
     × (kept_state opening (entry ∷ past) (record { run = run; server = server; job = job })
     ≡ Some state))
     ⊎ ((jobs : ℕ) × Contains (packet_in entry) (from_server (bodies.NoState run job jobs) server))
-
--- The run that a deed begins.
-abbrev pub run_in : Deed → List ℕ
-run_in (Begins run text) = run ∷ []
-run_in _ = []
-
--- The attempt by which a deed verifies.
-abbrev pub attempt_in : Deed → List ℕ
-attempt_in (Verifies run attempt text) = attempt ∷ []
-attempt_in _ = []
-
--- The runs that were begun, the newest first.
-abbrev pub runs_in : List Deed → List ℕ
-runs_in deeds = flat_map run_in deeds
-
--- The attempts to verify, the newest first.
-abbrev pub attempts_in : List Deed → List ℕ
-attempts_in deeds = flat_map attempt_in deeds
-
--- No number stands twice, all are above the first, and none is above the last.
-pub record AreFresh (first last : ℕ) (numbers : List ℕ) : Type 0 where
-  pub distinct : IsTrue (is_distinct numbers)
-  pub above : AllByRecursion (λ n. first < n) numbers
-  pub below : AllByRecursion (λ n. n ≤ last) numbers
-
--- No run is given twice, whatever was cut and failed to be saved, where the note isn't lost.
-abbrev pub RunsAreFresh : Type 0
-RunsAreFresh =
-    (opening : Opening) (past : List Entry) → IsTrue (loses_nothing past) →
-    AreFresh opening.noted.runs (words_noted opening past).runs (runs_in (deeds_done opening past))
-
--- No attempt is given twice.
-abbrev pub AttemptsAreFresh : Type 0
-AttemptsAreFresh =
-    (opening : Opening) (past : List Entry) → IsTrue (loses_nothing past) →
-    AreFresh opening.noted.attempts (words_noted opening past).attempts
-    (attempts_in (deeds_done opening past))
-
--- The generations of the renewals, the newest first.
-abbrev pub generations : List Entry → List ℕ
-generations [] = []
-generations (Renew g left ∷ past) = g ∷ generations past
-generations (_ ∷ past) = generations past
-
--- The client is one with a mirror: a blank note opens it, each restart has the mirror and a note of
--- a generation, and no two renewals are of one.
-abbrev pub is_mirrored : Opening → List Entry → Bool
-is_mirrored opening [] = is_blank opening.noted
-is_mirrored opening (Restart mirror ∷ past) =
-    (mirror && nat_lt 0 (words_noted opening past).generation) && is_mirrored opening past
-is_mirrored opening (Renew g left ∷ past) =
-    (is_generation g && not (has (generations past) g)) && is_mirrored opening past
-is_mirrored opening (_ ∷ past) = is_mirrored opening past
-
--- The note isn't lost, or the client is one with a mirror.
-abbrev pub KeepsNumbersApart : Opening → List Entry → Type 0
-KeepsNumbersApart opening past = IsTrue (loses_nothing past) ⊎ IsTrue (is_mirrored opening past)
-
--- No number is given twice, whatever was lost, where the client is one with a mirror.
-pub record AreGivenOnce (opening : Opening) (past : List Entry) : Type 0 where
-  pub runs : IsTrue (is_distinct (runs_in (deeds_done opening past)))
-  pub attempts : IsTrue (is_distinct (attempts_in (deeds_done opening past)))
-
--- Where numbers are kept apart, no run and no attempt is given twice.
-abbrev pub NumbersAreGivenOnce : Type 0
-NumbersAreGivenOnce =
-    (opening : Opening) (past : List Entry) → KeepsNumbersApart opening past →
-    AreGivenOnce opening past
-
--- All Jobs packets of a run carry the same text, to whichever servers they go.
-abbrev pub OneTextOfARun : Type 0
-OneTextOfARun =
-    (opening : Opening) (past : List Entry) (p q : PacketParts) (run : ℕ) (text other : List ℕ) →
-    KeepsNumbersApart opening past →
-    Contains (sent_packets opening past) p → p.body ≡ bodies.Jobs run text →
-    Contains (sent_packets opening past) q → q.body ≡ bodies.Jobs run other → text ≡ other
-
--- All Verify packets of an attempt carry the same run and text.
-abbrev pub OneTextOfAnAttempt : Type 0
-OneTextOfAnAttempt =
-    (opening : Opening) (past : List Entry) (p q : PacketParts) (attempt run run_there : ℕ)
-    (text other : List ℕ) →
-    KeepsNumbersApart opening past →
-    Contains (sent_packets opening past) p → p.body ≡ bodies.Verify run attempt text →
-    Contains (sent_packets opening past) q → q.body ≡ bodies.Verify run_there attempt other →
-    (run ≡ run_there) × (text ≡ other)
 
 -- A client that is on answers its looks from all that came.
 abbrev pub LooksAtAll : Type 0

@@ -10,10 +10,12 @@ pub mod Framed
 pub mod Hearing
 pub mod HearingKind
 pub mod History
+pub mod Inputs
 pub mod Laws
 pub mod Life
 pub mod Lives
 pub mod Note
+pub mod Numbering
 pub mod Outcomes
 pub mod Packets
 pub mod Ranges

@@ -4,8 +4,7 @@ use Rattle.messages.specs.declared.body.Body.{Body}
 use Rattle.messages.specs.declared.refusal.Act.{Act}
 use Rattle.messages.specs.declared.refusal.Act.TheVariants as acts
 use Rattle.messages.specs.Nodes.{node_number}
-use Rattle.client_core.specs.declared.call.Call.{Call}
-use Rattle.client_core.specs.declared.call.Call.TheVariants.{Begin, Trigger, Stop, Verify, Deliver, Tick}
+use Rattle.client_core.specs.Inputs.{PacketInput, Begin, Trigger, Stop, Verify, Deliver, Tick}
 use Rattle.client_core.specs.declared.note.ClientNote.{ClientNote}
 use Rattle.client_core.specs.History.{Opening, Entry, Met, Cut, Restart, Renew, Lose}
 use Rattle.client_core.specs.Words.{words_noted, is_answered}
@@ -20,7 +19,7 @@ pub data Deed : Type 0 where
   Hears : ℕ → Body → Deed  -- the number of its node, what it says
 
 -- What an answered call does: a new run or attempt has the number above those that were used.
-abbrev pub deeds_of : ClientNote → Call → List Deed
+abbrev pub deeds_of : ClientNote → PacketInput → List Deed
 deeds_of n (Begin text) = Begins (n.runs + 1) text ∷ []
 deeds_of n (Trigger run act) = Triggers run act ∷ []
 deeds_of n (Stop run) = Stops run ∷ []

@@ -7,8 +7,7 @@ use Rattle.messages.specs.declared.body.Body.TheVariants as bodies
 use Rattle.messages.specs.declared.refusal.Act.TheVariants as acts
 use Rattle.verify_state.specs.State.{State}
 use Rattle.state_table.specs.Examples.{state}
-use Rattle.client_core.specs.declared.call.Call.{Call}
-use Rattle.client_core.specs.declared.call.Call.TheVariants.{Begin, Trigger, Deliver, Tick}
+use Rattle.client_core.specs.Inputs.{PacketInput, Begin, Trigger, Deliver, Tick}
 use Rattle.client_core.specs.History.{Entry, Cut, Restart, Renew, Lose}
 use Rattle.client_core.specs.Words.{refusal, kept_state}
 use Rattle.client_core.specs.Laws.{from_mirror}
@@ -19,7 +18,7 @@ abbrev pub after_renewal : List Entry
 after_renewal = Renew 1 Saved ∷ []
 
 -- The mirror says this.
-abbrev pub mirror_says : Body → Call
+abbrev pub mirror_says : Body → PacketInput
 mirror_says body = Deliver (from_mirror body)
 
 -- Generation 1 is granted.

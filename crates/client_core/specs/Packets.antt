@@ -14,8 +14,7 @@ use Rattle.messages.specs.declared.refusal.Asked.TheVariants as asks
 use Rattle.messages.specs.declared.refusal.Reason.{Reason}
 use Rattle.messages.specs.declared.refusal.Reason.TheVariants as reasons
 use Rattle.messages.specs.Nodes.{node_number}
-use Rattle.client_core.specs.declared.call.Call.{Call}
-use Rattle.client_core.specs.declared.call.Call.TheVariants.{Begin, Trigger, Stop, Verify, Deliver, Tick}
+use Rattle.client_core.specs.Inputs.{PacketInput, Begin, Trigger, Stop, Verify, Deliver, Tick}
 use Rattle.state_table.specs.Kept.{kept_of}
 use Rattle.client_core.specs.declared.note.ClientNote.{ClientNote}
 use Rattle.client_core.specs.declared.peers.Peers.{Peers}
@@ -153,7 +152,7 @@ all_again peers n deeds =
     ++ (requests_again peers.servers deeds ++ copies_again peers.mirror n.kept deeds)
 
 -- What an answered call sends, by what was noted and done before it.
-abbrev pub packets_for : Peers → ClientNote → List Deed → Call → List PacketParts
+abbrev pub packets_for : Peers → ClientNote → List Deed → PacketInput → List PacketParts
 packets_for peers n deeds (Begin text) = to_all peers.servers (bodies.Jobs (n.runs + 1) text)
 packets_for peers n deeds (Trigger run act) = to_all peers.servers (bodies.Trigger run act)
 packets_for peers n deeds (Stop run) = to_all peers.servers (bodies.Stop run)

@@ -4,13 +4,12 @@ use Rattle.std.specs.List.{AllByRecursion}
 use Rattle.fc_base.specs.declared.limits.TheConstants.{MAX_SERVERS}
 use Rattle.messages.specs.declared.packet.PacketParts.{PacketParts}
 use Rattle.messages.specs.Laws.{IsPacket}
-use Rattle.client_core.specs.declared.call.Call.{Call}
-use Rattle.client_core.specs.declared.call.Call.TheVariants.{Deliver}
+use Rattle.client_core.specs.Inputs.{PacketInput, Deliver}
 use Rattle.client_core.specs.Note.{IsNoted}
 use Rattle.client_core.specs.History.{Opening, Entry, Met}
 
 -- A packet that comes is within its ranges.
-abbrev pub IsInRange : Call → Type 0
+abbrev pub IsInRange : PacketInput → Type 0
 IsInRange (Deliver p) = IsPacket p
 IsInRange _ = Unit {0}
 

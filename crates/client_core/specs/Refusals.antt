@@ -12,8 +12,7 @@ use Rattle.messages.specs.Nodes.{node_number, is_client, is_mirror}
 use Rattle.messages.specs.Kinds.{is_of_server, is_of_mirror}
 use Rattle.messages.specs.Bodies.{kind_of}
 use Rattle.messages.specs.Ranges.{is_text}
-use Rattle.client_core.specs.declared.call.Call.{Call}
-use Rattle.client_core.specs.declared.call.Call.TheVariants.{Begin, Trigger, Stop, Verify, Deliver, Tick}
+use Rattle.client_core.specs.Inputs.{PacketInput, Begin, Trigger, Stop, Verify, Deliver, Tick}
 pub use Rattle.state_table.specs.Refusals.{differs, lacks_room, faults_of_state}
 use Rattle.client_core.specs.declared.note.ClientNote.{ClientNote}
 use Rattle.client_core.specs.declared.peers.Peers.{Peers}
@@ -73,7 +72,7 @@ faults_of_body n (bodies.Copy state) = faults_of_state n.kept state
 faults_of_body n _ = []
 
 -- Why a call is refused by a client that is on, in the order in which it is told.
-abbrev pub faults_of : Peers → ClientNote → Call → List Fault
+abbrev pub faults_of : Peers → ClientNote → PacketInput → List Fault
 faults_of peers n (Begin text) =
     when (not (is_text text)) JobTooLong
     ++ when (not (has_next peers n.generation n.runs)) NumbersSpent
@@ -88,5 +87,5 @@ faults_of peers n (Deliver p) =
 faults_of peers n Tick = []
 
 -- The first reason: a client that is off or down refuses every call.
-abbrev pub refusal_by : Bool → Peers → ClientNote → Call → Option Fault
+abbrev pub refusal_by : Bool → Peers → ClientNote → PacketInput → Option Fault
 refusal_by on peers n c = slice_get (when (not on) Down ++ faults_of peers n c) 0

@@ -4,8 +4,7 @@ pub use Rattle.disk_model.specs.Steps.{unless_refused, is_answer}
 use Rattle.verify_state.specs.State.{State}
 use Rattle.messages.specs.declared.body.Body.{Body}
 use Rattle.messages.specs.declared.body.Body.TheVariants as bodies
-use Rattle.client_core.specs.declared.call.Call.{Call}
-use Rattle.client_core.specs.declared.call.Call.TheVariants.{Begin, Trigger, Stop, Verify, Deliver, Tick}
+use Rattle.client_core.specs.Inputs.{PacketInput, Begin, Trigger, Stop, Verify, Deliver, Tick}
 use Rattle.state_table.specs.Kept.{kept_of}
 use Rattle.client_core.specs.declared.note.ClientNote.{ClientNote}
 use Rattle.client_core.specs.declared.peers.Peers.{Peers}
@@ -35,7 +34,7 @@ addition_by n (bodies.Copy state) = unless_kept (kept_of state.key n.kept) state
 addition_by n _ = None
 
 -- What is added for a call that isn't refused.
-abbrev pub addition_of : ClientNote → Call → Option Addition
+abbrev pub addition_of : ClientNote → PacketInput → Option Addition
 addition_of n (Begin text) = Some NextRun
 addition_of n (Trigger run act) = None
 addition_of n (Stop run) = None
@@ -44,7 +43,7 @@ addition_of n (Deliver p) = addition_by n p.body
 addition_of n Tick = None
 
 -- What a call is due to add to the note.
-abbrev pub due_by : Bool → Peers → ClientNote → Call → Option Addition
+abbrev pub due_by : Bool → Peers → ClientNote → PacketInput → Option Addition
 due_by on peers n c = unless_refused (refusal_by on peers n c) (addition_of n c)
 
 -- An addition counts where the new bytes are there.

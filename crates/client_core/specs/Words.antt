@@ -11,8 +11,7 @@ use Rattle.messages.specs.declared.body.Body.{Body}
 use Rattle.messages.specs.declared.body.Body.TheVariants as bodies
 use Rattle.messages.specs.Nodes.{is_client, is_mirror}
 use Rattle.messages.specs.Ranges.{is_generation}
-use Rattle.client_core.specs.declared.call.Call.{Call}
-use Rattle.client_core.specs.declared.call.Call.TheVariants.{Deliver}
+use Rattle.client_core.specs.Inputs.{PacketInput, Deliver}
 use Rattle.client_core.specs.declared.peers.Peers.{Peers}
 use Rattle.client_core.specs.Note.{blank, is_blank, new_note}
 use Rattle.state_table.specs.Kept.{kept_of}
@@ -45,7 +44,7 @@ granted_in (bodies.Granted generation) = generation ∷ []
 granted_in _ = []
 
 -- The generation that is granted by a call: the mirror says so to the client.
-abbrev pub granted_by : Call → List ℕ
+abbrev pub granted_by : PacketInput → List ℕ
 granted_by (Deliver p) = if is_client p.to && is_mirror p.from then granted_in p.body else []
 granted_by _ = []
 
@@ -103,19 +102,19 @@ abbrev pub peers : Opening → List Entry → Peers
 peers opening past = peers_at opening.servers past (words_noted opening past).generation
 
 -- Why a call is refused.
-abbrev pub refusal : Opening → List Entry → Call → Option Fault
+abbrev pub refusal : Opening → List Entry → PacketInput → Option Fault
 refusal opening past c = refusal_by (is_on past) (peers opening past) (words_noted opening past) c
 
 -- What a call is due to add to the note.
-abbrev pub due : Opening → List Entry → Call → Option Addition
+abbrev pub due : Opening → List Entry → PacketInput → Option Addition
 due opening past c = due_by (is_on past) (peers opening past) (words_noted opening past) c
 
 -- A call makes a save where it is due to add something.
-abbrev pub would_save : Opening → List Entry → Call → Bool
+abbrev pub would_save : Opening → List Entry → PacketInput → Bool
 would_save opening past c = is_some (due opening past c)
 
 -- The call is answered: it isn't refused, and its save, where it makes one, answered Ok.
-abbrev pub is_answered : Opening → List Entry → Call → Left → Bool
+abbrev pub is_answered : Opening → List Entry → PacketInput → Left → Bool
 is_answered opening past c left =
     is_none (refusal opening past c) && is_answer (due opening past c) left
 

@@ -1,6 +1,7 @@
 //! What holds of every list of what came to a client. The functions have nothing to run.
 
-ghost use Rattle.client_core.specs.Laws.{FirstKeptStays, KeptWasSent, NotedWasSent, SavedIsKept, CopiesAreOfStates, AcksAreFor, RunsAreFresh, AttemptsAreFresh, NumbersAreGivenOnce, LossBeginsAnew, OneTextOfARun, OneTextOfAnAttempt, LooksAtAll, TickOnlyLooks, NotesKeepRanges, TriggersEndWell, PacketsGoToPeers, PacketsAreInRange, ReportsCame, OneReportEach};
+ghost use Rattle.client_core.specs.Laws.{FirstKeptStays, KeptWasSent, NotedWasSent, SavedIsKept, CopiesAreOfStates, AcksAreFor, LossBeginsAnew, LooksAtAll, TickOnlyLooks, NotesKeepRanges, TriggersEndWell, PacketsGoToPeers, PacketsAreInRange, ReportsCame, OneReportEach};
+ghost use Rattle.client_core.specs.Numbering.{RunsAreFresh, AttemptsAreFresh, NumbersAreGivenOnce, OneTextOfARun, OneTextOfAnAttempt};
 ghost use Rattle.client_core.specs.Bounds.{PacketsAreFew, FramesAreShort};
 ghost use Rattle.client_core.specs.Examples.{Begins, WaitsForTheBusy, KeepsTheFirst, TriggersToTheEnd, Verifies, GoesDown, KeepsWhatIsNoted, ForgetsByACut, AsksAgainInOrder, SpendsNumbers};
 ghost use Rattle.client_core.specs.MirrorExamples.{NumbersOnceGranted, CopiesWhatIsKept, FetchesWhatWasLost, HearsItsMirrorAlone};

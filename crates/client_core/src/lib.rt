@@ -16,11 +16,9 @@
 mod again;
 mod attempt_asked;
 mod beginning;
-mod call;
 mod client;
 mod frames;
 mod generation;
-mod input;
 mod law;
 mod life;
 mod mirrored;
@@ -37,9 +35,7 @@ mod servers;
 mod standing;
 mod told;
 
-pub use call::Call;
 pub use client::Client;
-pub use input::Input;
 pub use law::{
     acks_are_for_kept_states, copies_are_of_states, examples, first_kept_stays, frames_are_short,
     kept_was_sent, looks_at_all, loss_begins_anew, notes_keep_ranges, numbers_are_fresh,

@@ -3,7 +3,7 @@
 ghost use Rattle.std.specs.Prelude.{◌≡◌, ◌≤◌, false, List, [], not};
 ghost use Rattle.fc_base.specs.declared.limits.TheConstants.{MAX_SERVERS};
 ghost use Rattle.client_core.specs.History.{Opening, Entry};
-ghost use Rattle.client_core.specs.declared.call.Call.TheVariants.{Deliver};
+ghost use Rattle.client_core.specs.Inputs.{Deliver};
 ghost use Rattle.client_core.specs.Refusals.{refusal_by};
 ghost use Rattle.client_core.specs.Words.{would_save};
 

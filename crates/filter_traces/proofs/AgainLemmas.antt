@@ -7,7 +7,7 @@ use Rattle.disk_model.specs.declared.left.Left.TheVariants.{Saved}
 use Rattle.messages.specs.declared.frame.Frame.{Frame}
 use Rattle.server_core.specs.Texts.{jobs_for}
 use Rattle.server_core.specs.Hearing.{FrameEntry as ServerEntry, Restart as ServerRestart}
-use Rattle.client_core.specs.declared.input.Input.TheVariants as inputs
+use Rattle.client_core.specs.Inputs as inputs
 use Rattle.client_core.specs.declared.note.ClientNote.{ClientNote}
 use Rattle.client_core.specs.Hearing.{FrameEntry as ClientEntry, Met as ClientMet, Restart as ClientRestart, packets_heard}
 use Rattle.client_core.specs.FrameAnswers.{frames as client_frames}

@@ -14,8 +14,8 @@ use Rattle.messages.specs.declared.frame.Frame.{Frame}
 use Rattle.messages.specs.declared.node.Node.TheVariants.{Client}
 use Rattle.messages.specs.FrameBytes.{frame_at, frame_faults}
 use Rattle.messages.specs.Senses.{is_drop}
-use Rattle.client_core.specs.declared.input.Input.{Input}
-use Rattle.client_core.specs.declared.input.Input.TheVariants as inputs
+use Rattle.client_core.specs.Inputs.{FrameInput}
+use Rattle.client_core.specs.Inputs as inputs
 use Rattle.client_core.specs.History.{Opening}
 use Rattle.client_core.specs.Hearing.{FrameEntry, Met, Cut, Restart, Renew, Lose}
 use Rattle.client_core.specs.FrameAnswers.{sense, refusal, due}
@@ -38,10 +38,10 @@ pub record Added (w : Setup) (sent : List Frame) (old new : ClientAt) : Type 0 w
   pub may : AllMay w sent old.list more
 
 -- What a body asks may come, whatever its save leaves, and behind whatever list.
-abbrev EntryMay : Setup → List Frame → Input → Type 0
+abbrev EntryMay : Setup → List Frame → FrameInput → Type 0
 EntryMay w sent e = (past : List FrameEntry) (left : Left) → ClientMay w sent past (Met e left)
 
-abbrev AskedMay : Setup → List Frame → Result Input Fault → Type 0
+abbrev AskedMay : Setup → List Frame → Result FrameInput Fault → Type 0
 AskedMay w sent (Ok e) = EntryMay w sent e
 AskedMay w sent (Err why) = Unit {0}
 
@@ -57,7 +57,7 @@ frame_may w sent [] None h = tt
 frame_may w sent (fault ∷ faults) x h = tt
 
 -- What is asked by something, if it is there.
-each_may : {T : Type 0} (w : Setup) (sent : List Frame) (asks : Option T → Result Input Fault) → AskedMay w sent (asks None)
+each_may : {T : Type 0} (w : Setup) (sent : List Frame) (asks : Option T → Result FrameInput Fault) → AskedMay w sent (asks None)
     → ((t : T) → AskedMay w sent (asks (Some t))) → (x : Option T) → AskedMay w sent (asks x)
 each_may w sent asks none some None = none
 each_may w sent asks none some (Some t) = some t
@@ -87,14 +87,14 @@ asked_may w sent told.Show body h = tt
 -- ---- what it adds
 
 module _ (w : Setup) (o : Opening) (sent : List Frame) where
-  refused_adds : (e : Input) (at now : ClientAt) (b : Bool) → is_drop (sense o at.list e) ≡ b → EntryMay w sent e
+  refused_adds : (e : FrameInput) (at now : ClientAt) (b : Bool) → is_drop (sense o at.list e) ≡ b → EntryMay w sent e
       → now.list ≡ (if is_drop (sense o at.list e) then Met e NoSave ∷ at.list else at.list) → Added w sent at now
   refused_adds e at now true is may list =
       record { more = Met e NoSave ∷ []; list_is = list ∙ ap (λ c. if c then Met e NoSave ∷ at.list else at.list) is; may = (may at.list NoSave, tt) }
   refused_adds e at now false is may list =
       record { more = []; list_is = list ∙ ap (λ c. if c then Met e NoSave ∷ at.list else at.list) is; may = tt }
 
-  input_adds : (why : Option Fault) (e : Input) (at now : ClientAt) (answer : List ℕ) → EntryMay w sent e
+  input_adds : (why : Option Fault) (e : FrameInput) (at now : ClientAt) (answer : List ℕ) → EntryMay w sent e
       → Leaves (at_by why o at e) (reply_by why o at.list e) now answer → Added w sent at now
   input_adds None e at now answer may (is, said) = record {
     more = Met e (saved_for (due o at.list e)) ∷ [];
@@ -104,7 +104,7 @@ module _ (w : Setup) (o : Opening) (sent : List Frame) where
   input_adds (Some fault) e at now answer may (is, said) =
       refused_adds e at now (is_drop (sense o at.list e)) refl may (ap (λ (c : ClientAt). c.list) is)
 
-  body_adds : (asked : Result Input Fault) (at now : ClientAt) (answer : List ℕ) → AskedMay w sent asked → TakesBody o at asked now answer
+  body_adds : (asked : Result FrameInput Fault) (at now : ClientAt) (answer : List ℕ) → AskedMay w sent asked → TakesBody o at asked now answer
       → Added w sent at now
   body_adds (Ok e) at now answer may (inl leaves) = input_adds (refusal o at.list e) e at now answer may leaves
   body_adds (Ok e) at now answer may (inr (fault, memory, (is, said))) = none_more w sent at now is

@@ -7,9 +7,9 @@ use Rattle.messages.specs.declared.node.Node.TheVariants.{Server, Client, Mirror
 use Rattle.server_core.specs.declared.input.Input.TheVariants as server_inputs
 use Rattle.server_core.specs.Hearing.{FrameEntry as ServerEntry, Met as ServerMet, Cut as ServerCut, Restart as ServerRestart, coming_of as server_coming}
 use Rattle.client_core.specs.History as client
-use Rattle.client_core.specs.declared.input.Input.TheVariants as client_inputs
+use Rattle.client_core.specs.Inputs as client_inputs
 use Rattle.client_core.specs.Hearing.{FrameEntry as ClientEntry, Met as ClientMet, Cut as ClientCut, Restart as ClientRestart, Renew, Lose, coming_of as client_coming, packets_heard}
-use Rattle.client_core.specs.Laws.{generations}
+use Rattle.client_core.specs.Numbering.{generations}
 use Rattle.client_core.specs.Words.{words_noted}
 use Rattle.mirror_core.specs.History as mirror
 use Rattle.fc_base.specs.Counted.{has}

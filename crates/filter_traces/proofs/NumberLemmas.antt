@@ -3,7 +3,7 @@ use Rattle.std.proofs.Common.{◌≡◌, refl, ◌∙◌, ap, ℕ, suc, ◌+◌,
 use Rattle.std.specs.Prelude.{nat_lt, nat_le}
 use Rattle.std.proofs.lemmas.Bool.Decides.{nat_tests}
 use Rattle.disk_model.specs.declared.left.Left.TheVariants.{Saved}
-use Rattle.client_core.specs.declared.call.Call.TheVariants as calls
+use Rattle.client_core.specs.Inputs as inputs
 use Rattle.client_core.specs.declared.note.ClientNote.{ClientNote}
 use Rattle.client_core.specs.History.{Entry, Met}
 use Rattle.client_core.specs.Refusals.{has_next, is_begun, is_of_generation, is_free_to_number}
@@ -27,7 +27,7 @@ more_is n used past alone fits =
     rw (next, alone) refl
 
 attempt_due : (n runs attempts : ℕ) (past : List Entry) → is_begun (drawn runs attempts) 1 ≡ true → has_next (peers_at n past 0) 0 attempts ≡ true
-    → due_by true (peers_at n past 0) (drawn runs attempts) (calls.Verify 1 []) ≡ Some NextAttempt
+    → due_by true (peers_at n past 0) (drawn runs attempts) (inputs.Verify 1 []) ≡ Some NextAttempt
 attempt_due n runs attempts past first next = rw (first, next) refl
 
 first_begun : (runs attempts : ℕ) → 1 ≤ runs → is_begun (drawn runs attempts) 1 ≡ true
@@ -37,13 +37,13 @@ first_begun runs attempts some =
     rw least refl
 
 pub one_attempt : (n runs attempts : ℕ) (past : List Entry) → IsSo n past runs attempts → 1 ≤ runs → attempts + 1 < 2 ^ 64
-    → IsSo n (Met (calls.Verify 1 []) Saved ∷ past) runs (suc attempts)
+    → IsSo n (Met (inputs.Verify 1 []) Saved ∷ past) runs (suc attempts)
 one_attempt n runs attempts past so some fits = record {
   on = rw so.on refl;
   alone = so.alone;
   says =
-      ap (λ (m : ClientNote). noted_after true (due_by (is_on past) (peers_at n past m.generation) m (calls.Verify 1 [])) m) so.says
-      ∙ (ap (λ b. noted_after true (due_by b (peers_at n past 0) (drawn runs attempts) (calls.Verify 1 [])) (drawn runs attempts)) so.on
+      ap (λ (m : ClientNote). noted_after true (due_by (is_on past) (peers_at n past m.generation) m (inputs.Verify 1 [])) m) so.says
+      ∙ (ap (λ b. noted_after true (due_by b (peers_at n past 0) (drawn runs attempts) (inputs.Verify 1 [])) (drawn runs attempts)) so.on
       ∙ (ap (λ (x : Option Addition). noted_after true x (drawn runs attempts))
       (attempt_due n runs attempts past (first_begun runs attempts some) (more_is n attempts past so.alone fits))
       ∙ ap (λ k. drawn runs k) next));

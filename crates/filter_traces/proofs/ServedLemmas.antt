@@ -28,9 +28,8 @@ use Rattle.server_core.specs.Hearing.{FrameEntry as ServerEntry, Met as ServerMe
 use Rattle.server_core.specs.FrameAnswers.{frames as server_frames}
 use Rattle.client_core.specs.declared.beginning.Beginning.{Beginning}
 use Rattle.client_core.specs.declared.beginning.Beginning.TheVariants.{Staging}
-use Rattle.client_core.specs.declared.call.Call.{Call}
-use Rattle.client_core.specs.declared.call.Call.TheVariants as calls
-use Rattle.client_core.specs.declared.input.Input.TheVariants as inputs
+use Rattle.client_core.specs.Inputs.{PacketInput}
+use Rattle.client_core.specs.Inputs as inputs
 use Rattle.client_core.specs.declared.note.ClientNote.{ClientNote}
 use Rattle.client_core.specs.declared.peers.Peers.{Peers}
 use Rattle.client_core.specs.History.{Opening, Entry}
@@ -118,10 +117,10 @@ pub record HasBegun (n runs from : ℕ) (past : List Entry) : Type 0 where
   pub says : words_noted (opening n) past ≡ drawn runs 0
   pub staging : (k s : ℕ) → suc k ≤ runs → from ≤ s → begin_at (suc k) s (life (opening n) past) ≡ Staging
 
-answered : Bool → Peers → ClientNote → Call → Left → Bool
+answered : Bool → Peers → ClientNote → PacketInput → Left → Bool
 answered on peers m c left = is_none (refusal_by on peers m c) && is_answer (due_by on peers m c) left
 
-is_answered_so : (n runs from : ℕ) (past : List Entry) (c : Call) (left : Left) → HasBegun n runs from past
+is_answered_so : (n runs from : ℕ) (past : List Entry) (c : PacketInput) (left : Left) → HasBegun n runs from past
     → answered true (peers_at n past 0) (drawn runs 0) c left ≡ true → is_answered (opening n) past c left ≡ true
 unfolding answered
 is_answered_so n runs from past c left has h =
@@ -140,12 +139,12 @@ none_due (Some fault) = refl
 
 module _ (text : List ℕ) (jobs : List Job) (is : IsText text jobs) (n : ℕ) where
   begin_answered : (runs : ℕ) (past : List Entry) → has_mirror past ≡ false → runs + 1 < 2 ^ 64
-      → answered true (peers_at n past 0) (drawn runs 0) (calls.Begin text) Saved ≡ true
+      → answered true (peers_at n past 0) (drawn runs 0) (inputs.Begin text) Saved ≡ true
   unfolding answered
   begin_answered runs past alone fits = rw (is.fits, more_is n runs past alone fits) refl
 
   begin_due : (runs : ℕ) (past : List Entry) → has_mirror past ≡ false → runs + 1 < 2 ^ 64
-      → due_by true (peers_at n past 0) (drawn runs 0) (calls.Begin text) ≡ Some NextRun
+      → due_by true (peers_at n past 0) (drawn runs 0) (inputs.Begin text) ≡ Some NextRun
   begin_due runs past alone fits = rw (is.fits, more_is n runs past alone fits) refl
 
   -- A run more begins.
@@ -156,8 +155,8 @@ module _ (text : List ℕ) (jobs : List Job) (is : IsText text jobs) (n : ℕ) w
     on = rw has.on refl;
     alone = has.alone;
     says =
-        ap (λ (m : ClientNote). noted_after true (due_by (is_on list) (peers_at n list m.generation) m (calls.Begin text)) m) has.says
-        ∙ (ap (λ b. noted_after true (due_by b (peers_at n list 0) (drawn runs 0) (calls.Begin text)) (drawn runs 0)) has.on
+        ap (λ (m : ClientNote). noted_after true (due_by (is_on list) (peers_at n list m.generation) m (inputs.Begin text)) m) has.says
+        ∙ (ap (λ b. noted_after true (due_by b (peers_at n list 0) (drawn runs 0) (inputs.Begin text)) (drawn runs 0)) has.on
         ∙ (ap (λ (x : Option Addition). noted_after true x (drawn runs 0)) (begin_due runs list has.alone fits)
         ∙ ap (λ r. drawn r 0) next));
     staging = λ k s l from.
@@ -171,8 +170,8 @@ module _ (text : List ℕ) (jobs : List Job) (is : IsText text jobs) (n : ℕ) w
       next : runs + 1 ≡ suc runs
       next = omega arith
 
-      sure : is_answered (opening n) list (calls.Begin text) Saved ≡ true
-      sure = is_answered_so n runs 0 list (calls.Begin text) Saved has (begin_answered runs list has.alone fits)
+      sure : is_answered (opening n) list (inputs.Begin text) Saved ≡ true
+      sure = is_answered_so n runs 0 list (inputs.Begin text) Saved has (begin_answered runs list has.alone fits)
 
       of_run : (k s : ℕ) → suc k ≤ suc runs → (b : Bool) → (runs + 1 == suc k) ≡ b
           → begin_at (suc k) s (Begins (runs + 1) text ∷ life (opening n) list) ≡ Staging
@@ -214,13 +213,13 @@ module _ (text : List ℕ) (jobs : List Job) (is : IsText text jobs) (n : ℕ) w
       are : client_frames (opening n) past (ClientMet (inputs.Begin text) Saved) ≡ flat_map frames_of (to_all n (bodies.Jobs (runs + 1) text))
       are =
           ap (λ b. flat_map frames_of (if b then to_all n (bodies.Jobs ((words_noted (opening n) list).runs + 1) text) else []))
-          (is_answered_so n runs 0 list (calls.Begin text) Saved has (begin_answered runs list has.alone fits))
+          (is_answered_so n runs 0 list (inputs.Begin text) Saved has (begin_answered runs list has.alone fits))
           ∙ ap (λ (m : ClientNote). flat_map frames_of (to_all n (bodies.Jobs (m.runs + 1) text))) has.says
 
   -- ---- it hears that the jobs are staged
 
   ok_answered : (runs : ℕ) (past : List Entry) (r i : ℕ) → i < n
-      → answered true (peers_at n past 0) (drawn runs 0) (calls.Deliver (ok_packet jobs r i)) NoSave ≡ true
+      → answered true (peers_at n past 0) (drawn runs 0) (inputs.Deliver (ok_packet jobs r i)) NoSave ≡ true
   unfolding answered is_for_client is_from_server is_from_mirror
   ok_answered runs past r i l =
       let below : nat_lt i n ≡ true = grind (arith, nat_tests, l) in
@@ -232,7 +231,7 @@ module _ (text : List ℕ) (jobs : List Job) (is : IsText text jobs) (n : ℕ) w
       ≡ start_frame (suc k) i ∷ []
   starts runs i k past l few has =
       ap (λ b. flat_map frames_of (if b then start_for (suc k) i (begin_at (suc k) i (life (opening n) list)) else []))
-      (is_answered_so n runs i list (calls.Deliver (ok_packet jobs (suc k) i)) NoSave has (ok_answered runs list (suc k) i l))
+      (is_answered_so n runs i list (inputs.Deliver (ok_packet jobs (suc k) i)) NoSave has (ok_answered runs list (suc k) i l))
       ∙ ap (λ (x : Beginning). flat_map frames_of (start_for (suc k) i x)) (has.staging k i few (omega arith))
     where
       list : List Entry
@@ -246,7 +245,7 @@ module _ (text : List ℕ) (jobs : List Job) (is : IsText text jobs) (n : ℕ) w
     on = rw has.on refl;
     alone = has.alone;
     says =
-        ap (λ (x : Option Addition). noted_after false x (words_noted (opening n) list)) (none_due (refusal (opening n) list (calls.Deliver (ok_packet jobs (suc k) i))))
+        ap (λ (x : Option Addition). noted_after false x (words_noted (opening n) list)) (none_due (refusal (opening n) list (inputs.Deliver (ok_packet jobs (suc k) i))))
         ∙ has.says;
     staging = λ m s few from.
         ap (λ b. begin_at (suc m) s (if b then Hears i (bodies.JobsOk (suc k) (length jobs)) ∷ life (opening n) list else life (opening n) list)) sure
@@ -257,8 +256,8 @@ module _ (text : List ℕ) (jobs : List Job) (is : IsText text jobs) (n : ℕ) w
       list : List Entry
       list = packets_heard (opening n) past
 
-      sure : is_answered (opening n) list (calls.Deliver (ok_packet jobs (suc k) i)) NoSave ≡ true
-      sure = is_answered_so n runs i list (calls.Deliver (ok_packet jobs (suc k) i)) NoSave has (ok_answered runs list (suc k) i l)
+      sure : is_answered (opening n) list (inputs.Deliver (ok_packet jobs (suc k) i)) NoSave ≡ true
+      sure = is_answered_so n runs i list (inputs.Deliver (ok_packet jobs (suc k) i)) NoSave has (ok_answered runs list (suc k) i l)
 
       other : (s : ℕ) → suc i ≤ s → (i == s) ≡ false
       other s from = grind (arith, nat_tests, from)

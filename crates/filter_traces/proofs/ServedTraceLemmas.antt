@@ -13,7 +13,7 @@ use Rattle.server_core.specs.declared.input.Input.TheVariants.{Deliver}
 use Rattle.server_core.specs.declared.note.ServerNote.{ServerNote}
 use Rattle.server_core.specs.Hearing.{FrameEntry as ServerEntry, Met as ServerMet, Restart as ServerRestart}
 use Rattle.server_core.specs.FrameAnswers.{frames as server_frames}
-use Rattle.client_core.specs.declared.input.Input.TheVariants as inputs
+use Rattle.client_core.specs.Inputs as inputs
 use Rattle.client_core.specs.Hearing.{FrameEntry as ClientEntry, Met as ClientMet, packets_heard}
 use Rattle.client_core.specs.FrameAnswers.{frames as client_frames}
 use Rattle.mirror_core.specs.History as mirror

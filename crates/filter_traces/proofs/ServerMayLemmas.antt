@@ -13,10 +13,10 @@ use Rattle.engine.specs.declared.issue.Ticket.{Ticket}
 use Rattle.messages.specs.declared.frame.Frame.{Frame}
 use Rattle.messages.specs.declared.node.Node.TheVariants.{Server}
 use Rattle.messages.specs.FrameBytes.{frame_at, frame_faults}
-use Rattle.server_core.specs.declared.input.Input.{Input}
+use Rattle.server_core.specs.Inputs.{FrameInput}
 use Rattle.server_core.specs.declared.input.Input.TheVariants as inputs
-use Rattle.server_core.specs.declared.event.WriteEnd.{WriteEnd}
-use Rattle.server_core.specs.declared.event.WriteEnd.TheVariants as ends
+use Rattle.server_core.specs.declared.input.WriteEnd.{WriteEnd}
+use Rattle.server_core.specs.declared.input.WriteEnd.TheVariants as ends
 use Rattle.server_core.specs.History.{Opening}
 use Rattle.server_core.specs.OpenWrites.{open_write}
 use Rattle.server_core.specs.Hearing.{FrameEntry, Met, Cut, Restart, packets_heard}
@@ -46,7 +46,7 @@ pub record Added (s : ℕ) (sent : List Frame) (old new : ServerAt) : Type 0 whe
   pub may : AllByRecursion (ServerMay s sent) more
 
 -- What a body asks may come, whatever its save leaves.
-abbrev AskedMay : ℕ → List Frame → Result Input Fault → Type 0
+abbrev AskedMay : ℕ → List Frame → Result FrameInput Fault → Type 0
 AskedMay s sent (Ok e) = (left : Left) → ServerMay s sent (Met e left)
 AskedMay s sent (Err why) = Unit {0}
 
@@ -69,7 +69,7 @@ open_may s sent end run (Some ticket) = by_run (ticket.key.run == run)
     by_run false = tt
 
 -- What is asked by something, if it is there.
-each_may : {T : Type 0} (s : ℕ) (sent : List Frame) (asks : Option T → Result Input Fault) → AskedMay s sent (asks None)
+each_may : {T : Type 0} (s : ℕ) (sent : List Frame) (asks : Option T → Result FrameInput Fault) → AskedMay s sent (asks None)
     → ((t : T) → AskedMay s sent (asks (Some t))) → (x : Option T) → AskedMay s sent (asks x)
 each_may s sent asks none some None = none
 each_may s sent asks none some (Some t) = some t
@@ -93,7 +93,7 @@ added_to s sent at before now a b = record {
     both (c ∷ more) h = (h.0, both more h.1)
 
 module _ (o : Opening) (s : ℕ) (sent : List Frame) where
-  by_adds : (why : Option Fault) (e : Input) (at now : ServerAt) → ((left : Left) → ServerMay s sent (Met e left)) → now ≡ at_by why o at e → Added s sent at now
+  by_adds : (why : Option Fault) (e : FrameInput) (at now : ServerAt) → ((left : Left) → ServerMay s sent (Met e left)) → now ≡ at_by why o at e → Added s sent at now
   by_adds None e at now may is = record {
     more = Met e (saved_for (due o at.list e)) ∷ [];
     list_is = ap (λ (c : ServerAt). c.list) is;
@@ -103,7 +103,7 @@ module _ (o : Opening) (s : ℕ) (sent : List Frame) where
       record { more = Met e NoSave ∷ []; list_is = ap (λ (c : ServerAt). c.list) is; may = (may NoSave, tt) }
 
   -- What is told of a check.
-  tells_adds : (why : Option Fault) (e : Input) (at now : ServerAt) (end : Result (Unit {0}) Fault) (answer : List ℕ)
+  tells_adds : (why : Option Fault) (e : FrameInput) (at now : ServerAt) (end : Result (Unit {0}) Fault) (answer : List ℕ)
       → ((left : Left) → ServerMay s sent (Met e left)) → TellsBy why o at e end now answer → Added s sent at now
   tells_adds None e at now end answer may (ends, (is, said)) = by_adds None e at now may is
   tells_adds (Some fault) e at now end answer may (ends, (is, said)) = by_adds (Some fault) e at now may is
@@ -112,7 +112,7 @@ module _ (o : Opening) (s : ℕ) (sent : List Frame) where
       → TellsReport o at j u r end now answer → Added s sent at now
   report_adds at j u r end now answer (fits, inl tells) =
       let before : ServerAt = with_check j None at in
-      let e : Input = inputs.CheckDone u.boot u.attempt j r in
+      let e : FrameInput = inputs.CheckDone u.boot u.attempt j r in
       let a = tells_adds (refusal o at.list e) e before now end answer (λ left. fits) tells in
       record { more = a.more; list_is = a.list_is; may = a.may }
   report_adds at j u r end now answer (fits, inr (fault, memory, ends, (is, said))) =
@@ -133,14 +133,14 @@ module _ (o : Opening) (s : ℕ) (sent : List Frame) where
   turns_add (turn ∷ turns) at now written more =
       added_to s sent at more.before now (turns_add turns at more.before more.earlier more.lived) (turn_adds turn more.before now more.answer more.takes)
 
-  taken_adds : (why : Option Fault) (e : Input) (at now : ServerAt) (answer : List ℕ) → ((left : Left) → ServerMay s sent (Met e left))
+  taken_adds : (why : Option Fault) (e : FrameInput) (at now : ServerAt) (answer : List ℕ) → ((left : Left) → ServerMay s sent (Met e left))
       → TakesBy why o at e now answer → Added s sent at now
   taken_adds None e at now answer may follows =
       added_to s sent at (at_by None o at e) now (by_adds None e at (at_by None o at e) may refl)
       (turns_add follows.turns.0 (at_by None o at e) now follows.written follows.turns.1)
   taken_adds (Some fault) e at now answer may (is, said) = by_adds (Some fault) e at now may is
 
-  body_adds : (asked : Result Input Fault) (at now : ServerAt) (answer : List ℕ) → AskedMay s sent asked → TakesBody o at asked now answer
+  body_adds : (asked : Result FrameInput Fault) (at now : ServerAt) (answer : List ℕ) → AskedMay s sent asked → TakesBody o at asked now answer
       → Added s sent at now
   body_adds (Ok e) at now answer may (inl takes) = taken_adds (refusal o at.list e) e at now answer may takes
   body_adds (Ok e) at now answer may (inr (fault, memory, (is, said))) = none_more s sent at now is

@@ -15,7 +15,7 @@ use Rattle.server_core.specs.Hearing.{FrameEntry as ServerEntry, Cut as ServerCu
 use Rattle.server_core.specs.FrameAnswers.{frames as server_frames}
 use Rattle.client_core.specs.Hearing.{FrameEntry as ClientEntry, Cut as ClientCut, Restart as ClientRestart, Renew, Lose, packets_heard}
 use Rattle.client_core.specs.FrameAnswers.{frames as client_frames}
-use Rattle.client_core.specs.Laws.{generations}
+use Rattle.client_core.specs.Numbering.{generations}
 use Rattle.client_core.specs.Note.{new_note, spelling}
 use Rattle.mirror_core.specs.History as mirror
 use Rattle.mirror_core.specs.Packets.{packets as mirror_packets}

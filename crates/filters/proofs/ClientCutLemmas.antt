@@ -6,7 +6,7 @@ use Rattle.fc_base.specs.declared.limits.TheConstants.{MAX_GENERATION}
 use Rattle.fc_base.specs.declared.fault.Fault.{Fault}
 use Rattle.disk_model.specs.declared.left.Left.TheVariants.{Saved}
 use Rattle.messages.specs.Ranges.{is_generation}
-use Rattle.client_core.specs.declared.input.Input.{Input}
+use Rattle.client_core.specs.Inputs.{FrameInput}
 use Rattle.client_core.specs.declared.note.ClientNote.{ClientNote}
 use Rattle.client_core.specs.History.{Opening}
 use Rattle.client_core.specs.Note.{IsNoted, Says, SaysOneThing, SaysWhatIsWritten, blank, new_note as note_anew, note_of, spelling}
@@ -39,14 +39,14 @@ some_note : (n : ClientNote) → spelling n ≡ [] → ⊥
 unfolding note_of
 some_note n is = some_bytes 70 _ is
 
-input_first : (o : Opening) (why : Option Fault) (before : ClientAt) (e : Input) (after : ClientAt) (answer : List ℕ)
+input_first : (o : Opening) (why : Option Fault) (before : ClientAt) (e : FrameInput) (after : ClientAt) (answer : List ℕ)
     → Leaves (at_by why o before e) (reply_by why o before.list e) after answer → SaysFirst note before after answer
 input_first o None before e after answer (is, said) =
     due_first note (due o before.list e) (new_note o before.list e) _ (end_bytes (Ok tt)) answer before after
     (some_note (noted o (after_answer o before.list e))) (ap note is) said
 input_first o (Some fault) before e after answer (is, said) = inl (ap note is)
 
-body_first : (o : Opening) (before : ClientAt) (asked : Result Input Fault) (after : ClientAt) (answer : List ℕ) → TakesBody o before asked after answer
+body_first : (o : Opening) (before : ClientAt) (asked : Result FrameInput Fault) (after : ClientAt) (answer : List ℕ) → TakesBody o before asked after answer
     → SaysFirst note before after answer
 body_first o before (Ok e) after answer (inl leaves) = input_first o (refusal o before.list e) before e after answer leaves
 body_first o before (Ok e) after answer (inr (fault, memory, (is, said))) = inl (ap note is)

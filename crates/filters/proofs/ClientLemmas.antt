@@ -8,7 +8,7 @@ use Rattle.disk_model.specs.Notes.{Note}
 use Rattle.disk_model.specs.Steps.{Answers, Faults}
 use Rattle.disk_model.specs.declared.left.Left.TheVariants.{NoSave}
 use Rattle.messages.specs.Senses.{is_drop}
-use Rattle.client_core.specs.declared.input.Input.{Input}
+use Rattle.client_core.specs.Inputs.{FrameInput}
 use Rattle.client_core.specs.declared.client.Client.{Client}
 use Rattle.client_core.specs.History.{Opening}
 use Rattle.client_core.specs.Hearing.{FrameEntry, Met}
@@ -18,7 +18,7 @@ use Rattle.filters.specs.declared.answered.Answered.{Answered}
 use Rattle.filters.specs.ClientSteps.{IsAnswered, NotAnswered, number_given}
 
 -- What a refused input leaves.
-stood : {T : Type 0} (note : T → Note) (o : Opening) (past : List FrameEntry) (e : Input) (new : Client T) (b : Bool)
+stood : {T : Type 0} (note : T → Note) (o : Opening) (past : List FrameEntry) (e : FrameInput) (new : Client T) (b : Bool)
     → is_drop (sense o past e) ≡ b → StandsFor note new o (Met e NoSave ∷ past)
     → (is_drop (sense o past e) ≡ false → StandsFor note new o past)
     → StandsFor note new o (if b then Met e NoSave ∷ past else past)
@@ -26,7 +26,7 @@ stood note o past e new true is stands unchanged = stands
 stood note o past e new false is stands unchanged = unchanged is
 
 -- An input that isn't answered, where no save fails.
-pub not_answered : {T : Type 0} (note : T → Note) (o : Opening) (past : List FrameEntry) (e : Input) (sort : FaultSort) (fault : Fault) (old new : Client T)
+pub not_answered : {T : Type 0} (note : T → Note) (o : Opening) (past : List FrameEntry) (e : FrameInput) (sort : FaultSort) (fault : Fault) (old new : Client T)
     → (note_in note old).failures ≡ (note_in note new).failures
     → Faults (steps note o) past e sort fault old new → NotAnswered note o past e sort fault old new
 not_answered note o past e sorts.Memory fault old new same l = (l.same_note, l.unchanged)
@@ -34,7 +34,7 @@ not_answered note o past e sorts.Save fault old new same f = absurd (omega (arit
 not_answered note o past e sorts.Refusal fault old new same r = (r.why, (r.same_note, stood note o past e new (is_drop (sense o past e)) refl r.stands r.unchanged))
 
 -- An input that is answered.
-pub answered_so : {T : Type 0} (note : T → Note) (o : Opening) (past : List FrameEntry) (e : Input) (old new : Client T) (outs : List (List ℕ)) (a : Answered)
+pub answered_so : {T : Type 0} (note : T → Note) (o : Opening) (past : List FrameEntry) (e : FrameInput) (old new : Client T) (outs : List (List ℕ)) (a : Answered)
     → Answers (steps note o) past e old new outs → a.saves ≡ is_some (due o past e) → a.number ≡ number_given o past e → a.frames ≡ outs
     → IsAnswered note o past e old new a
 answered_so note o past e old new outs a h saves number frames = record {

@@ -5,8 +5,8 @@ use Rattle.std.specs.Prelude.{nat_lt}
 use Rattle.fc_base.specs.declared.fault.Fault.{Fault}
 use Rattle.fc_base.specs.declared.limits.TheConstants.{MAX_BLOCKS}
 use Rattle.fc_base.specs.declared.report.ReportParts.{ReportParts}
-use Rattle.server_core.specs.declared.event.WriteEnd.TheVariants as ends
-use Rattle.server_core.specs.declared.input.Input.{Input}
+use Rattle.server_core.specs.declared.input.WriteEnd.TheVariants as ends
+use Rattle.server_core.specs.Inputs.{FrameInput}
 use Rattle.server_core.specs.declared.input.Input.TheVariants.{Issue, CheckDone}
 use Rattle.server_core.specs.History.{Opening}
 use Rattle.server_core.specs.Note.{Says, spelling}
@@ -80,14 +80,14 @@ some_bytes x xs is = absurd (omega (arith, ap length is))
 some_note : (n : ServerNote) → spelling n ≡ [] → ⊥
 some_note n is = some_bytes 70 _ is
 
-input_first : (o : Opening) (why : Option Fault) (before : ServerAt) (e : Input) (after : ServerAt) (answer : List ℕ)
+input_first : (o : Opening) (why : Option Fault) (before : ServerAt) (e : FrameInput) (after : ServerAt) (answer : List ℕ)
     → TakesBy why o before e after answer → SaysFirst note before after answer
 input_first o None before e after answer f =
     due_first note (due o before.list e) (new_note o before.list e) _ (f.written ++ end_bytes (Ok tt)) answer before after (some_note _)
     (turns_note o (at_by None o before e) after f.written f.turns) f.all
 input_first o (Some fault) before e after answer (is, said) = inl (note_of after _ is)
 
-body_first : (o : Opening) (before : ServerAt) (asked : Result Input Fault) (after : ServerAt) (answer : List ℕ) → TakesBody o before asked after answer
+body_first : (o : Opening) (before : ServerAt) (asked : Result FrameInput Fault) (after : ServerAt) (answer : List ℕ) → TakesBody o before asked after answer
     → SaysFirst note before after answer
 body_first o before (Ok e) after answer (inl takes) = input_first o (refusal o before.list e) before e after answer takes
 body_first o before (Ok e) after answer (inr (fault, memory, (is, said))) = inl (note_of after before is)

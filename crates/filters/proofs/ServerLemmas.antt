@@ -5,7 +5,7 @@ use Rattle.fc_base.specs.declared.fault.FaultSort.{FaultSort}
 use Rattle.fc_base.specs.declared.fault.FaultSort.TheVariants as sorts
 use Rattle.disk_model.specs.Notes.{Note}
 use Rattle.disk_model.specs.Steps.{Faults}
-use Rattle.server_core.specs.declared.input.Input.{Input}
+use Rattle.server_core.specs.Inputs.{FrameInput}
 use Rattle.server_core.specs.declared.server.Server.{Server}
 use Rattle.server_core.specs.History.{Opening}
 use Rattle.server_core.specs.Hearing.{FrameEntry}
@@ -13,7 +13,7 @@ use Rattle.server_core.specs.FrameEnds.{steps, note_in}
 use Rattle.filters.specs.ServerSteps.{NotHanded}
 
 -- What comes and isn't answered, where no save fails.
-pub not_handed : {T : Type 0} (note : T → Note) (o : Opening) (past : List FrameEntry) (e : Input) (sort : FaultSort) (fault : Fault) (old new : Server T)
+pub not_handed : {T : Type 0} (note : T → Note) (o : Opening) (past : List FrameEntry) (e : FrameInput) (sort : FaultSort) (fault : Fault) (old new : Server T)
     → (note_in note old).failures ≡ (note_in note new).failures
     → Faults (steps note o) past e sort fault old new → NotHanded note o past e sort fault old new
 not_handed note o past e sorts.Memory fault old new same l = (l.same_note, l.unchanged)

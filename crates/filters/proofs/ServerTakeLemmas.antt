@@ -21,7 +21,7 @@ use Rattle.engine.specs.declared.issue.Issue.{Issue as Answer}
 use Rattle.engine.specs.Answers.{is_write}
 use Rattle.job_file.specs.declared.job.Job.{Job}
 use Rattle.messages.specs.FrameBytes.{frame_spelling}
-use Rattle.server_core.specs.declared.input.Input.{Input}
+use Rattle.server_core.specs.Inputs.{FrameInput}
 use Rattle.server_core.specs.declared.input.Input.TheVariants.{Issue, CheckDone}
 use Rattle.server_core.specs.declared.server.Server.{Server}
 use Rattle.server_core.specs.History.{Opening}
@@ -55,7 +55,7 @@ use Rattle.filters.proofs.TakeLemmas.{saved_so, note_so}
 use Rattle.filters.proofs.OrderLemmas.{gave, refused_gives}
 
 -- What is written of what is handed out is what the list says.
-handed_is : {T : Type 0} (note : T → Note) (o : Opening) (past : List FrameEntry) (e : Input) (old new : Server T) (h : Handed)
+handed_is : {T : Type 0} (note : T → Note) (o : Opening) (past : List FrameEntry) (e : FrameInput) (old new : Server T) (h : Handed)
     → IsHanded note o past e old new h → handed_bytes (note_in note new).bytes h ≡ handed o past e
 handed_is note o past e old new h is =
     ap (λ s. s ++ (send_bytes h.outs.frames ++ act_bytes h.outs.act))
@@ -66,7 +66,7 @@ handed_is note o past e old new h is =
     is.answers.sends.act_is
 
 -- The server behind an input that is taken.
-at_taken : {T : Type 0} (note : T → Note) (o : Opening) (at : ServerAt) (e : Input) (old new : Server T) (h : Handed)
+at_taken : {T : Type 0} (note : T → Note) (o : Opening) (at : ServerAt) (e : FrameInput) (old new : Server T) (h : Handed)
     → (note_in note old).bytes ≡ at.note → IsHanded note o at.list e old new h → IsAt note new o (at_by None o at e)
 at_taken note o at e old new h was is = (
   is.answers.stands,
@@ -74,12 +74,12 @@ at_taken note o at e old new h was is = (
 )
 
 -- No input changes which checks are under way.
-by_checks : (why : Option Fault) (o : Opening) (at : ServerAt) (e : Input) → (at_by why o at e).checks ≡ at.checks
+by_checks : (why : Option Fault) (o : Opening) (at : ServerAt) (e : FrameInput) → (at_by why o at e).checks ≡ at.checks
 by_checks None o at e = refl
 by_checks (Some fault) o at e = refl
 
 -- A body that isn't taken.
-not_taken_here : (o : Opening) (at : ServerAt) (e : Input) (old mid : ServerFilter) (sort : FaultSort) (fault : Fault) → sort_of fault ≡ sort
+not_taken_here : (o : Opening) (at : ServerAt) (e : FrameInput) (old mid : ServerFilter) (sort : FaultSort) (fault : Fault) → sort_of fault ≡ sort
     → (note_in note_kept old.server).bytes ≡ at.note → AreChecks mid.checks.items at.checks
     → NotHanded note_kept o at.list e sort fault old.server mid.server
     → (now : ServerAt) × IsHere mid o now × TakesBody o at (Ok e) now (end_bytes (Err fault))
@@ -93,7 +93,7 @@ not_taken_here o at e old mid sorts.Refusal fault is was checks r = (
 )
 
 -- What is made of a body, by how the call ends and what is written of it.
-pub body_taken : (asked : Opening → List FrameEntry → Result Input Fault) (old mid new : ServerFilter) (result : Result Handed Fault)
+pub body_taken : (asked : Opening → List FrameEntry → Result FrameInput Fault) (old mid new : ServerFilter) (result : Result Handed Fault)
     (first text : Option (List ℕ))
     → ((o : Opening) (past : List FrameEntry) → StandsFor note_kept old.server o past
     → BodyHands note_kept o past (asked o past) old.server mid.server result)
@@ -105,7 +105,7 @@ body_taken asked old mid new (Ok h) first text hands kept (written, wrote, turns
   takes = λ o at here. by o at here (asked o at.list) (hands o at.list here.0.0);
 }
   where
-    by : (o : Opening) (at : ServerAt) → IsHere old o at → (a : Result Input Fault) → BodyHands note_kept o at.list a old.server mid.server (Ok h)
+    by : (o : Opening) (at : ServerAt) → IsHere old o at → (a : Result FrameInput Fault) → BodyHands note_kept o at.list a old.server mid.server (Ok h)
         → (now : ServerAt) × IsHere new o now × TakesBody o at a now (handed_bytes (note_in note_kept mid.server).bytes h ++ (written ++ end_bytes (Ok tt)))
     by o at here (Ok e) is =
         let checks = subst (λ (cs : Vec (Option Checking) Global). AreChecks cs.items at.checks) (sym kept) here.1 in
@@ -128,7 +128,7 @@ body_taken asked old mid new (Err fault) first text hands kept (wrote, same) = r
       (sym same) (by o at here (asked o at.list) (hands o at.list here.0.0));
 }
   where
-    by : (o : Opening) (at : ServerAt) → IsHere old o at → (a : Result Input Fault) → BodyHands note_kept o at.list a old.server mid.server (Err fault)
+    by : (o : Opening) (at : ServerAt) → IsHere old o at → (a : Result FrameInput Fault) → BodyHands note_kept o at.list a old.server mid.server (Err fault)
         → (now : ServerAt) × IsHere mid o now × TakesBody o at a now (end_bytes (Err fault))
     by o at here (Ok e) is =
         let checks = subst (λ (cs : Vec (Option Checking) Global). AreChecks cs.items at.checks) (sym kept) here.1 in

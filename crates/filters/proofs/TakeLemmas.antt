@@ -12,7 +12,7 @@ use Rattle.fc_base.specs.declared.fault.FaultSort.TheVariants as sorts
 use Rattle.disk_model.specs.Notes.{Note}
 use Rattle.disk_model.specs.Steps.{LeavesNote}
 use Rattle.client_core.specs.declared.client.Client.{Client}
-use Rattle.client_core.specs.declared.input.Input.{Input}
+use Rattle.client_core.specs.Inputs.{FrameInput}
 use Rattle.client_core.specs.declared.received.Received.{Received}
 use Rattle.client_core.specs.History.{Opening}
 use Rattle.client_core.specs.Note.{Says}
@@ -46,7 +46,7 @@ note_so None spelled was old new leaves is = ap (λ (n : Note). n.bytes) leaves 
 note_so (Some x) spelled was old new leaves is = ap (λ (n : Note). n.bytes) leaves
 
 -- What is written of an answer is what the list says.
-answer_is : {T : Type 0} (note : T → Note) (o : Opening) (past : List FrameEntry) (e : Input) (old new : Client T) (a : Answered)
+answer_is : {T : Type 0} (note : T → Note) (o : Opening) (past : List FrameEntry) (e : FrameInput) (old new : Client T) (a : Answered)
     → IsAnswered note o past e old new a → result_bytes (note_in note new).bytes (Ok a) ≡ taken_bytes o past e
 answer_is note o past e old new a h =
     let saved = saved_so (due o past e) (new_note o past e) (note_in note old) (note_in note new) a.saves h.saves h.leaves in
@@ -56,7 +56,7 @@ answer_is note o past e old new a h =
     h.frames_are
 
 -- What an input that isn't answered leaves.
-not_taken : {T : Type 0} (note : T → Note) (o : Opening) (at : ClientAt) (e : Input) (old new : Client T) (sort : FaultSort) (fault : Fault)
+not_taken : {T : Type 0} (note : T → Note) (o : Opening) (at : ClientAt) (e : FrameInput) (old new : Client T) (sort : FaultSort) (fault : Fault)
     → sort_of fault ≡ sort → (note_in note old).bytes ≡ at.note → NotAnswered note o at.list e sort fault old new
     → (now : ClientAt) × IsAt note new o now × TakesBody o at (Ok e) now (end_bytes (Err fault))
 not_taken note o at e old new sorts.Memory fault is was (same, stands) =
@@ -69,7 +69,7 @@ not_taken note o at e old new sorts.Refusal fault is was (why, (same, stands)) =
 )
 
 -- What the client makes of a body, by how its call ends.
-pub body_taken : {T : Type 0} (note : T → Note) (o : Opening) (at : ClientAt) (asked : Result Input Fault) (old new : Client T)
+pub body_taken : {T : Type 0} (note : T → Note) (o : Opening) (at : ClientAt) (asked : Result FrameInput Fault) (old new : Client T)
     (result : Result Answered Fault)
     → (note_in note old).bytes ≡ at.note → BodyEnds note o at.list asked old new result
     → (now : ClientAt) × IsAt note new o now × TakesBody o at asked now (result_bytes (note_in note new).bytes result)

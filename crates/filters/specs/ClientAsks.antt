@@ -10,8 +10,8 @@ use Rattle.fc_base.specs.declared.report.ReportEnd.TheVariants.{Whole, AtFault, 
 use Rattle.fc_base.specs.declared.report.ReportParts.{ReportParts}
 use Rattle.messages.specs.Choices.{act_numbered, reason_number}
 use Rattle.messages.specs.FrameBytes.{frame_at, frame_faults}
-use Rattle.client_core.specs.declared.input.Input.{Input}
-use Rattle.client_core.specs.declared.input.Input.TheVariants as inputs
+use Rattle.client_core.specs.Inputs.{FrameInput}
+use Rattle.client_core.specs.Inputs as inputs
 use Rattle.client_core.specs.declared.outcome.Outcome.{Outcome}
 use Rattle.client_core.specs.declared.outcome.Outcome.TheVariants as outcomes
 use Rattle.client_core.specs.declared.outcome.RequestKind.{RequestKind}
@@ -56,18 +56,18 @@ look_in body =
     else None
 
 -- What a body asks of the client, or the fault of one that can't be read.
-abbrev pub or_bad : Option Input → Result Input Fault
+abbrev pub or_bad : Option FrameInput → Result FrameInput Fault
 or_bad (Some e) = Ok e
 or_bad None = Err BadNotice
 
 -- A run in eight bytes, and behind it a job file.
-abbrev pub verify_in : List ℕ → Result Input Fault
+abbrev pub verify_in : List ℕ → Result FrameInput Fault
 verify_in body =
     if nat_lt (length body) 8 then Err BadNotice
     else Ok (inputs.Verify (number_in w64 body) (drop 8 body))
 
 -- What comes to the client by a record of this kind: by those of other kinds nothing does.
-abbrev pub input_in : Told → List ℕ → Result Input Fault
+abbrev pub input_in : Told → List ℕ → Result FrameInput Fault
 input_in told.Frame body = with_frame inputs.Deliver (frame_faults body) (frame_at body)
 input_in told.Begin body = Ok (inputs.Begin body)
 input_in told.Trigger body = or_bad (option_map (λ t. inputs.Trigger t.run t.act) (trigger_in body))

@@ -9,7 +9,7 @@ use Rattle.disk_model.specs.declared.left.Left.TheVariants.{Saved}
 use Rattle.messages.specs.FrameBytes.{frame_spelling}
 use Rattle.messages.specs.Ranges.{is_generation}
 use Rattle.client_core.specs.declared.client.Client.{Client}
-use Rattle.client_core.specs.declared.input.Input.{Input}
+use Rattle.client_core.specs.Inputs.{FrameInput}
 use Rattle.client_core.specs.declared.note.ClientNote.{ClientNote}
 use Rattle.client_core.specs.declared.received.Received.{Received}
 use Rattle.client_core.specs.History.{Opening}
@@ -47,12 +47,12 @@ IsAt note client opening at =
     StandsFor note client opening at.list × ((note_in note client).bytes ≡ at.note)
 
 -- The note as an input that is taken leaves it, if it is to be saved.
-abbrev pub new_note : Opening → List FrameEntry → Input → List ℕ
+abbrev pub new_note : Opening → List FrameEntry → FrameInput → List ℕ
 new_note opening past e = spelling (noted opening (after_answer opening past e))
 
 -- What is answered to an input that is taken: the note, where something is due to be saved; the
 -- number that is given; the frames; and the end.
-abbrev pub taken_bytes : Opening → List FrameEntry → Input → List ℕ
+abbrev pub taken_bytes : Opening → List FrameEntry → FrameInput → List ℕ
 taken_bytes opening past e =
     (save_bytes (is_some (due opening past e)) (new_note opening past e)
     ++ (number_bytes (number_given opening past e)
@@ -60,12 +60,12 @@ taken_bytes opening past e =
     ++ end_bytes (Ok tt)
 
 -- What is answered to an input, by why it is refused, if it is.
-abbrev pub reply_by : Option Fault → Opening → List FrameEntry → Input → List ℕ
+abbrev pub reply_by : Option Fault → Opening → List FrameEntry → FrameInput → List ℕ
 reply_by None opening past e = taken_bytes opening past e
 reply_by (Some fault) opening past e = end_bytes (Err fault)
 
 -- The client behind an input.
-abbrev pub at_by : Option Fault → Opening → ClientAt → Input → ClientAt
+abbrev pub at_by : Option Fault → Opening → ClientAt → FrameInput → ClientAt
 at_by None opening at e = record {
   list = after_answer opening at.list e;
   note = note_with (due opening at.list e) (new_note opening at.list e) at.note;
@@ -73,7 +73,7 @@ at_by None opening at e = record {
 at_by (Some fault) opening at e = record at { list = after_refusal opening at.list e }
 
 -- What is made of an input: what the list says of it; or memory is wanting.
-abbrev pub TakesInput : Opening → ClientAt → Input → ClientAt → List ℕ → Type 0
+abbrev pub TakesInput : Opening → ClientAt → FrameInput → ClientAt → List ℕ → Type 0
 TakesInput opening at e now answer =
     Leaves (at_by (refusal opening at.list e) opening at e)
     (reply_by (refusal opening at.list e) opening at.list e) now
@@ -81,7 +81,7 @@ TakesInput opening at e now answer =
     ⊎ WantsMemory at now answer
 
 -- What is made of a body: a bad one changes nothing.
-abbrev pub TakesBody : Opening → ClientAt → Result Input Fault → ClientAt → List ℕ → Type 0
+abbrev pub TakesBody : Opening → ClientAt → Result FrameInput Fault → ClientAt → List ℕ → Type 0
 TakesBody opening at (Ok e) now answer = TakesInput opening at e now answer
 TakesBody opening at (Err why) now answer = Leaves at (end_bytes (Err why)) now answer
 

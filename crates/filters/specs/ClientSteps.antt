@@ -12,8 +12,7 @@ use Rattle.disk_model.specs.Steps.{LeavesNote}
 use Rattle.disk_model.specs.declared.left.Left.TheVariants.{NoSave}
 use Rattle.messages.specs.FrameBytes.{frame_spelling}
 use Rattle.messages.specs.Senses.{is_drop}
-use Rattle.client_core.specs.declared.input.Input.{Input}
-use Rattle.client_core.specs.declared.input.Input.TheVariants.{Begin, Verify}
+use Rattle.client_core.specs.Inputs.{FrameInput, Begin, Verify}
 use Rattle.client_core.specs.declared.client.Client.{Client}
 use Rattle.client_core.specs.declared.note.ClientNote.{ClientNote}
 use Rattle.client_core.specs.History.{Opening}
@@ -32,23 +31,23 @@ abbrev pub noted : Opening → List FrameEntry → ClientNote
 noted opening past = words_noted opening (packets_heard opening past)
 
 -- The list behind an input that is answered.
-abbrev pub after_answer : Opening → List FrameEntry → Input → List FrameEntry
+abbrev pub after_answer : Opening → List FrameEntry → FrameInput → List FrameEntry
 after_answer opening past e = answered_entry opening past e ∷ past
 
 -- The list behind an input that is refused: it isn't in it, but where it drops what has come of a
 -- piece's tag.
-abbrev pub after_refusal : Opening → List FrameEntry → Input → List FrameEntry
+abbrev pub after_refusal : Opening → List FrameEntry → FrameInput → List FrameEntry
 after_refusal opening past e = if is_drop (sense opening past e) then Met e NoSave ∷ past else past
 
 -- The number that is given: of a run, or of an attempt.
-abbrev pub number_given : Opening → List FrameEntry → Input → Option ℕ
+abbrev pub number_given : Opening → List FrameEntry → FrameInput → Option ℕ
 number_given opening past (Begin text) = Some ((noted opening past).runs + 1)
 number_given opening past (Verify run text) = Some ((noted opening past).attempts + 1)
 number_given opening past _ = None
 
 -- An input is answered as the list says, and what was due is noted.
 pub record IsAnswered {T : Type 0} (note : T → Note) (opening : Opening) (past : List FrameEntry)
-    (e : Input) (old new : Client T) (a : Answered) : Type 0 where
+    (e : FrameInput) (old new : Client T) (a : Answered) : Type 0 where
   pub free : refusal opening past e ≡ None
   pub saves : a.saves ≡ is_some (due opening past e)
   pub number : a.number ≡ number_given opening past e
@@ -67,7 +66,7 @@ Stands note opening past old new =
 
 -- An input isn't answered, by the sort of the fault: for want of memory nothing has changed; or it
 -- is refused. No save fails by itself.
-abbrev pub NotAnswered : {T : Type 0} → (T → Note) → Opening → List FrameEntry → Input → FaultSort
+abbrev pub NotAnswered : {T : Type 0} → (T → Note) → Opening → List FrameEntry → FrameInput → FaultSort
     → Fault → Client T → Client T → Type 0
 NotAnswered note opening past e sorts.Memory fault old new = Stands note opening past old new
 NotAnswered note opening past e sorts.Save fault old new = ⊥
@@ -76,7 +75,7 @@ NotAnswered note opening past e sorts.Refusal fault old new =
     × Stands note opening (after_refusal opening past e) old new
 
 -- What comes of an input.
-abbrev pub InputEnds : {T : Type 0} → (T → Note) → Opening → List FrameEntry → Input → Client T
+abbrev pub InputEnds : {T : Type 0} → (T → Note) → Opening → List FrameEntry → FrameInput → Client T
     → Client T → Result Answered Fault → Type 0
 InputEnds note opening past e old new (Ok a) = IsAnswered note opening past e old new a
 InputEnds note opening past e old new (Err fault) =
@@ -89,7 +88,7 @@ NotRead note opening past why old new (Ok a) = ⊥
 NotRead note opening past why old new (Err fault) = (fault ≡ why) × Stands note opening past old new
 
 -- What comes of what a record says.
-abbrev pub BodyEnds : {T : Type 0} → (T → Note) → Opening → List FrameEntry → Result Input Fault
+abbrev pub BodyEnds : {T : Type 0} → (T → Note) → Opening → List FrameEntry → Result FrameInput Fault
     → Client T → Client T → Result Answered Fault → Type 0
 BodyEnds note opening past (Ok e) old new result = InputEnds note opening past e old new result
 BodyEnds note opening past (Err why) old new result = NotRead note opening past why old new result

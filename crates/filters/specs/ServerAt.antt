@@ -4,7 +4,7 @@ use Rattle.fc_base.specs.declared.fault.Fault.{Fault}
 use Rattle.disk_model.specs.Notes.{Note}
 use Rattle.disk_model.specs.declared.left.Left.TheVariants.{NoSave}
 use Rattle.messages.specs.FrameBytes.{frame_spelling}
-use Rattle.server_core.specs.declared.input.Input.{Input}
+use Rattle.server_core.specs.Inputs.{FrameInput}
 use Rattle.server_core.specs.declared.note.ServerNote.{ServerNote}
 use Rattle.server_core.specs.declared.server.Server.{Server}
 use Rattle.server_core.specs.History.{Opening}
@@ -44,11 +44,11 @@ abbrev pub noted : Opening → List FrameEntry → ServerNote
 noted opening past = words_noted opening (packets_heard opening past)
 
 -- The note as an input that is taken leaves it, if it is to be saved.
-abbrev pub new_note : Opening → List FrameEntry → Input → List ℕ
+abbrev pub new_note : Opening → List FrameEntry → FrameInput → List ℕ
 new_note opening past e = spelling (noted opening (answered_entry opening past e ∷ past))
 
 -- The server behind an input, by why it is refused, if it is: it stands in the list either way.
-abbrev pub at_by : Option Fault → Opening → ServerAt → Input → ServerAt
+abbrev pub at_by : Option Fault → Opening → ServerAt → FrameInput → ServerAt
 at_by None opening at e = record at {
   list = answered_entry opening at.list e ∷ at.list;
   note = note_with (due opening at.list e) (new_note opening at.list e) at.note;
@@ -57,7 +57,7 @@ at_by (Some fault) opening at e = record at { list = Met e NoSave ∷ at.list }
 
 -- What is handed out for an input that is taken: the note, where something is due to be saved; the
 -- frames; and the cut.
-abbrev pub handed : Opening → List FrameEntry → Input → List ℕ
+abbrev pub handed : Opening → List FrameEntry → FrameInput → List ℕ
 handed opening past e =
     save_bytes (is_some (due opening past e)) (new_note opening past e)
     ++ (send_bytes (map frame_spelling (frames opening past (answered_entry opening past e)))

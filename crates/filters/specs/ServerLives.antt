@@ -9,9 +9,9 @@ use Rattle.engine.specs.declared.issue.Ticket.{Ticket}
 use Rattle.disk_model.specs.declared.left.Left.TheVariants.{Saved}
 use Rattle.messages.specs.FrameBytes.{frame_at, frame_faults}
 use Rattle.messages.specs.declared.frame.Frame.{Frame}
-use Rattle.server_core.specs.declared.event.WriteEnd.{WriteEnd}
-use Rattle.server_core.specs.declared.event.WriteEnd.TheVariants as ends
-use Rattle.server_core.specs.declared.input.Input.{Input}
+use Rattle.server_core.specs.declared.input.WriteEnd.{WriteEnd}
+use Rattle.server_core.specs.declared.input.WriteEnd.TheVariants as ends
+use Rattle.server_core.specs.Inputs.{FrameInput}
 use Rattle.server_core.specs.declared.input.Input.TheVariants.{Deliver, WriteDone}
 use Rattle.server_core.specs.declared.note.ServerNote.{ServerNote}
 use Rattle.server_core.specs.History.{Opening}
@@ -42,7 +42,7 @@ pub record Follows (opening : Opening) (at : ServerAt) (front : List ℕ) (now :
   pub all : answer ≡ front ++ (written ++ end_bytes (Ok tt))
 
 -- What is made of an input, by why it is refused, if it is.
-abbrev pub TakesBy : Option Fault → Opening → ServerAt → Input → ServerAt → List ℕ → Type 0
+abbrev pub TakesBy : Option Fault → Opening → ServerAt → FrameInput → ServerAt → List ℕ → Type 0
 TakesBy None opening at e now answer =
     Follows opening (at_by None opening at e) (handed opening at.list e) now answer
 TakesBy (Some fault) opening at e now answer =
@@ -50,13 +50,13 @@ TakesBy (Some fault) opening at e now answer =
 
 -- What is made of a body: what the list says of the input; or memory is wanting. A bad one changes
 -- nothing.
-abbrev pub TakesBody : Opening → ServerAt → Result Input Fault → ServerAt → List ℕ → Type 0
+abbrev pub TakesBody : Opening → ServerAt → Result FrameInput Fault → ServerAt → List ℕ → Type 0
 TakesBody opening at (Ok e) now answer =
     TakesBy (refusal opening at.list e) opening at e now answer ⊎ WantsMemory at now answer
 TakesBody opening at (Err why) now answer = Leaves at (end_bytes (Err why)) now answer
 
 -- The frame that bytes are, by the list of their faults.
-abbrev pub frame_in : List Fault → Option Frame → Result Input Fault
+abbrev pub frame_in : List Fault → Option Frame → Result FrameInput Fault
 frame_in [] (Some frame) = Ok (Deliver frame)
 frame_in [] None = Err FrameBadField
 frame_in (fault ∷ faults) frame = Err fault
@@ -73,13 +73,13 @@ write_in body =
     else None
 
 -- The end of an open write of this run.
-abbrev pub end_of_open : WriteEnd → ℕ → Option Ticket → Result Input Fault
+abbrev pub end_of_open : WriteEnd → ℕ → Option Ticket → Result FrameInput Fault
 end_of_open end run (Some ticket) =
     if ticket.key.run == run then Ok (WriteDone ticket end) else Err NotInFlight
 end_of_open end run None = Err NotInFlight
 
 -- The end of a write that is told of, where it is open.
-abbrev pub end_in : Opening → List FrameEntry → WriteEnd → Option WriteName → Result Input Fault
+abbrev pub end_in : Opening → List FrameEntry → WriteEnd → Option WriteName → Result FrameInput Fault
 end_in opening past end (Some name) =
     end_of_open end name.run
     (open_write opening (shown_entries (packets_heard opening past)) name.job name.seq)

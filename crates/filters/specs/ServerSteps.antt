@@ -6,7 +6,7 @@ use Rattle.fc_base.specs.declared.fault.FaultSort.{FaultSort}
 use Rattle.fc_base.specs.declared.fault.FaultSort.TheVariants as sorts
 use Rattle.disk_model.specs.Notes.{Note}
 use Rattle.disk_model.specs.Steps.{Answers, Refuses}
-use Rattle.server_core.specs.declared.input.Input.{Input}
+use Rattle.server_core.specs.Inputs.{FrameInput}
 use Rattle.server_core.specs.declared.server.Server.{Server}
 use Rattle.server_core.specs.History.{Opening}
 use Rattle.server_core.specs.Hearing.{FrameEntry}
@@ -18,13 +18,13 @@ use Rattle.filters.specs.ServerTells.{outs_bytes}
 
 -- What comes is answered as the list says, and it is told whether something was due to be noted.
 pub record IsHanded {T : Type 0} (note : T → Note) (opening : Opening) (past : List FrameEntry)
-    (e : Input) (old new : Server T) (h : Handed) : Type 0 where
+    (e : FrameInput) (old new : Server T) (h : Handed) : Type 0 where
   pub answers : Answers (steps note opening) past e old new h.outs
   pub saves : h.saves ≡ is_some (due opening past e)
 
 -- It isn't answered, by the sort of the fault: for want of memory, or it is refused. No save fails
 -- by itself.
-abbrev pub NotHanded : {T : Type 0} → (T → Note) → Opening → List FrameEntry → Input → FaultSort
+abbrev pub NotHanded : {T : Type 0} → (T → Note) → Opening → List FrameEntry → FrameInput → FaultSort
     → Fault → Server T → Server T → Type 0
 NotHanded note opening past e sorts.Memory fault old new =
     (note_in note new ≡ note_in note old) × StandsFor note new opening past
@@ -33,7 +33,7 @@ NotHanded note opening past e sorts.Refusal fault old new =
     Refuses (steps note opening) past e fault old new
 
 -- What comes of what comes.
-abbrev pub HandsOut : {T : Type 0} → (T → Note) → Opening → List FrameEntry → Input → Server T
+abbrev pub HandsOut : {T : Type 0} → (T → Note) → Opening → List FrameEntry → FrameInput → Server T
     → Server T → Result Handed Fault → Type 0
 HandsOut note opening past e old new (Ok h) = IsHanded note opening past e old new h
 HandsOut note opening past e old new (Err fault) =
@@ -45,7 +45,7 @@ NotTaken why old new (Ok h) = ⊥
 NotTaken why old new (Err fault) = (fault ≡ why) × (new ≡ old)
 
 -- What comes of what a record says.
-abbrev pub BodyHands : {T : Type 0} → (T → Note) → Opening → List FrameEntry → Result Input Fault
+abbrev pub BodyHands : {T : Type 0} → (T → Note) → Opening → List FrameEntry → Result FrameInput Fault
     → Server T → Server T → Result Handed Fault → Type 0
 BodyHands note opening past (Ok e) old new result = HandsOut note opening past e old new result
 BodyHands note opening past (Err why) old new result = NotTaken why old new result

@@ -15,7 +15,7 @@ use Rattle.engine.specs.declared.issue.Issue.TheVariants.{Write}
 use Rattle.job_file.specs.declared.job.Job.{Job}
 use Rattle.verify_state.specs.State.{State}
 use Rattle.recheck.specs.Expected.{expected_by}
-use Rattle.server_core.specs.declared.input.Input.{Input}
+use Rattle.server_core.specs.Inputs.{FrameInput}
 use Rattle.server_core.specs.declared.input.Input.TheVariants.{Issue, CheckDone}
 use Rattle.server_core.specs.declared.status.Status.{Status}
 use Rattle.server_core.specs.History.{Opening}
@@ -63,7 +63,7 @@ want_bytes a j first count size =
     ++ bytes_of w32 size))))
 
 -- What is told to the server is taken, as the list says, by why it is refused, if it is.
-abbrev pub TellsBy : Option Fault → Opening → ServerAt → Input → Result (Unit {0}) Fault
+abbrev pub TellsBy : Option Fault → Opening → ServerAt → FrameInput → Result (Unit {0}) Fault
     → ServerAt → List ℕ → Type 0
 TellsBy None opening at e end now answer =
     (end ≡ Ok tt) × Leaves (at_by None opening at e) (handed opening at.list e) now answer
@@ -71,7 +71,7 @@ TellsBy (Some fault) opening at e end now answer =
     (end ≡ Err fault) × Leaves (at_by (Some fault) opening at e) [] now answer
 
 -- So it is told; or memory is wanting for that.
-abbrev pub TellsIt : Opening → ServerAt → Input → Result (Unit {0}) Fault → ServerAt → List ℕ
+abbrev pub TellsIt : Opening → ServerAt → FrameInput → Result (Unit {0}) Fault → ServerAt → List ℕ
     → Type 0
 TellsIt opening at e end now answer =
     TellsBy (refusal opening at.list e) opening at e end now answer

@@ -16,7 +16,7 @@ pub trait PacketCore {
     ghost Opening: { Type 0 };
 
     /// What comes to it.
-    ghost Event: { Type 0 };
+    ghost Input: { Type 0 };
 
     /// The entries of its list.
     ghost Entry: { Type 0 };
@@ -25,7 +25,7 @@ pub trait PacketCore {
     ghost Addition: { Type 0 };
 
     /// Its kind, where it was opened so.
-    ghost kind: { Opening → Kind Self Event Entry Addition Self.Outs };
+    ghost kind: { Opening → Kind Self Input Entry Addition Self.Outs };
 
     /// Whether it is on: no save has failed since it was started.
     fn is_up(&self) -> bool

@@ -17,8 +17,7 @@ use Rattle.messages.specs.declared.node.Node.TheVariants.{Client}
 use Rattle.messages.specs.Hearing.{frames_by}
 use Rattle.messages.specs.Senses.{refusal_of_sense, Sense, Hears, Keeps, Drops, Misses}
 use Rattle.messages.proofs.SenseLemmas.{entry_by, entry_is}
-use Rattle.client_core.specs.declared.call.Call.{Call}
-use Rattle.client_core.specs.declared.input.Input.{Input}
+use Rattle.client_core.specs.Inputs.{PacketInput, FrameInput}
 use Rattle.client_core.specs.History as client
 use Rattle.client_core.specs.Words as words
 use Rattle.client_core.specs.Packets.{packets}
@@ -63,18 +62,18 @@ is_off w past h = ap (λ on. unless on NodeOff) (sym (up_is w past) ∙ h)
 
 -- ---- what is refused sends nothing
 
-none_sent : (o : client.Opening) (list : List client.Entry) (c : Call) (fault : Fault) → words.refusal o list c ≡ Some fault
+none_sent : (o : client.Opening) (list : List client.Entry) (c : PacketInput) (fault : Fault) → words.refusal o list c ≡ Some fault
     → frames_by (packets o) list (Some (client.Met c NoSave)) ≡ []
 none_sent o list c fault h = rw h refl
 
-sense_sends : (o : client.Opening) (list : List client.Entry) (x : Sense Call) (fault : Fault) → refusal_of_sense (rules o) list x ≡ Some fault
+sense_sends : (o : client.Opening) (list : List client.Entry) (x : Sense PacketInput) (fault : Fault) → refusal_of_sense (rules o) list x ≡ Some fault
     → frames_by (packets o) list (entry_by (rules o) NoSave x) ≡ []
 sense_sends o list (Hears c) fault h = none_sent o list c fault h
 sense_sends o list Keeps fault h = refl
 sense_sends o list Drops fault h = refl
 sense_sends o list Misses fault h = refl
 
-refused_sends : (o : client.Opening) (past : List FrameEntry) (e : Input) (fault : Fault) → answers.refusal o past e ≡ Some fault
+refused_sends : (o : client.Opening) (past : List FrameEntry) (e : FrameInput) (fault : Fault) → answers.refusal o past e ≡ Some fault
     → answers.frames o past (Met e NoSave) ≡ []
 refused_sends o past e fault h =
     ap (frames_by (packets o) (packets_heard o past)) (entry_is (rules o) (heard_at o past) (arrival e) NoSave)
@@ -97,7 +96,7 @@ pub record HasPassed (sent : List (List ℕ)) (old new : World) : Type 0 where
   pub node_is : new.mirror.node ≡ old.mirror.node
 
 -- The client was asked, and the world has moved.
-pub record HasAsked (e : Input) (result : Result ClientOuts Fault) (sent : List (List ℕ)) (old new : World) : Type 0 where
+pub record HasAsked (e : FrameInput) (result : Result ClientOuts Fault) (sent : List (List ℕ)) (old new : World) : Type 0 where
   pub asks : (o : client.Opening) (past : List FrameEntry) → nodes.Stands o past old.client → nodes.Asks o past e new.client result
   pub moved : HasMoved sent old new
 
@@ -150,7 +149,7 @@ same_told : (first first' sent' : ℕ) (asked : ClientOuts) (answer : WorldAnswe
 same_told first first' sent' asked answer f k a = rw (f, k, a) refl
 
 -- It is answered.
-pub answered : (w : Setup) (past : List Change) (e : Input) (asked : ClientOuts) (first : ℕ) (told : Told) (old new : World) → StandsFor w past old
+pub answered : (w : Setup) (past : List Change) (e : FrameInput) (asked : ClientOuts) (first : ℕ) (told : Told) (old new : World) → StandsFor w past old
     → HasAsked e (Ok asked) asked.frames old new
     → first ≡ length (sent_in old.sent) → told ≡ told_of first asked → ClientEnds w past e new (Ok told)
 answered w past e asked first told old new stands h is tells =
@@ -171,7 +170,7 @@ answered w past e asked first told old new stands h is tells =
       stands = client_stepped w past (answers.answered_entry o es e) asked.frames old new stands h.moved sent a.1.stands refl;
     }
 
-refused : (w : Setup) (past : List Change) (e : Input) (fault : Fault) (old new : World) → StandsFor w past old → HasAsked e (Err fault) [] old new
+refused : (w : Setup) (past : List Change) (e : FrameInput) (fault : Fault) (old new : World) → StandsFor w past old → HasAsked e (Err fault) [] old new
     → any_node.IsOff (client_nodes (client_opening w)) (entries w past) fault new.client
     ⊎ any_node.Refuses (client_nodes (client_opening w)) (entries w past) e fault new.client
     → IsBarred w past fault new ⊎ Refuses w past e fault new
@@ -187,14 +186,14 @@ refused w past e fault old new stands h (inr r) =
       unchanged = λ d. client_kept w past old new stands h.moved (unchanged (client_nodes (client_opening w)) (entries w past) e new.client r.unchanged r.on (λ core same. same d));
     })
 
-by_sort : (w : Setup) (past : List Change) (e : Input) (fault : Fault) (old new : World) → StandsFor w past old → HasAsked e (Err fault) [] old new
+by_sort : (w : Setup) (past : List Change) (e : FrameInput) (fault : Fault) (old new : World) → StandsFor w past old → HasAsked e (Err fault) [] old new
     → (sort : FaultSort) → any_node.Faults (client_nodes (client_opening w)) (entries w past) e sort fault new.client → Faults w past e sort fault new
 by_sort w past e fault old new stands h sorts.Memory f = (f.0, client_kept w past old new stands h.moved f.1)
 by_sort w past e fault old new stands h sorts.Save f = f
 by_sort w past e fault old new stands h sorts.Refusal f = refused w past e fault old new stands h f
 
 -- It isn't answered.
-pub unanswered : (w : Setup) (past : List Change) (e : Input) (fault : Fault) (old new : World) → StandsFor w past old → HasAsked e (Err fault) [] old new
+pub unanswered : (w : Setup) (past : List Change) (e : FrameInput) (fault : Fault) (old new : World) → StandsFor w past old → HasAsked e (Err fault) [] old new
     → ClientEnds w past e new (Err fault)
 unanswered w past e fault old new stands h =
     by_sort w past e fault old new stands h (sort_of fault) (h.asks (client_opening w) (entries w past) stands.client_is)

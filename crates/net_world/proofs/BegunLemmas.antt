@@ -10,7 +10,7 @@ use Rattle.verify_state.specs.State.{State}
 use Rattle.disk_model.specs.declared.left.Left.{Left}
 use Rattle.disk_model.specs.declared.left.Left.TheVariants.{NoSave, Saved, LostNew, LostOld}
 use Rattle.fc_base.proofs.ListLemmas.{none_in, first_or_behind}
-use Rattle.server_core.specs.declared.event.Event.{Event}
+use Rattle.server_core.specs.Inputs.{PacketInput}
 use Rattle.server_core.specs.History.{Opening, Entry, Met, Cut, Restart}
 use Rattle.server_core.specs.Request.{Request, request_of}
 use Rattle.server_core.specs.Run.{Work, Halt, halt_of, goes_on}
@@ -53,7 +53,7 @@ unfolding IsBegun
 same_jobs o older list x None e h = tt
 same_jobs o older list x (Some w) e h = sym (e w.run) ∙ h
 
-begun_next : (o : Opening) (past : List Entry) (e : Event) (left : Left) (d : Option Staged) (w : Option Work) → due o past e ≡ d → IsBegun o past w
+begun_next : (o : Opening) (past : List Entry) (e : PacketInput) (left : Left) (d : Option Staged) (w : Option Work) → due o past e ≡ d → IsBegun o past w
     → IsBegun o (Met e left ∷ past) (work_after left d o.me (boot o past) (request_of o.me e) w)
 unfolding IsBegun
 begun_next o past e NoSave d w is h = same_jobs o past (Met e NoSave ∷ past) (request_of o.me e) w (λ r. refl) h
@@ -76,7 +76,7 @@ work_begun o past w h = subst (IsBegun o past) h (begun_of o past)
 
 -- A run that was begun is not above the last run.
 
-not_above : NumbersGrow → (o : Opening) (past : List Entry) (e : Event) (left : Left) (d : Option Staged) (run : ℕ) (js : List Job) → due o past e ≡ d
+not_above : NumbersGrow → (o : Opening) (past : List Entry) (e : PacketInput) (left : Left) (d : Option Staged) (run : ℕ) (js : List Job) → due o past e ≡ d
     → (begun o run past ≡ Some js → run ≤ last_run o past)
     → begun_after left run d (begun o run past) ≡ Some js → run ≤ last_run o (Met e left ∷ past)
 not_above grow o past e NoSave d run js is f h = let a = f h in let g = (grow o (Met e NoSave) past).0 in omega arith
@@ -105,7 +105,7 @@ another false js other older h k = k
 different : (a b : ℕ) → b < a → (a == b) ≡ false
 different a b h = grind (arith, nat_tests)
 
-stays_after : NumbersGrow → (o : Opening) (past : List Entry) (e : Event) (left : Left) (d : Option Staged) (run : ℕ) (js : List Job) → due o past e ≡ d
+stays_after : NumbersGrow → (o : Opening) (past : List Entry) (e : PacketInput) (left : Left) (d : Option Staged) (run : ℕ) (js : List Job) → due o past e ≡ d
     → begun o run past ≡ Some js → begun_after left run d (begun o run past) ≡ Some js
 stays_after grow o past e NoSave d run js is h = h
 stays_after grow o past e LostNew d run js is h = h
@@ -159,7 +159,7 @@ takes_of o past run j x (Some w) s is h =
       within = job_within w j (slice_get w.jobs j) w.since s refl p.1;
     }
 
-taking_of : (o : Opening) (past : List Entry) (e : Event) (run j : ℕ) (x : Option State) (s : State) → takes run j (request_of o.me e) (work o past) ≡ x
+taking_of : (o : Opening) (past : List Entry) (e : PacketInput) (run j : ℕ) (x : Option State) (s : State) → takes run j (request_of o.me e) (work o past) ≡ x
     → (Contains (takings o run j past) s → IsOfSet o run j past) → Contains (and_those x (takings o run j past)) s → IsOfSet o run j past
 taking_of o past e run j None s is f h = f h
 taking_of o past e run j (Some y) s is f h =

@@ -13,7 +13,7 @@ use Rattle.messages.specs.declared.frame.Frame.{Frame}
 use Rattle.messages.specs.declared.node.Node.{Node}
 use Rattle.messages.specs.declared.node.Node.TheVariants.{Server, Client, Mirror}
 use Rattle.messages.specs.Ranges.{is_text, is_generation}
-use Rattle.server_core.specs.declared.event.Event.{Event}
+use Rattle.server_core.specs.Inputs.{PacketInput as ServerInput}
 use Rattle.server_core.specs.History as server
 use Rattle.server_core.specs.Request.{Request, ToStage, ToStart, ToTrigger, ToMark, ToStop, ToVerify}
 use Rattle.server_core.specs.Request.{ToHold, ToPassFully, ToIssue, ToEnd, ToReport, ToNobody, request_of}
@@ -21,11 +21,11 @@ use Rattle.server_core.specs.Words as servers
 use Rattle.server_core.specs.Replies.{Now}
 use Rattle.server_core.specs.Check.{progress_in}
 use Rattle.server_core.specs.Answers as answers
-use Rattle.client_core.specs.declared.call.Call.{Call}
-use Rattle.client_core.specs.declared.call.Call.TheVariants as calls
+use Rattle.client_core.specs.Inputs.{PacketInput as ClientInput}
+use Rattle.client_core.specs.Inputs as inputs
 use Rattle.client_core.specs.History as client
 use Rattle.client_core.specs.Refusals.{has_next, is_begun}
-use Rattle.client_core.specs.Laws.{generations}
+use Rattle.client_core.specs.Numbering.{generations}
 use Rattle.client_core.specs.Words as clients
 use Rattle.net_world.specs.Setup.{Setup}
 use Rattle.net_world.specs.Happenings.{Happening, Begin, Trigger, StopRun, Verify, Tick, Deliver, Issue}
@@ -190,14 +190,14 @@ unfolding Fine
 fine_if true x f h = f h
 fine_if false x f h = cc
 
-pub fine_server : (s : ℕ) (list : List server.Entry) (e : Event) → Fine (answers.refusal (opening_of s) list e)
+pub fine_server : (s : ℕ) (list : List server.Entry) (e : ServerInput) → Fine (answers.refusal (opening_of s) list e)
 fine_server s list e = fine_if (servers.is_on list) (answers.refusal_of (answers.now (opening_of s) list) (request_of s e))
     (fine_asked (answers.now (opening_of s) list) (request_of s e))
 
 -- ---- what the client refuses, but for what comes
 
-unfoldable pub NoPacket : Call → Type 0
-NoPacket (calls.Deliver p) = ⊥
+unfoldable pub NoPacket : ClientInput → Type 0
+NoPacket (inputs.Deliver p) = ⊥
 NoPacket _ = Unit {0}
 
 pub fine_one_when : (a b : Bool) (f : Fault) → Fine (Some f) → Fine (slice_get (when a Down ++ when b f) 0)
@@ -226,17 +226,17 @@ unfolding Fine
 fine_tick true h = cc
 fine_tick false h = cc
 
-pub fine_call : (w : Setup) (list : List client.Entry) (c : Call) → NoPacket c → Fine (clients.refusal (client_opening w) list c)
+pub fine_call : (w : Setup) (list : List client.Entry) (c : ClientInput) → NoPacket c → Fine (clients.refusal (client_opening w) list c)
 unfolding Fine NoPacket
-fine_call w list (calls.Begin text) k = fine_two_when (not (clients.is_on list)) (not (is_text text))
+fine_call w list (inputs.Begin text) k = fine_two_when (not (clients.is_on list)) (not (is_text text))
     (not (has_next (clients.peers (client_opening w) list) (clients.words_noted (client_opening w) list).generation
     (clients.words_noted (client_opening w) list).runs)) JobTooLong NumbersSpent (λ h. cc) (λ h. cc)
-fine_call w list (calls.Trigger run act) k =
+fine_call w list (inputs.Trigger run act) k =
     fine_one_when (not (clients.is_on list)) (not (is_begun (clients.words_noted (client_opening w) list) run)) NoSuchRun (λ h. cc)
-fine_call w list (calls.Stop run) k =
+fine_call w list (inputs.Stop run) k =
     fine_one_when (not (clients.is_on list)) (not (is_begun (clients.words_noted (client_opening w) list) run)) NoSuchRun (λ h. cc)
-fine_call w list (calls.Verify run text) k = fine_three_when (not (clients.is_on list)) (not (is_begun (clients.words_noted (client_opening w) list) run))
+fine_call w list (inputs.Verify run text) k = fine_three_when (not (clients.is_on list)) (not (is_begun (clients.words_noted (client_opening w) list) run))
     (not (is_text text)) (not (has_next (clients.peers (client_opening w) list) (clients.words_noted (client_opening w) list).generation
     (clients.words_noted (client_opening w) list).attempts))
-fine_call w list (calls.Deliver p) k = absurd k
-fine_call w list calls.Tick k = fine_tick (not (clients.is_on list))
+fine_call w list (inputs.Deliver p) k = absurd k
+fine_call w list inputs.Tick k = fine_tick (not (clients.is_on list))

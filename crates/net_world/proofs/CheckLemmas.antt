@@ -13,7 +13,6 @@ use Rattle.disk_model.specs.MemDisk.{file_of}
 use Rattle.disk_model.specs.declared.mem_disk.MemDisk.{MemDisk}
 use Rattle.recheck.specs.Disk.{ChecksDisk, IsWhole, IsCut}
 use Rattle.recheck.specs.Expected.{expected_by}
-use Rattle.server_core.specs.declared.event.Event.TheVariants as events
 use Rattle.server_core.specs.declared.input.Input.TheVariants as inputs
 use Rattle.server_core.specs.Check.{Check, progress_after}
 use Rattle.server_core.specs.Hearing.{packets_heard}
@@ -73,15 +72,15 @@ report_is w past s j ready h r old new is calm checks = by_end checks.1
 -- The end of the check.
 pub checked_is : (w : Setup) (past : List Change) (s j : ℕ) (ready : Ready) (h : IsReady w past s j ready) (r : ReportParts)
     → r ≡ report_of (key_of h.now j) h.job ready.state (content w past s j)
-    → end_of_check w past s j ≡ Some (events.CheckDone ready.boot ready.attempt j r)
+    → end_of_check w past s j ≡ Some (inputs.CheckDone ready.boot ready.attempt j r)
 checked_is w past s j ready h r is =
     let held = content w past s j in
     ap (λ x. end_of_check_in x j held) h.is_open
     ∙ ap (λ y. check_end h.now j (report_for h.now j y held)) h.has_job
     ∙ ap (check_end h.now j) (by_made h.now j h.job held ready.state h.made)
-    ∙ ap (λ x. Some (events.CheckDone h.now.boot h.now.attempt j x)) (sym is)
-    ∙ ap (λ b. Some (events.CheckDone b h.now.attempt j r)) (sym h.boot)
-    ∙ ap (λ a. Some (events.CheckDone ready.boot a j r)) (sym h.attempt)
+    ∙ ap (λ x. Some (inputs.CheckDone h.now.boot h.now.attempt j x)) (sym is)
+    ∙ ap (λ b. Some (inputs.CheckDone b h.now.attempt j r)) (sym h.boot)
+    ∙ ap (λ a. Some (inputs.CheckDone ready.boot a j r)) (sym h.attempt)
 
 -- A check that isn't made leaves the file.
 pub unchecked : (key : Key) (rec : JobParts) (state : Option State) (fatal : Bool) (fault : Fault) (old new : File)
@@ -111,7 +110,7 @@ check_comes : (w : Setup) (past : List Change) (s j : ℕ) (ready : Ready) (h : 
     → r ≡ report_of (key_of h.now j) h.job ready.state (content w past s j)
     → ComesTo w past s (happenings.Check s j) (inputs.CheckDone ready.boot ready.attempt j r)
 check_comes w past s j ready h r is =
-    let e = events.CheckDone ready.boot ready.attempt j r in
+    let e = inputs.CheckDone ready.boot ready.attempt j r in
     let meets : brings w past (happenings.Check s j) ≡ outcome_of_step (met_by_server (trace w past) s e) =
     ap (λ x. outcome_of_step (end_of_check_met (trace w past) s x)) (checked_is w past s j ready h r is) in
     record {

@@ -15,10 +15,8 @@ use Rattle.client_core.specs.History as client
 use Rattle.client_core.specs.Life.{life}
 use Rattle.client_core.specs.Packets.{packets, packets_for}
 use Rattle.client_core.specs.Words as words
-use Rattle.client_core.specs.declared.call.Call.{Call}
-use Rattle.client_core.specs.declared.call.Call.TheVariants as calls
-use Rattle.client_core.specs.declared.input.Input.TheVariants as inputs
-use Rattle.client_core.specs.declared.input.Input.{Input}
+use Rattle.client_core.specs.Inputs.{PacketInput, FrameInput}
+use Rattle.client_core.specs.Inputs as inputs
 use Rattle.client_core.specs.Hearing.{Met, rules, heard_at, packets_heard}
 use Rattle.client_core.specs.FrameAnswers as framed
 use Rattle.client_core.specs.FrameAnswers.{due}
@@ -51,7 +49,7 @@ use Rattle.net_world.proofs.AskEndsLemmas.{client_act}
 
 -- Within the save of this the client loses its power: it is barred as what the client meets, and comes of
 -- it what is due.
-pub record CutsClient (w : Setup) (past : List Change) (landed : Bool) (e : Happening) (i : Input) : Type 0 where
+pub record CutsClient (w : Setup) (past : List Change) (landed : Bool) (e : Happening) (i : FrameInput) : Type 0 where
   pub bar : barring_fault w (trace w past) (frames_sent w (steps past)) e ≡ unless_on w (trace w past) Client
   pub saves : is_some (due (client_opening w) (entries w past) i) ≡ true → brings w past e ≡ Does (changes.Met (step_of (Met i (lost_by landed))))
   pub none : is_some (due (client_opening w) (entries w past) i) ≡ false → brings w past e ≡ Refuses NoSave
@@ -60,7 +58,7 @@ pub record CutsClient (w : Setup) (past : List Change) (landed : Bool) (e : Happ
   pub asks : act w past (changes.Met (step_of (Met i (lost_by landed)))) ≡ acts.None
 
 -- It was cut.
-pub cut_ends : (w : Setup) (past : List Change) (landed : Bool) (e : Happening) (i : Input) (first : ℕ) (t : Told) (old new : World) → StandsFor w past old
+pub cut_ends : (w : Setup) (past : List Change) (landed : Bool) (e : Happening) (i : FrameInput) (first : ℕ) (t : Told) (old new : World) → StandsFor w past old
     → HasMoved [] old new → CutsClient w past landed e i
     → CutsIn (client_nodes (client_opening w)) (entries w past) landed i new.client (Ok tt) → first ≡ length (sent_in old.sent) → t ≡ plainly_told first
     → Ends w past e new (Ok t)
@@ -74,7 +72,7 @@ cut_ends w past landed e i first t old new stands moved c cut f tells =
     }) refl f tells
 
 -- It wasn't.
-pub uncut_ends : (w : Setup) (past : List Change) (landed : Bool) (e : Happening) (i : Input) (fault : Fault) (old new : World) → StandsFor w past old
+pub uncut_ends : (w : Setup) (past : List Change) (landed : Bool) (e : Happening) (i : FrameInput) (fault : Fault) (old new : World) → StandsFor w past old
     → HasMoved [] old new → CutsClient w past landed e i
     → CutsIn (client_nodes (client_opening w)) (entries w past) landed i new.client (Err fault) → Ends w past e new (Err fault)
 uncut_ends w past landed e i NodeOff old new stands moved c cut =
@@ -88,7 +86,7 @@ uncut_ends w past landed e i _ old new stands moved c cut = absurd cut
 
 -- ---- a save that is lost sends nothing
 
-call_silent : (o : client.Opening) (list : List client.Entry) (c : Call) (landed : Bool)
+call_silent : (o : client.Opening) (list : List client.Entry) (c : PacketInput) (landed : Bool)
     → frames_by (packets o) list (Some (client.Met c (lost_by landed))) ≡ []
 call_silent o list c landed =
     ap (λ b. flat_map frames_of (if b then packets_for (words.peers o list) (words.words_noted o list) (life o list) c else []))
@@ -96,7 +94,7 @@ call_silent o list c landed =
 
 meaning_silent : (o : client.Opening) (list : List client.Entry) (landed : Bool) (m : Meaning)
     → frames_by (packets o) list (heard_by (rules o) (lost_by landed) m) ≡ []
-meaning_silent o list landed (Says p) = call_silent o list (calls.Deliver p) landed
+meaning_silent o list landed (Says p) = call_silent o list (inputs.Deliver p) landed
 meaning_silent o list landed Waits = refl
 meaning_silent o list landed Spoils = refl
 meaning_silent o list landed Strays = refl
@@ -104,13 +102,13 @@ meaning_silent o list landed Strays = refl
 -- ---- what comes of it
 
 module _ (w : Setup) (past : List Change) (landed : Bool) where
-  call_saves : (c : Call) → is_some (words.due (client_opening w) (packets_heard (client_opening w) (entries w past)) c) ≡ true
+  call_saves : (c : PacketInput) → is_some (words.due (client_opening w) (packets_heard (client_opening w) (entries w past)) c) ≡ true
       → outcome_of_step (client_cut_in w (trace w past) landed c) ≡ Does (changes.Met (OfClient (Happens (client.Met c (lost_by landed)))))
   call_saves c h =
       ap outcome_of_step (some_save (words.due (client_opening w) (of_client w (trace w past)) c) (OfClient (Happens (client.Met c (lost_by landed))))
       (ap (λ l. is_some (words.due (client_opening w) l c)) (sym (heard_is w past)) ∙ h))
 
-  call_none : (c : Call) → is_some (words.due (client_opening w) (packets_heard (client_opening w) (entries w past)) c) ≡ false
+  call_none : (c : PacketInput) → is_some (words.due (client_opening w) (packets_heard (client_opening w) (entries w past)) c) ≡ false
       → outcome_of_step (client_cut_in w (trace w past) landed c) ≡ Refuses NoSave
   call_none c h =
       ap outcome_of_step (no_save (words.due (client_opening w) (of_client w (trace w past)) c) (OfClient (Happens (client.Met c (lost_by landed))))
@@ -119,42 +117,42 @@ module _ (w : Setup) (past : List Change) (landed : Bool) where
   pub cuts_begin : (text : List ℕ) → CutsClient w past landed (CutIn landed (Begin text)) (inputs.Begin text)
   cuts_begin text = record {
     bar = refl;
-    saves = call_saves (calls.Begin text);
-    none = call_none (calls.Begin text);
+    saves = call_saves (inputs.Begin text);
+    none = call_none (inputs.Begin text);
     answered = refl;
     silent = sym (frames_are w past (Met (inputs.Begin text) (lost_by landed)))
-        ∙ call_silent (client_opening w) (packets_heard (client_opening w) (entries w past)) (calls.Begin text) landed;
+        ∙ call_silent (client_opening w) (packets_heard (client_opening w) (entries w past)) (inputs.Begin text) landed;
     asks = refl;
   }
 
   pub cuts_verify : (run : ℕ) (text : List ℕ) → CutsClient w past landed (CutIn landed (Verify run text)) (inputs.Verify run text)
   cuts_verify run text = record {
     bar = refl;
-    saves = call_saves (calls.Verify run text);
-    none = call_none (calls.Verify run text);
+    saves = call_saves (inputs.Verify run text);
+    none = call_none (inputs.Verify run text);
     answered = refl;
     silent = sym (frames_are w past (Met (inputs.Verify run text) (lost_by landed)))
-        ∙ call_silent (client_opening w) (packets_heard (client_opening w) (entries w past)) (calls.Verify run text) landed;
+        ∙ call_silent (client_opening w) (packets_heard (client_opening w) (entries w past)) (inputs.Verify run text) landed;
     asks = refl;
   }
 
   -- A frame's packet.
-  said_saves : (f : Frame) (p : PacketParts) → is_some (words.due (client_opening w) (packets_heard (client_opening w) (entries w past)) (calls.Deliver p))
+  said_saves : (f : Frame) (p : PacketParts) → is_some (words.due (client_opening w) (packets_heard (client_opening w) (entries w past)) (inputs.Deliver p))
       ≡ true
       → client_frame_cut w (trace w past) landed f (Says p) ≡ Ok (OfClient (Comes f (lost_by landed)))
   said_saves f p h =
-      some_save (words.due (client_opening w) (of_client w (trace w past)) (calls.Deliver p)) (OfClient (Comes f (lost_by landed)))
-      (ap (λ l. is_some (words.due (client_opening w) l (calls.Deliver p))) (sym (heard_is w past)) ∙ h)
+      some_save (words.due (client_opening w) (of_client w (trace w past)) (inputs.Deliver p)) (OfClient (Comes f (lost_by landed)))
+      (ap (λ l. is_some (words.due (client_opening w) l (inputs.Deliver p))) (sym (heard_is w past)) ∙ h)
 
-  said_none : (f : Frame) (p : PacketParts) → is_some (words.due (client_opening w) (packets_heard (client_opening w) (entries w past)) (calls.Deliver p))
+  said_none : (f : Frame) (p : PacketParts) → is_some (words.due (client_opening w) (packets_heard (client_opening w) (entries w past)) (inputs.Deliver p))
       ≡ false
       → client_frame_cut w (trace w past) landed f (Says p) ≡ Err NoSave
   said_none f p h =
-      no_save (words.due (client_opening w) (of_client w (trace w past)) (calls.Deliver p)) (OfClient (Comes f (lost_by landed)))
-      (ap (λ l. is_some (words.due (client_opening w) l (calls.Deliver p))) (sym (heard_is w past)) ∙ h)
+      no_save (words.due (client_opening w) (of_client w (trace w past)) (inputs.Deliver p)) (OfClient (Comes f (lost_by landed)))
+      (ap (λ l. is_some (words.due (client_opening w) l (inputs.Deliver p))) (sym (heard_is w past)) ∙ h)
 
   meaning_saves : (f : Frame) (m : Meaning)
-      → is_some (heard_or None (words.due (client_opening w) (packets_heard (client_opening w) (entries w past))) (sense_of calls.Deliver m)) ≡ true
+      → is_some (heard_or None (words.due (client_opening w) (packets_heard (client_opening w) (entries w past))) (sense_of inputs.Deliver m)) ≡ true
       → client_frame_cut w (trace w past) landed f m ≡ Ok (OfClient (Comes f (lost_by landed)))
   meaning_saves f (Says p) h = said_saves f p h
   meaning_saves f Waits h = absurd cc
@@ -162,7 +160,7 @@ module _ (w : Setup) (past : List Change) (landed : Bool) where
   meaning_saves f Strays h = absurd cc
 
   meaning_none : (f : Frame) (m : Meaning)
-      → is_some (heard_or None (words.due (client_opening w) (packets_heard (client_opening w) (entries w past))) (sense_of calls.Deliver m)) ≡ false
+      → is_some (heard_or None (words.due (client_opening w) (packets_heard (client_opening w) (entries w past))) (sense_of inputs.Deliver m)) ≡ false
       → client_frame_cut w (trace w past) landed f m ≡ Err NoSave
   meaning_none f (Says p) h = said_none f p h
   meaning_none f Waits h = refl

@@ -9,8 +9,7 @@ use Rattle.disk_model.specs.Left.{saved_for, is_lost, has_new}
 use Rattle.messages.specs.Hearing.{with_entry}
 use Rattle.messages.specs.Senses.{Sense, Hears, Keeps, Drops, Misses, refusal_of_sense, heard_or}
 use Rattle.messages.proofs.SenseLemmas.{entry_by, entries_are}
-use Rattle.client_core.specs.declared.call.Call.{Call}
-use Rattle.client_core.specs.declared.input.Input.{Input}
+use Rattle.client_core.specs.Inputs.{PacketInput, FrameInput}
 use Rattle.client_core.specs.declared.note.ClientNote.{ClientNote}
 use Rattle.client_core.specs.declared.peers.Peers.{Peers}
 use Rattle.client_core.specs.History as client
@@ -29,11 +28,11 @@ use Rattle.net_world.proofs.NodeLemmas.{Saves, relabel}
 said : Opening → List FrameEntry → ClientNote
 said o past = words_noted o (packets_heard o past)
 
-call_left : (o : Opening) (list : List client.Entry) (c : Call) (a b : Left) → has_new a ≡ has_new b
+call_left : (o : Opening) (list : List client.Entry) (c : PacketInput) (a b : Left) → has_new a ≡ has_new b
     → words_noted o (client.Met c a ∷ list) ≡ words_noted o (client.Met c b ∷ list)
 call_left o list c a b h = ap (λ new. noted_after new (words.due o list c) (words_noted o list)) h
 
-sense_left : (o : Opening) (list : List client.Entry) (a b : Left) (s : Sense Call) → has_new a ≡ has_new b
+sense_left : (o : Opening) (list : List client.Entry) (a b : Left) (s : Sense PacketInput) → has_new a ≡ has_new b
     → words_noted o (with_entry (entry_by (rules o) a s) list) ≡ words_noted o (with_entry (entry_by (rules o) b s) list)
 sense_left o list a b (Hears c) h = call_left o list c a b h
 sense_left o list a b Keeps h = refl
@@ -41,11 +40,11 @@ sense_left o list a b Drops h = refl
 sense_left o list a b Misses h = refl
 
 -- What is heard behind an input, by what the input is.
-heard_behind : (o : Opening) (past : List FrameEntry) (e : Input) (left : Left)
+heard_behind : (o : Opening) (past : List FrameEntry) (e : FrameInput) (left : Left)
     → packets_heard o (Met e left ∷ past) ≡ with_entry (entry_by (rules o) left (sense o past e)) (packets_heard o past)
 heard_behind o past e left = entries_are (rules o) (heard_at o past) (arrival e) left (sense o past e) refl
 
-same_left : (o : Opening) (past : List FrameEntry) (e : Input) (a b : Left) → has_new a ≡ has_new b → said o (Met e a ∷ past) ≡ said o (Met e b ∷ past)
+same_left : (o : Opening) (past : List FrameEntry) (e : FrameInput) (a b : Left) → has_new a ≡ has_new b → said o (Met e a ∷ past) ≡ said o (Met e b ∷ past)
 unfolding said
 same_left o past e a b h =
     ap (words_noted o) (heard_behind o past e a) ∙ sense_left o (packets_heard o past) a b (sense o past e) h
@@ -55,13 +54,13 @@ none_new : (x : Option Addition) (n : ClientNote) → noted_after false x n ≡ 
 none_new None n = refl
 none_new (Some a) n = refl
 
-sense_old : (o : Opening) (list : List client.Entry) (s : Sense Call) → words_noted o (with_entry (entry_by (rules o) LostOld s) list) ≡ words_noted o list
+sense_old : (o : Opening) (list : List client.Entry) (s : Sense PacketInput) → words_noted o (with_entry (entry_by (rules o) LostOld s) list) ≡ words_noted o list
 sense_old o list (Hears c) = none_new (words.due o list c) (words_noted o list)
 sense_old o list Keeps = refl
 sense_old o list Drops = refl
 sense_old o list Misses = refl
 
-same_old : (o : Opening) (past : List FrameEntry) (e : Input) → said o (Met e LostOld ∷ past) ≡ said o past
+same_old : (o : Opening) (past : List FrameEntry) (e : FrameInput) → said o (Met e LostOld ∷ past) ≡ said o past
 unfolding said
 same_old o past e = ap (words_noted o) (heard_behind o past e LostOld) ∙ sense_old o (packets_heard o past) (sense o past e)
 
@@ -72,14 +71,14 @@ falls true true h = refl
 falls false true h = refl
 falls on false h = absurd cc
 
-sense_falls : (o : Opening) (list : List client.Entry) (left : Left) (s : Sense Call) → is_lost left ≡ true
+sense_falls : (o : Opening) (list : List client.Entry) (left : Left) (s : Sense PacketInput) → is_lost left ≡ true
     → is_some (heard_or None (words.due o list) s) ≡ true → words.is_on (with_entry (entry_by (rules o) left s) list) ≡ false
 sense_falls o list left (Hears c) h d = falls (words.is_on list) (is_lost left) h
 sense_falls o list left Keeps h d = absurd cc
 sense_falls o list left Drops h d = absurd cc
 sense_falls o list left Misses h d = absurd cc
 
-down : (o : Opening) (past : List FrameEntry) (e : Input) (left : Left) → is_lost left ≡ true → is_some (due o past e) ≡ true
+down : (o : Opening) (past : List FrameEntry) (e : FrameInput) (left : Left) → is_lost left ≡ true → is_some (due o past e) ≡ true
     → is_up o (Met e left ∷ past) ≡ false
 down o past e left h d = ap words.is_on (heard_behind o past e left) ∙ sense_falls o (packets_heard o past) left (sense o past e) h d
 
@@ -103,7 +102,7 @@ free_by : (r : Option Fault) (x : Option Addition) → is_some (unless_refused r
 free_by None x h = refl
 free_by (Some fault) x h = cc
 
-free_in : (o : Opening) (list : List client.Entry) (s : Sense Call) → is_some (heard_or None (words.due o list) s) ≡ true
+free_in : (o : Opening) (list : List client.Entry) (s : Sense PacketInput) → is_some (heard_or None (words.due o list) s) ≡ true
     → refusal_of_sense (rules o) list s ≡ None
 free_in o list (Hears c) h = free_by (words.refusal o list c) _ h
 free_in o list Keeps h = absurd cc
@@ -111,18 +110,18 @@ free_in o list Drops h = absurd cc
 free_in o list Misses h = absurd cc
 
 -- What is due comes to a client that is on.
-up_call : (on : Bool) (peers : Peers) (n : ClientNote) (c : Call) → is_some (due_by on peers n c) ≡ true → on ≡ true
+up_call : (on : Bool) (peers : Peers) (n : ClientNote) (c : PacketInput) → is_some (due_by on peers n c) ≡ true → on ≡ true
 up_call true peers n c h = refl
 up_call false peers n c h = absurd cc
 
-up_in : (o : Opening) (list : List client.Entry) (s : Sense Call) → is_some (heard_or None (words.due o list) s) ≡ true → words.is_on list ≡ true
+up_in : (o : Opening) (list : List client.Entry) (s : Sense PacketInput) → is_some (heard_or None (words.due o list) s) ≡ true → words.is_on list ≡ true
 up_in o list (Hears c) h = up_call (words.is_on list) (words.peers o list) (words_noted o list) c h
 up_in o list Keeps h = absurd cc
 up_in o list Drops h = absurd cc
 up_in o list Misses h = absurd cc
 
 -- An input that is due to make a save.
-pub saves : (o : Opening) (past : List FrameEntry) (e : Input) → is_some (due o past e) ≡ true → Saves (client_nodes o) Cut past e
+pub saves : (o : Opening) (past : List FrameEntry) (e : FrameInput) → is_some (due o past e) ≡ true → Saves (client_nodes o) Cut past e
 unfolding said
 saves o past e d = record {
   up = up_in o (packets_heard o past) (sense o past e) d;

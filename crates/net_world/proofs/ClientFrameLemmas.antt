@@ -13,8 +13,7 @@ use Rattle.messages.specs.declared.frame.Frame.{Frame}
 use Rattle.messages.specs.declared.node.Node.TheVariants.{Client}
 use Rattle.messages.specs.Hearing.{Heard, Meaning, Says, Waits, Spoils, Strays, Comes, meaning}
 use Rattle.messages.specs.Senses.{sense_of, is_drop, refusal_of_sense, heard_or}
-use Rattle.client_core.specs.declared.call.Call.TheVariants as calls
-use Rattle.client_core.specs.declared.input.Input.TheVariants as inputs
+use Rattle.client_core.specs.Inputs as inputs
 use Rattle.client_core.specs.History as client
 use Rattle.client_core.specs.Words as words
 use Rattle.client_core.specs.Hearing.{rules, heard_at, packets_heard}
@@ -46,30 +45,30 @@ use Rattle.net_world.proofs.AskEndsLemmas.{told_is}
 come : Frame → Left → Outcome
 come f left = Does (Met (OfClient (Comes f left)))
 
-says_here : (w : Setup) (t : List Step) (f : Frame) (p : PacketParts) → words.refusal (client_opening w) (of_client w t) (calls.Deliver p) ≡ None
-    → comes_to_client w t f (Says p) ≡ come f (saved_for (words.due (client_opening w) (of_client w t) (calls.Deliver p)))
+says_here : (w : Setup) (t : List Step) (f : Frame) (p : PacketParts) → words.refusal (client_opening w) (of_client w t) (inputs.Deliver p) ≡ None
+    → comes_to_client w t f (Says p) ≡ come f (saved_for (words.due (client_opening w) (of_client w t) (inputs.Deliver p)))
 unfolding come
 says_here w t f p h = rw h refl
 
 says_ok : (w : Setup) (t : List Step) (f : Frame) (p : PacketParts) (list : List client.Entry) → list ≡ of_client w t
-    → words.refusal (client_opening w) list (calls.Deliver p) ≡ None
-    → comes_to_client w t f (Says p) ≡ come f (saved_for (words.due (client_opening w) list (calls.Deliver p)))
+    → words.refusal (client_opening w) list (inputs.Deliver p) ≡ None
+    → comes_to_client w t f (Says p) ≡ come f (saved_for (words.due (client_opening w) list (inputs.Deliver p)))
 says_ok w t f p list is =
-    subst (λ l. words.refusal (client_opening w) l (calls.Deliver p) ≡ None
-    → comes_to_client w t f (Says p) ≡ come f (saved_for (words.due (client_opening w) l (calls.Deliver p)))) (sym is) (says_here w t f p)
+    subst (λ l. words.refusal (client_opening w) l (inputs.Deliver p) ≡ None
+    → comes_to_client w t f (Says p) ≡ come f (saved_for (words.due (client_opening w) l (inputs.Deliver p)))) (sym is) (says_here w t f p)
 
 refused_here : (w : Setup) (t : List Step) (f : Frame) (p : PacketParts) (fault : Fault)
-    → words.refusal (client_opening w) (of_client w t) (calls.Deliver p) ≡ Some fault → comes_to_client w t f (Says p) ≡ Refuses fault
+    → words.refusal (client_opening w) (of_client w t) (inputs.Deliver p) ≡ Some fault → comes_to_client w t f (Says p) ≡ Refuses fault
 refused_here w t f p fault h = rw h refl
 
 says_err : (w : Setup) (t : List Step) (f : Frame) (p : PacketParts) (list : List client.Entry) (fault : Fault) → list ≡ of_client w t
-    → words.refusal (client_opening w) list (calls.Deliver p) ≡ Some fault
+    → words.refusal (client_opening w) list (inputs.Deliver p) ≡ Some fault
     → comes_to_client w t f (Says p) ≡ Refuses fault
-says_err w t f p list fault is h = refused_here w t f p fault (ap (λ l. words.refusal (client_opening w) l (calls.Deliver p)) (sym is) ∙ h)
+says_err w t f p list fault is h = refused_here w t f p fault (ap (λ l. words.refusal (client_opening w) l (inputs.Deliver p)) (sym is) ∙ h)
 
 meaning_ok : (w : Setup) (t : List Step) (f : Frame) (list : List client.Entry) → list ≡ of_client w t → (m : Meaning)
-    → refusal_of_sense (rules (client_opening w)) list (sense_of calls.Deliver m) ≡ None
-    → comes_to_client w t f m ≡ come f (saved_for (heard_or None (words.due (client_opening w) list) (sense_of calls.Deliver m)))
+    → refusal_of_sense (rules (client_opening w)) list (sense_of inputs.Deliver m) ≡ None
+    → comes_to_client w t f m ≡ come f (saved_for (heard_or None (words.due (client_opening w) list) (sense_of inputs.Deliver m)))
 unfolding come
 meaning_ok w t f list is (Says p) h = says_ok w t f p list is h
 meaning_ok w t f list is Waits h = refl
@@ -81,8 +80,8 @@ DroppedOr : Frame → Fault → Bool → Outcome → Type 0
 DroppedOr f fault drops out = ((drops ≡ false) × (out ≡ Refuses fault)) ⊎ ((drops ≡ true) × (fault ≡ FrameBadField) × (out ≡ Drops (OfClient (Comes f NoSave))))
 
 meaning_err : (w : Setup) (t : List Step) (f : Frame) (list : List client.Entry) (fault : Fault) → list ≡ of_client w t → words.is_on list ≡ true
-    → (m : Meaning) → refusal_of_sense (rules (client_opening w)) list (sense_of calls.Deliver m) ≡ Some fault
-    → DroppedOr f fault (is_drop (sense_of calls.Deliver m)) (comes_to_client w t f m)
+    → (m : Meaning) → refusal_of_sense (rules (client_opening w)) list (sense_of inputs.Deliver m) ≡ Some fault
+    → DroppedOr f fault (is_drop (sense_of inputs.Deliver m)) (comes_to_client w t f m)
 unfolding DroppedOr
 meaning_err w t f list fault is on (Says p) h = inl (refl, says_err w t f p list fault is h)
 meaning_err w t f list fault is on Waits h = absurd cc
@@ -108,7 +107,7 @@ frame_err : (w : Setup) (past : List Change) (f : Frame) (fault : Fault) → wor
     (comes_to_client w (trace w past) f (said_to_client w (steps past) f))
 frame_err w past f fault on h =
     let m = meaning (rules (client_opening w)) (heard_at (client_opening w) (entries w past)) f in
-    subst (λ x. DroppedOr f fault (is_drop (sense_of calls.Deliver m)) (comes_to_client w (trace w past) f x)) (said_is w past f)
+    subst (λ x. DroppedOr f fault (is_drop (sense_of inputs.Deliver m)) (comes_to_client w (trace w past) f x)) (said_is w past f)
     (meaning_err w (trace w past) f (packets_heard (client_opening w) (entries w past)) fault (heard_is w past) on m h)
 
 -- ---- its delivery

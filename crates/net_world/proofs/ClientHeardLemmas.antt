@@ -3,8 +3,7 @@ use Rattle.std.proofs.Common.{◌≡◌, refl, sym, ◌∙◌, ap, List, [], ◌
 use Rattle.std.specs.Prelude.{map}
 use Rattle.messages.specs.Hearing.{Heard, Coming, Comes, Happens, entry_of, rows_of, with_entry, heard, frames_by}
 use Rattle.disk_model.specs.declared.left.Left.{Left}
-use Rattle.client_core.specs.declared.call.Call.TheVariants as calls
-use Rattle.client_core.specs.declared.input.Input.TheVariants as inputs
+use Rattle.client_core.specs.Inputs as inputs
 use Rattle.client_core.specs.History as client
 use Rattle.client_core.specs.Hearing as hearing
 use Rattle.client_core.specs.Hearing.{FrameEntry, coming_of, packets_heard}
@@ -24,12 +23,12 @@ next w h c = record { entries = with_entry (entry_of (at_client w) h c) h.entrie
 entry_same : (w : Setup) (h : Heard client.Entry) (c : Coming client.Entry Left)
     → entry_of (at_client w) h (coming_of (client_frame_entry c)) ≡ entry_of (at_client w) h c
 entry_same w h (Comes f left) = refl
-entry_same w h (Happens (client.Met (calls.Begin text) left)) = refl
-entry_same w h (Happens (client.Met (calls.Trigger run act) left)) = refl
-entry_same w h (Happens (client.Met (calls.Stop run) left)) = refl
-entry_same w h (Happens (client.Met (calls.Verify run text) left)) = refl
-entry_same w h (Happens (client.Met (calls.Deliver p) left)) = refl
-entry_same w h (Happens (client.Met calls.Tick left)) = refl
+entry_same w h (Happens (client.Met (inputs.Begin text) left)) = refl
+entry_same w h (Happens (client.Met (inputs.Trigger run act) left)) = refl
+entry_same w h (Happens (client.Met (inputs.Stop run) left)) = refl
+entry_same w h (Happens (client.Met (inputs.Verify run text) left)) = refl
+entry_same w h (Happens (client.Met (inputs.Deliver p) left)) = refl
+entry_same w h (Happens (client.Met inputs.Tick left)) = refl
 entry_same w h (Happens client.Cut) = refl
 entry_same w h (Happens (client.Restart mirror)) = refl
 entry_same w h (Happens (client.Renew g left)) = refl
@@ -38,12 +37,12 @@ entry_same w h (Happens client.Lose) = refl
 next_same : (w : Setup) (h : Heard client.Entry) (c : Coming client.Entry Left) → next w h (coming_of (client_frame_entry c)) ≡ next w h c
 unfolding next
 next_same w h (Comes f left) = refl
-next_same w h (Happens (client.Met (calls.Begin text) left)) = refl
-next_same w h (Happens (client.Met (calls.Trigger run act) left)) = refl
-next_same w h (Happens (client.Met (calls.Stop run) left)) = refl
-next_same w h (Happens (client.Met (calls.Verify run text) left)) = refl
-next_same w h (Happens (client.Met (calls.Deliver p) left)) = refl
-next_same w h (Happens (client.Met calls.Tick left)) = refl
+next_same w h (Happens (client.Met (inputs.Begin text) left)) = refl
+next_same w h (Happens (client.Met (inputs.Trigger run act) left)) = refl
+next_same w h (Happens (client.Met (inputs.Stop run) left)) = refl
+next_same w h (Happens (client.Met (inputs.Verify run text) left)) = refl
+next_same w h (Happens (client.Met (inputs.Deliver p) left)) = refl
+next_same w h (Happens (client.Met inputs.Tick left)) = refl
 next_same w h (Happens client.Cut) = refl
 next_same w h (Happens (client.Restart mirror)) = refl
 next_same w h (Happens (client.Renew g left)) = refl

@@ -9,8 +9,8 @@ use Rattle.disk_model.specs.Steps as steps
 use Rattle.messages.specs.declared.frame.Frame.TheVariants.{Whole, Piece}
 use Rattle.messages.specs.Hearing.{Meaning, Says, Waits, Spoils, Strays, meaning, heard_by, with_entry}
 use Rattle.client_core.specs.declared.client.Client.{Client}
-use Rattle.client_core.specs.declared.input.Input.{Input}
-use Rattle.client_core.specs.declared.input.Input.TheVariants as inputs
+use Rattle.client_core.specs.Inputs.{FrameInput}
+use Rattle.client_core.specs.Inputs as inputs
 use Rattle.client_core.specs.History as client
 use Rattle.client_core.specs.History.{Opening}
 use Rattle.client_core.specs.Note.{Says as NoteSays, blank}
@@ -29,7 +29,7 @@ piece_stays o list left Waits h k = h
 piece_stays o list left Spoils h k = h
 piece_stays o list left Strays h k = h
 
-stays_up : (o : Opening) (past : List FrameEntry) (e : Input) (left : Left) → is_up o past ≡ true → is_lost left ≡ false → is_up o (Met e left ∷ past) ≡ true
+stays_up : (o : Opening) (past : List FrameEntry) (e : FrameInput) (left : Left) → is_up o past ≡ true → is_lost left ≡ false → is_up o (Met e left ∷ past) ≡ true
 stays_up o past (inputs.Begin text) left h k = stays (is_up o past) (is_lost left) h k
 stays_up o past (inputs.Trigger run act) left h k = stays (is_up o past) (is_lost left) h k
 stays_up o past (inputs.Stop run) left h k = stays (is_up o past) (is_lost left) h k
@@ -47,13 +47,13 @@ laws o = record {
 }
 
 -- A call that is answered, and told so.
-pub answers : (o : Opening) (past : List FrameEntry) (e : Input) (old new : Client Kept) (asked : ClientOuts) → is_up o past ≡ true
+pub answers : (o : Opening) (past : List FrameEntry) (e : FrameInput) (old new : Client Kept) (asked : ClientOuts) → is_up o past ≡ true
     → asked.answer ≡ answer_to o past e
     → steps.Answers (core.steps note_of o) past e old new asked.frames → Asks o past e (On new) (Ok asked)
 answers o past e old new asked on is h = (is, ends (client_nodes o) (laws o) past e old new (Ok asked.frames) on h)
 
 -- A call that isn't answered.
-pub fails : (o : Opening) (past : List FrameEntry) (e : Input) (fault : Fault) (old new : Client Kept) → is_up o past ≡ true
+pub fails : (o : Opening) (past : List FrameEntry) (e : FrameInput) (fault : Fault) (old new : Client Kept) → is_up o past ≡ true
     → steps.Faults (core.steps note_of o) past e (sort_of fault) fault old new → Asks o past e (On new) (Err fault)
 fails o past e fault old new on h = ends (client_nodes o) (laws o) past e old new (Err fault) on h
 

@@ -17,8 +17,7 @@ use Rattle.messages.specs.declared.refusal.Act.TheVariants as acts
 use Rattle.messages.specs.Pieces.{frames_of}
 use Rattle.messages.specs.Hearing.{Meaning, Says, Waits, Spoils, Strays, meaning, heard_by, frames_by}
 use Rattle.messages.specs.Senses.{sense_of, heard_or}
-use Rattle.server_core.specs.declared.event.Event.{Event}
-use Rattle.server_core.specs.declared.event.Event.TheVariants as events
+use Rattle.server_core.specs.Inputs.{PacketInput}
 use Rattle.server_core.specs.declared.input.Input.TheVariants as inputs
 use Rattle.server_core.specs.History as server
 use Rattle.server_core.specs.History.{Opening}
@@ -64,13 +63,13 @@ lost_sends : (me : ℕ) (b : Bool) (x : Option Fault) (bodies : List Body) → b
 lost_sends me b None bodies h = ap (λ t. flat_map frames_of (to_client me (if t then [] else bodies))) h
 lost_sends me b (Some fault) bodies h = refl
 
-event_silent : (o : Opening) (list : List server.Entry) (e : Event) (left : Left) → is_lost left ≡ true
+event_silent : (o : Opening) (list : List server.Entry) (e : PacketInput) (left : Left) → is_lost left ≡ true
     → frames_by (answers.packets o) list (Some (server.Met e left)) ≡ []
 event_silent o list e left h = lost_sends o.me (is_lost left) (answers.refusal o list e) (replies (answers.now o list) (request_of o.me e)) h
 
 meaning_silent : (o : Opening) (list : List server.Entry) (m : Meaning) (left : Left) → is_lost left ≡ true
     → frames_by (answers.packets o) list (heard_by (rules o) left m) ≡ []
-meaning_silent o list (Says p) left h = event_silent o list (events.Deliver p) left h
+meaning_silent o list (Says p) left h = event_silent o list (inputs.Deliver p) left h
 meaning_silent o list Waits left h = refl
 meaning_silent o list Spoils left h = refl
 meaning_silent o list Strays left h = refl
@@ -79,27 +78,27 @@ silent : (o : Opening) (past : List FrameEntry) (f : Frame) (left : Left) → is
     → framed.frames o past (hearing.Met (inputs.Deliver f) left) ≡ []
 silent o past f left h = meaning_silent o (packets_heard o past) (meaning (rules o) (heard_at o past) f) left h
 
-asks_nothing : (t : List Step) (s : ℕ) (e : Event) (left : Left) → is_lost left ≡ true → act_of t (Some (AtServer s (server.Met e left))) ≡ acts.None
+asks_nothing : (t : List Step) (s : ℕ) (e : PacketInput) (left : Left) → is_lost left ≡ true → act_of t (Some (AtServer s (server.Met e left))) ≡ acts.None
 asks_nothing t s e left h = ap (λ b. if b then acts.None else answers.act (opening_of s) (of_server s t) e) h
 
 -- ---- a frame
 
 says_cut : (t : List Step) (s : ℕ) (landed : Bool) (f : Frame) (p : PacketParts) (list : List server.Entry) → list ≡ of_server s t
-    → is_some (words.due (opening_of s) list (events.Deliver p)) ≡ true
+    → is_some (words.due (opening_of s) list (inputs.Deliver p)) ≡ true
     → server_frame_cut t s landed f (Says p) ≡ Ok (step_of s (hearing.Met (inputs.Deliver f) (lost_by landed)))
 says_cut t s landed f p list is h =
-    some_save (words.due (opening_of s) (of_server s t) (events.Deliver p)) (step_of s (hearing.Met (inputs.Deliver f) (lost_by landed)))
-    (ap (λ l. is_some (words.due (opening_of s) l (events.Deliver p))) (sym is) ∙ h)
+    some_save (words.due (opening_of s) (of_server s t) (inputs.Deliver p)) (step_of s (hearing.Met (inputs.Deliver f) (lost_by landed)))
+    (ap (λ l. is_some (words.due (opening_of s) l (inputs.Deliver p))) (sym is) ∙ h)
 
 says_none : (t : List Step) (s : ℕ) (landed : Bool) (f : Frame) (p : PacketParts) (list : List server.Entry) → list ≡ of_server s t
-    → is_some (words.due (opening_of s) list (events.Deliver p)) ≡ false
+    → is_some (words.due (opening_of s) list (inputs.Deliver p)) ≡ false
     → server_frame_cut t s landed f (Says p) ≡ Err NoSave
 says_none t s landed f p list is h =
-    no_save (words.due (opening_of s) (of_server s t) (events.Deliver p)) (step_of s (hearing.Met (inputs.Deliver f) (lost_by landed)))
-    (ap (λ l. is_some (words.due (opening_of s) l (events.Deliver p))) (sym is) ∙ h)
+    no_save (words.due (opening_of s) (of_server s t) (inputs.Deliver p)) (step_of s (hearing.Met (inputs.Deliver f) (lost_by landed)))
+    (ap (λ l. is_some (words.due (opening_of s) l (inputs.Deliver p))) (sym is) ∙ h)
 
 meaning_cut : (t : List Step) (s : ℕ) (landed : Bool) (f : Frame) (list : List server.Entry) → list ≡ of_server s t → (m : Meaning)
-    → is_some (heard_or None (words.due (opening_of s) list) (sense_of events.Deliver m)) ≡ true
+    → is_some (heard_or None (words.due (opening_of s) list) (sense_of inputs.Deliver m)) ≡ true
     → server_frame_cut t s landed f m ≡ Ok (step_of s (hearing.Met (inputs.Deliver f) (lost_by landed)))
 meaning_cut t s landed f list is (Says p) h = says_cut t s landed f p list is h
 meaning_cut t s landed f list is Waits h = absurd (false≢true h)
@@ -107,7 +106,7 @@ meaning_cut t s landed f list is Spoils h = absurd (false≢true h)
 meaning_cut t s landed f list is Strays h = absurd (false≢true h)
 
 meaning_none : (t : List Step) (s : ℕ) (landed : Bool) (f : Frame) (list : List server.Entry) → list ≡ of_server s t → (m : Meaning)
-    → is_some (heard_or None (words.due (opening_of s) list) (sense_of events.Deliver m)) ≡ false
+    → is_some (heard_or None (words.due (opening_of s) list) (sense_of inputs.Deliver m)) ≡ false
     → server_frame_cut t s landed f m ≡ Err NoSave
 meaning_none t s landed f list is (Says p) h = says_none t s landed f p list is h
 meaning_none t s landed f list is Waits h = refl
@@ -138,13 +137,13 @@ cut_brings w past number landed f s g = ap (delivery_cut_in w past landed) g.is_
 
 act_silent : (w : Setup) (past : List Change) (s : ℕ) (f : Frame) (left : Left) → is_lost left ≡ true
     → act w past (Met (step_of s (hearing.Met (inputs.Deliver f) left))) ≡ acts.None
-act_silent w past s (Whole p) left h = asks_nothing (trace w past) s (events.Deliver p) left h
+act_silent w past s (Whole p) left h = asks_nothing (trace w past) s (inputs.Deliver p) left h
 act_silent w past s (Piece q) left h =
     ap (λ m. act_of (trace w past) (option_map (AtServer s) (heard_by (rules (opening_of s)) left m))) (sym (said_is w s past (Piece q)))
     ∙ by_meaning (meaning (rules (opening_of s)) (heard_at (opening_of s) (entries past s)) (Piece q))
   where
     by_meaning : (m : Meaning) → act_of (trace w past) (option_map (AtServer s) (heard_by (rules (opening_of s)) left m)) ≡ acts.None
-    by_meaning (Says p) = asks_nothing (trace w past) s (events.Deliver p) left h
+    by_meaning (Says p) = asks_nothing (trace w past) s (inputs.Deliver p) left h
     by_meaning Waits = refl
     by_meaning Spoils = refl
     by_meaning Strays = refl

@@ -13,8 +13,7 @@ use Rattle.disk_model.specs.Left.{saved_for, has_new}
 use Rattle.messages.specs.declared.frame.Frame.{Frame}
 use Rattle.messages.specs.Hearing.{Meaning, Says, Waits, Spoils, Strays, meaning, heard_by, with_entry}
 use Rattle.messages.specs.Senses.{sense_of, refusal_of_sense, heard_or}
-use Rattle.server_core.specs.declared.event.Event.{Event}
-use Rattle.server_core.specs.declared.event.Event.TheVariants as events
+use Rattle.server_core.specs.Inputs.{PacketInput}
 use Rattle.server_core.specs.declared.input.Input.TheVariants as inputs
 use Rattle.server_core.specs.declared.note.ServerNote.{ServerNote}
 use Rattle.server_core.specs.History as server
@@ -54,14 +53,14 @@ recorded_old : (x : Option Staged) (last : ℕ) → last_run_after LostOld x las
 recorded_old None last = refl
 recorded_old (Some s) last = refl
 
-same_new : (o : Opening) (list : List server.Entry) (e : Event) (a b : Left) → has_new a ≡ has_new b
+same_new : (o : Opening) (list : List server.Entry) (e : PacketInput) (a b : Left) → has_new a ≡ has_new b
     → words_noted o (server.Met e a ∷ list) ≡ words_noted o (server.Met e b ∷ list)
 same_new o list e a b h = ap (λ l. noted_with (boot o list) l) (recorded_same a b (words.due o list e) (last_run o list) h)
   where
     noted_with : ℕ → ℕ → ServerNote
     noted_with x l = record { boot = x; last_run = l }
 
-same_old : (o : Opening) (list : List server.Entry) (e : Event) → words_noted o list ≡ words_noted o (server.Met e LostOld ∷ list)
+same_old : (o : Opening) (list : List server.Entry) (e : PacketInput) → words_noted o list ≡ words_noted o (server.Met e LostOld ∷ list)
 same_old o list e = ap (λ l. noted_with (boot o list) l) (sym (recorded_old (words.due o list e) (last_run o list)))
   where
     noted_with : ℕ → ℕ → ServerNote
@@ -89,14 +88,14 @@ record LostMeaning (o : Opening) (list : List server.Entry) (m : Meaning) : Type
   new : words_noted o (heard_list o list Saved m) ≡ words_noted o (heard_list o list LostNew m)
   old : words_noted o list ≡ words_noted o (heard_list o list LostOld m)
 
-lost_meaning : (o : Opening) (list : List server.Entry) (m : Meaning) → is_some (heard_or None (words.due o list) (sense_of events.Deliver m)) ≡ true
+lost_meaning : (o : Opening) (list : List server.Entry) (m : Meaning) → is_some (heard_or None (words.due o list) (sense_of inputs.Deliver m)) ≡ true
     → LostMeaning o list m
 unfolding heard_list
 lost_meaning o list (Says p) h = record {
   off_new = and_false (is_on list);
   off_old = and_false (is_on list);
-  new = same_new o list (events.Deliver p) Saved LostNew refl;
-  old = same_old o list (events.Deliver p);
+  new = same_new o list (inputs.Deliver p) Saved LostNew refl;
+  old = same_old o list (inputs.Deliver p);
 }
 lost_meaning o list Waits h = absurd (false≢true h)
 lost_meaning o list Spoils h = absurd (false≢true h)
@@ -116,12 +115,12 @@ due_free true w last s x (ToStart run) h = refl
 due_free false w last s x (ToStart run) h = absurd (false≢true h)
 due_free on w last s x _ h = absurd (false≢true h)
 
-event_free : (o : Opening) (list : List server.Entry) (e : Event) → is_some (words.due o list e) ≡ true → answers.refusal o list e ≡ None
+event_free : (o : Opening) (list : List server.Entry) (e : PacketInput) → is_some (words.due o list e) ≡ true → answers.refusal o list e ≡ None
 event_free o list e h = due_free (is_on list) (now o list) (last_run o list) (staged_run o list) (work o list) (request_of o.me e) h
 
-meaning_free : (o : Opening) (list : List server.Entry) (m : Meaning) → is_some (heard_or None (words.due o list) (sense_of events.Deliver m)) ≡ true
-    → refusal_of_sense (rules o) list (sense_of events.Deliver m) ≡ None
-meaning_free o list (Says p) h = event_free o list (events.Deliver p) h
+meaning_free : (o : Opening) (list : List server.Entry) (m : Meaning) → is_some (heard_or None (words.due o list) (sense_of inputs.Deliver m)) ≡ true
+    → refusal_of_sense (rules o) list (sense_of inputs.Deliver m) ≡ None
+meaning_free o list (Says p) h = event_free o list (inputs.Deliver p) h
 meaning_free o list Waits h = refl
 meaning_free o list Spoils h = absurd (false≢true h)
 meaning_free o list Strays h = absurd (false≢true h)

@@ -8,8 +8,8 @@ use Rattle.state_table.specs.Laws.{FoundHasItsKey}
 use Rattle.messages.specs.declared.packet.PacketParts.{PacketParts}
 use Rattle.messages.specs.declared.body.Body.TheVariants as bodies
 use Rattle.messages.specs.declared.node.Node.TheVariants.{Client, Mirror}
-use Rattle.server_core.specs.declared.event.Event.{Event}
-use Rattle.server_core.specs.declared.event.Event.TheVariants as events
+use Rattle.server_core.specs.Inputs.{PacketInput}
+use Rattle.server_core.specs.declared.input.Input.TheVariants as inputs
 use Rattle.server_core.specs.History.{Met}
 use Rattle.server_core.specs.Run.{Work}
 use Rattle.server_core.specs.Heard.{heard_with, heard_packets}
@@ -153,16 +153,16 @@ acked_kept laws law w (step ∷ past) key trace h = elim (sent_cases w step past
 ]
 
 -- What came to a server, this event with it.
-heard_with_sent : (w : Setup) (s : ℕ) (e : Event) (left : _) (t : List Step) (p : PacketParts) → IsTrace w (AtServer s (Met e left) ∷ t)
+heard_with_sent : (w : Setup) (s : ℕ) (e : PacketInput) (left : _) (t : List Step) (p : PacketParts) → IsTrace w (AtServer s (Met e left) ∷ t)
     → Contains (heard_with e (heard_packets (of_server s t))) p → Contains (sent_packets w t) p
-heard_with_sent w s (events.Deliver q) left t p trace h =
+heard_with_sent w s (inputs.Deliver q) left t p trace h =
     elim (first_or_behind q (heard_packets (of_server s t)) p h) [
       | inl now ↦ subst (Contains (sent_packets w t)) now (trace.1.0.0)
       | inr before ↦ heard_was_sent w s t p trace.0 before
     ]
-heard_with_sent w s (events.Issue j) left t p trace h = heard_was_sent w s t p trace.0 h
-heard_with_sent w s (events.WriteDone ticket end) left t p trace h = heard_was_sent w s t p trace.0 h
-heard_with_sent w s (events.CheckDone boot a j report) left t p trace h = heard_was_sent w s t p trace.0 h
+heard_with_sent w s (inputs.Issue j) left t p trace h = heard_was_sent w s t p trace.0 h
+heard_with_sent w s (inputs.WriteDone ticket end) left t p trace h = heard_was_sent w s t p trace.0 h
+heard_with_sent w s (inputs.CheckDone boot a j report) left t p trace h = heard_was_sent w s t p trace.0 h
 
 pub kept_where_cut : Ending → AcksAreFor → served.CutsWhenKept → OfEachTrace KeptWhereCut
 unfolding ack

@@ -10,14 +10,12 @@ use Rattle.messages.specs.declared.node.Node.{Node}
 use Rattle.messages.specs.declared.node.Node.TheVariants as nodes
 use Rattle.messages.specs.Senses.{is_drop}
 use Rattle.disk_model.specs.Steps.{is_answer}
-use Rattle.server_core.specs.declared.event.Event.{Event}
-use Rattle.server_core.specs.declared.event.Event.TheVariants as events
+use Rattle.server_core.specs.Inputs.{PacketInput, FrameInput}
+use Rattle.server_core.specs.declared.input.Input.TheVariants as inputs
 use Rattle.fc_base.specs.declared.record.JobParts.{JobParts}
 use Rattle.engine.specs.declared.issue.Ticket.{Ticket}
-use Rattle.server_core.specs.declared.event.WriteEnd.{WriteEnd}
-use Rattle.server_core.specs.declared.event.WriteEnd.TheVariants as write_ends
-use Rattle.server_core.specs.declared.input.Input.{Input}
-use Rattle.server_core.specs.declared.input.Input.TheVariants as inputs
+use Rattle.server_core.specs.declared.input.WriteEnd.{WriteEnd}
+use Rattle.server_core.specs.declared.input.WriteEnd.TheVariants as write_ends
 use Rattle.server_core.specs.Hearing.{packets_heard}
 use Rattle.server_core.specs.FrameAnswers.{sense}
 use Rattle.server_core.specs.Answers as answers
@@ -96,7 +94,7 @@ no_answer false x landed = refl
 -- ---- an event that a server meets
 
 -- What happens comes to the server as this, and is barred as all that asks for the server to be on.
-pub record ComesTo (w : Setup) (past : List Change) (s : ℕ) (e : Happening) (i : Input) : Type 0 where
+pub record ComesTo (w : Setup) (past : List Change) (s : ℕ) (e : Happening) (i : FrameInput) : Type 0 where
   pub bar : barring_fault w (trace w past) (frames_sent w (steps past)) e ≡ unless_on w (trace w past) (nodes.Server s)
   pub ok : (served : Served) (new : World) → Serves w past s i new served → brings w past e ≡ Does (Met (step_by past s i))
   pub err : (fault : Fault) (new : World) → ServerRefuses w past s i fault new → brings w past e ≡ Refuses fault
@@ -106,7 +104,7 @@ same_told : (served : Served) (a b : WorldAnswer) (first sent : ℕ) (asked : Ac
     → told_of served a ≡ record { answer = b; first = first; sent = sent; act = asked }
 same_told served a b first sent asked e f k x = rw (e, f, k, x) refl
 
-told_is : (w : Setup) (past : List Change) (s : ℕ) (e : Happening) (i : Input) (served : Served) (a : WorldAnswer) (new : World) → Serves w past s i new served
+told_is : (w : Setup) (past : List Change) (s : ℕ) (e : Happening) (i : FrameInput) (served : Served) (a : WorldAnswer) (new : World) → Serves w past s i new served
     → a ≡ answer w past e
     → told_by w past e (Does (Met (step_by past s i))) ≡ Ok (told_of served a)
 told_is w past s e i served a new h is =
@@ -115,43 +113,43 @@ told_is w past s e i served a new h is =
     (act w past (Met (step_by past s i))) is h.first_is h.sent_is (h.act_is ∙ sym (act_is w past s i))))
 
 -- What is answered.
-pub served_ends : (w : Setup) (past : List Change) (s : ℕ) (e : Happening) (i : Input) (served : Served) (a : WorldAnswer) (t : Told) (new : World)
+pub served_ends : (w : Setup) (past : List Change) (s : ℕ) (e : Happening) (i : FrameInput) (served : Served) (a : WorldAnswer) (t : Told) (new : World)
     → ComesTo w past s e i → Serves w past s i new served → a ≡ answer w past e
     → t ≡ told_of served a → Ends w past e new (Ok t)
 served_ends w past s e i served a t new c h is tells =
     does w past e (Met (step_by past s i)) t new (goes w past e (c.bar ∙ h.on) ∙ c.ok served new h)
     (told_is w past s e i served a new h is ∙ ap (λ x. Ok x) (sym tells)) h.stands
 
-refused_ends : (w : Setup) (past : List Change) (s : ℕ) (e : Happening) (i : Input) (fault : Fault) (new : World) → ComesTo w past s e i
+refused_ends : (w : Setup) (past : List Change) (s : ℕ) (e : Happening) (i : FrameInput) (fault : Fault) (new : World) → ComesTo w past s e i
     → IsBarred w past s fault new ⊎ ServerRefuses w past s i fault new
     → (told_of_happening w past e ≡ Err fault) × StandsFor w (changes_after w past e) new
 refused_ends w past s e i fault new c (inl b) = refusing w past e fault new (stops w past e fault (c.bar ∙ b.why)) b.unchanged
 refused_ends w past s e i fault new c (inr r) = refusing w past e fault new (goes w past e (c.bar ∙ r.on) ∙ c.err fault new r) (r.unchanged c.keeps)
 
-by_sort : (w : Setup) (past : List Change) (s : ℕ) (e : Happening) (i : Input) (fault : Fault) (new : World) → ComesTo w past s e i → (sort : FaultSort)
+by_sort : (w : Setup) (past : List Change) (s : ℕ) (e : Happening) (i : FrameInput) (fault : Fault) (new : World) → ComesTo w past s e i → (sort : FaultSort)
     → serving.Faults w past s i sort fault new → ends.Faults w past e sort fault new
 by_sort w past s e i fault new c sorts.Memory h = h
 by_sort w past s e i fault new c sorts.Save h = h
 by_sort w past s e i fault new c sorts.Refusal h = refused_ends w past s e i fault new c h
 
 -- What isn't answered.
-pub unserved_ends : (w : Setup) (past : List Change) (s : ℕ) (e : Happening) (i : Input) (fault : Fault) (new : World) → ComesTo w past s e i
+pub unserved_ends : (w : Setup) (past : List Change) (s : ℕ) (e : Happening) (i : FrameInput) (fault : Fault) (new : World) → ComesTo w past s e i
     → ServerEnds w past s i new (Err fault) → Ends w past e new (Err fault)
 unserved_ends w past s e i fault new c h = by_sort w past s e i fault new c (sort_of fault) h
 
 -- ---- an event that is no frame
 
 -- The server meets this event.
-pub record Meets (w : Setup) (past : List Change) (s : ℕ) (e : Happening) (event : Event) : Type 0 where
+pub record Meets (w : Setup) (past : List Change) (s : ℕ) (e : Happening) (event : PacketInput) : Type 0 where
   pub bar : barring_fault w (trace w past) (frames_sent w (steps past)) e ≡ unless_on w (trace w past) (nodes.Server s)
   pub meets : brings w past e ≡ outcome_of_step (met_by_server (trace w past) s event)
 
-issue_comes : (w : Setup) (past : List Change) (s j : ℕ) (e : Happening) → Meets w past s e (events.Issue j) → ComesTo w past s e (inputs.Issue j)
+issue_comes : (w : Setup) (past : List Change) (s j : ℕ) (e : Happening) → Meets w past s e (inputs.Issue j) → ComesTo w past s e (inputs.Issue j)
 issue_comes w past s j e m = record {
   bar = m.bar;
-  ok = λ served new h. m.meets ∙ ap outcome_of_step (met_ok (trace w past) s (events.Issue j) (packets_heard (opening_of s) (entries past s))
+  ok = λ served new h. m.meets ∙ ap outcome_of_step (met_ok (trace w past) s (inputs.Issue j) (packets_heard (opening_of s) (entries past s))
       (heard_is w past s) h.free);
-  err = λ fault new h. m.meets ∙ ap outcome_of_step (met_err (trace w past) s (events.Issue j) (packets_heard (opening_of s) (entries past s)) fault
+  err = λ fault new h. m.meets ∙ ap outcome_of_step (met_err (trace w past) s (inputs.Issue j) (packets_heard (opening_of s) (entries past s)) fault
       (heard_is w past s) h.why);
   keeps = refl;
 }
@@ -160,9 +158,9 @@ issue_comes w past s j e m = record {
 
 issue_answer : (w : Setup) (past : List Change) (s j : ℕ) (served : Served) (new : World) → Serves w past s (inputs.Issue j) new served
     → answer_of_issue served.issue ≡ answer w past (happenings.Issue s j)
-issue_answer w past s j served new h = ap answer_of_issue (h.issue_is ∙ ap (λ list. answers.issue (opening_of s) list (events.Issue j)) (heard_is w past s))
+issue_answer w past s j served new h = ap answer_of_issue (h.issue_is ∙ ap (λ list. answers.issue (opening_of s) list (inputs.Issue j)) (heard_is w past s))
 
-asks : (w : Setup) (past : List Change) (s j : ℕ) → Meets w past s (happenings.Issue s j) (events.Issue j)
+asks : (w : Setup) (past : List Change) (s j : ℕ) → Meets w past s (happenings.Issue s j) (inputs.Issue j)
 asks w past s j = record { bar = refl; meets = refl }
 
 pub issue_ends : (w : Setup) (past : List Change) (s j : ℕ) (served : Served) (t : Told) (new : World) → ServerEnds w past s (inputs.Issue j) new (Ok served)
@@ -195,14 +193,14 @@ answer_is w past s j k write_ends.Failed = refl
 ended_comes : (w : Setup) (past : List Change) (s j k : ℕ) (end : WriteEnd) (ticket : Ticket) (rec : JobParts) → IsOpen w past s j k ticket rec
     → ComesTo w past s (happening_of_end end s j k) (inputs.WriteDone ticket end)
 ended_comes w past s j k end ticket rec h =
-    let meets : brings w past (happening_of_end end s j k) ≡ outcome_of_step (met_by_server (trace w past) s (events.WriteDone ticket end)) =
+    let meets : brings w past (happening_of_end end s j k) ≡ outcome_of_step (met_by_server (trace w past) s (inputs.WriteDone ticket end)) =
     brings_is w past s j k end ∙ ap (λ x. outcome_of_step (end_of_write (trace w past) s k end x)) h.is_open
-    ∙ ap (λ t. outcome_of_step (met_by_server (trace w past) s (events.WriteDone t end))) (sym h.ticket_is) in
+    ∙ ap (λ t. outcome_of_step (met_by_server (trace w past) s (inputs.WriteDone t end))) (sym h.ticket_is) in
     record {
       bar = bar_is w past s j k end ∙ h.there ∙ sym h.on;
-      ok = λ served new g. meets ∙ ap outcome_of_step (met_ok (trace w past) s (events.WriteDone ticket end) (packets_heard (opening_of s) (entries past s))
+      ok = λ served new g. meets ∙ ap outcome_of_step (met_ok (trace w past) s (inputs.WriteDone ticket end) (packets_heard (opening_of s) (entries past s))
           (heard_is w past s) g.free);
-      err = λ fault new g. meets ∙ ap outcome_of_step (met_err (trace w past) s (events.WriteDone ticket end)
+      err = λ fault new g. meets ∙ ap outcome_of_step (met_err (trace w past) s (inputs.WriteDone ticket end)
           (packets_heard (opening_of s) (entries past s)) fault (heard_is w past s) g.why);
       keeps = refl;
     }

@@ -5,8 +5,8 @@ use Rattle.fc_base.specs.declared.fault.Fault.{Fault}
 use Rattle.fc_base.specs.declared.report.ReportParts.{ReportParts}
 use Rattle.job_file.specs.declared.job.Job.{Job}
 use Rattle.verify_state.specs.State.{State}
-use Rattle.server_core.specs.declared.event.Event.{Event as ServerEvent}
-use Rattle.server_core.specs.declared.event.Event.TheVariants.{CheckDone}
+use Rattle.server_core.specs.Inputs.{PacketInput as ServerEvent}
+use Rattle.server_core.specs.declared.input.Input.TheVariants.{CheckDone}
 use Rattle.server_core.specs.History.{Opening, Entry}
 use Rattle.server_core.specs.Check.{Check, Progress, Wanting, Full, With, Refused, Done, check, progress, progress_in, progress_at, progress_after}
 use Rattle.net_world.specs.Happenings.{Happening}

@@ -10,10 +10,10 @@ use Rattle.messages.specs.declared.body.Body.TheVariants as bodies
 use Rattle.window.specs.History as window
 use Rattle.engine.specs.Running.{Origin}
 use Rattle.engine.specs.declared.issue.Ticket.{Ticket}
-use Rattle.server_core.specs.declared.event.Event.{Event}
-use Rattle.server_core.specs.declared.event.Event.TheVariants.{Deliver, Issue as Issues, WriteDone, CheckDone}
-use Rattle.server_core.specs.declared.event.WriteEnd.{WriteEnd}
-use Rattle.server_core.specs.declared.event.WriteEnd.TheVariants.{Done, Failed}
+use Rattle.server_core.specs.Inputs.{PacketInput}
+use Rattle.server_core.specs.declared.input.Input.TheVariants.{Deliver, Issue as Issues, WriteDone, CheckDone}
+use Rattle.server_core.specs.declared.input.WriteEnd.{WriteEnd}
+use Rattle.server_core.specs.declared.input.WriteEnd.TheVariants.{Done, Failed}
 use Rattle.disk_model.specs.declared.left.Left.{Left}
 use Rattle.fc_base.proofs.ListLemmas.{none_in}
 use Rattle.server_core.specs.History.{Entry, Met, Cut, Restart}
@@ -56,7 +56,7 @@ the_ticket : (a b : Ticket) (e f : WriteEnd) → ToEnd a e ≡ ToEnd b f → a �
 the_ticket a b e f h = cc
 
 -- What an honest disk has is what the server is told.
-tells : (w : Setup) (s : ℕ) (past : List Change) (e : Event) (left : Left) → IsInFile w past (OfServer s (Happens (Met e left)))
+tells : (w : Setup) (s : ℕ) (past : List Change) (e : PacketInput) (left : Left) → IsInFile w past (OfServer s (Happens (Met e left)))
     → TellsAt (opening_of s) (λ j. content w past s j) (of_server s (trace w past)) e
 tells w s past (WriteDone given Done) left honest = λ now is j job has_job ticket told key is_open.
     let same : given ≡ ticket = the_ticket given ticket Done Done told in

@@ -101,6 +101,21 @@ pub record HasMoved (s : ℕ) (node : ServerNode) (sent : List (List ℕ)) (old 
   pub files_are : new.files ≡ old.files
   pub mirror_is : new.mirror ≡ old.mirror
 
+-- So it is where that node was put at its place.
+pub in_place : {s place : ℕ} {node : ServerNode} {sent : List (List ℕ)} {old new : World} → s < length old.servers.items → place ≡ s
+    → new.servers.items ≡ set old.servers.items place node → sent_in new.sent ≡ sent_in old.sent ++ sent
+    → new.client ≡ old.client → new.files ≡ old.files → new.mirror ≡ old.mirror → HasMoved s node sent old new
+in_place {place = place} there at put sent client files mirror = record {
+  there = there;
+  place = place;
+  place_is = at;
+  set_is = put;
+  sent_is = sent;
+  client_is = client;
+  files_are = files;
+  mirror_is = mirror;
+}
+
 count : (s : ℕ) (node : ServerNode) (sent : List (List ℕ)) (old new : World) → HasMoved s node sent old new
     → length new.servers.items ≡ length old.servers.items
 count s node sent old new h = ap (λ (xs : List ServerNode). length xs) h.set_is ∙ length-set old.servers.items h.place node

@@ -24,9 +24,9 @@ use Rattle.engine.specs.Answers.{answer_to, ticket_answer, names_one_of}
 use Rattle.disk_model.specs.declared.left.Left.{Left}
 use Rattle.disk_model.specs.declared.left.Left.TheVariants.{NoSave, Saved, LostNew, LostOld}
 use Rattle.disk_model.specs.Left.{has_new}
-use Rattle.server_core.specs.declared.event.Event.{Event}
-use Rattle.server_core.specs.declared.event.WriteEnd.{WriteEnd}
-use Rattle.server_core.specs.declared.event.WriteEnd.TheVariants.{Done, Failed}
+use Rattle.server_core.specs.Inputs.{PacketInput}
+use Rattle.server_core.specs.declared.input.WriteEnd.{WriteEnd}
+use Rattle.server_core.specs.declared.input.WriteEnd.TheVariants.{Done, Failed}
 use Rattle.server_core.specs.History.{Opening, Entry, Met, Cut, Restart}
 use Rattle.server_core.specs.Request.{Request, ToStage, ToStart, ToTrigger, ToMark, ToStop, ToVerify}
 use Rattle.server_core.specs.Request.{ToHold, ToPassFully, ToIssue, ToEnd, ToReport, ToNobody, request_of}
@@ -143,7 +143,7 @@ by_request s held origin stopped ToNobody h legal tells p = p
 -- ---- the present run
 
 -- Each job of the present run is told truly.
-abbrev pub TellsAt : Opening → (ℕ → ℕ → List ℕ) → List Entry → Event → Type 0
+abbrev pub TellsAt : Opening → (ℕ → ℕ → List ℕ) → List Entry → PacketInput → Type 0
 TellsAt o held past e = (w : Work) → work o past ≡ Some w → (j : ℕ) (job : Job) → slice_get w.jobs j ≡ Some job
     → Tells (held j) (origin_of w j job) (history (origin_of w j job) w.since) (request_of o.me e)
 
@@ -152,7 +152,7 @@ WorksOf P held x =
     (w : Work) → x ≡ Some w → (j : ℕ) (job : Job) → slice_get w.jobs j ≡ Some job → Of P (held j) (origin_of w j job) (history (origin_of w j job) w.since)
 
 works_on : {P : Notion} {May : ℕ → JobParts → Type 0} → Ground → Survives May P
-    → (o : Opening) (held : ℕ → ℕ → List ℕ) (past : List Entry) (e : Event) (x : Option Work) → work o past ≡ x → TellsAt o held past e → WorksOf P held x
+    → (o : Opening) (held : ℕ → ℕ → List ℕ) (past : List Entry) (e : PacketInput) (x : Option Work) → work o past ≡ x → TellsAt o held past e → WorksOf P held x
     → WorksOf P held (goes_on (request_of o.me e) x)
 works_on laws s o held past e None is tells k = λ w h. absurd cc
 works_on {P} laws s o held past e (Some v) is tells k = λ w h j job has_job.
@@ -167,7 +167,7 @@ works_new {P} s held me now_boot d = λ w h j job has_job.
     (λ i job. s.begins (held i) (record { run = d.run; server = me; job = i }) job.rec) j job
 
 works_after : {P : Notion} {May : ℕ → JobParts → Type 0} → Ground → Survives May P
-    → (o : Opening) (held : ℕ → ℕ → List ℕ) (past : List Entry) (e : Event) (left : Left) (d : Option Staged) → TellsAt o held past e
+    → (o : Opening) (held : ℕ → ℕ → List ℕ) (past : List Entry) (e : PacketInput) (left : Left) (d : Option Staged) → TellsAt o held past e
     → WorksOf P held (work o past) → WorksOf P held (work_after left d o.me (boot o past) (request_of o.me e) (work o past))
 works_after laws s o held past e NoSave d tells k = works_on laws s o held past e (work o past) refl tells k
 works_after laws s o held past e Saved None tells k = works_on laws s o held past e (work o past) refl tells k
@@ -186,7 +186,7 @@ of_state {P} s held origin h state k p =
     (subst (λ (key : Key). P held key origin.job (window.issued h) (window.is_done h)) (sym k.key) p)))
 
 state_now : {P : Notion} {May : ℕ → JobParts → Type 0} → Ground → Survives May P
-    → (o : Opening) (held : ℕ → ℕ → List ℕ) (past : List Entry) (run j : ℕ) (e : Event) (state : State) (x : Option Work) → work o past ≡ x → WorksOf P held x
+    → (o : Opening) (held : ℕ → ℕ → List ℕ) (past : List Entry) (run j : ℕ) (e : PacketInput) (state : State) (x : Option Work) → work o past ≡ x → WorksOf P held x
     → takes run j (request_of o.me e) x ≡ Some state → OfState P (held j) state
 state_now laws s o held past run j e state None is k h = absurd cc
 state_now laws s o held past run j e state (Some w) is k h =
@@ -196,7 +196,7 @@ state_now laws s o held past run j e state (Some w) is k h =
     (state_is_of laws.counts origin w.since state (job_legal laws o past w is j t.job t.has_job) t.state_is) (k w refl j t.job t.has_job)
 
 states_on : {P : Notion} {May : ℕ → JobParts → Type 0} → Ground → Survives May P
-    → (o : Opening) (held : ℕ → ℕ → List ℕ) (past : List Entry) (e : Event) (left : Left) → Kept P o held past → (j : ℕ) (state : State)
+    → (o : Opening) (held : ℕ → ℕ → List ℕ) (past : List Entry) (e : PacketInput) (left : Left) → Kept P o held past → (j : ℕ) (state : State)
     → Contains (takings o (last_run o past) j (Met e left ∷ past)) state → OfState P (held j) state
 states_on laws s o held past e left k j state c =
     elim (now_or_before (takes (last_run o past) j (request_of o.me e) (work o past)) (takings o (last_run o past) j past) state c) [
@@ -205,14 +205,14 @@ states_on laws s o held past e left k j state c =
     ]
 
 states_new : {P : Notion} {May : ℕ → JobParts → Type 0} → Ground → Survives May P
-    → (o : Opening) (held : ℕ → ℕ → List ℕ) (past : List Entry) (e : Event) (left : Left) (d : Staged) (new : Bool) → due o past e ≡ Some d → Kept P o held past
+    → (o : Opening) (held : ℕ → ℕ → List ℕ) (past : List Entry) (e : PacketInput) (left : Left) (d : Staged) (new : Bool) → due o past e ≡ Some d → Kept P o held past
     → (j : ℕ) (state : State)
     → Contains (takings o (if new then d.run else last_run o past) j (Met e left ∷ past)) state → OfState P (held j) state
 states_new laws s o held past e left d true is k j state c = absurd (none_taken_yet laws o j e left past d state is c)
 states_new laws s o held past e left d false is k j state c = states_on laws s o held past e left k j state c
 
 states_after : {P : Notion} {May : ℕ → JobParts → Type 0} → Ground → Survives May P
-    → (o : Opening) (held : ℕ → ℕ → List ℕ) (past : List Entry) (e : Event) (left : Left) (d : Option Staged) → due o past e ≡ d → Kept P o held past
+    → (o : Opening) (held : ℕ → ℕ → List ℕ) (past : List Entry) (e : PacketInput) (left : Left) (d : Option Staged) → due o past e ≡ d → Kept P o held past
     → (j : ℕ) (state : State)
     → Contains (takings o (last_run_after left d (last_run o past)) j (Met e left ∷ past)) state → OfState P (held j) state
 states_after laws s o held past e left None is k j state c = states_on laws s o held past e left k j state c
@@ -221,7 +221,7 @@ states_after laws s o held past e left (Some d) is k j state c = states_new laws
 -- ---- an entry of the server
 
 pub kept_met : {P : Notion} {May : ℕ → JobParts → Type 0} → Ground → Survives May P
-    → (o : Opening) (held : ℕ → ℕ → List ℕ) (past : List Entry) (e : Event) (left : Left) → TellsAt o held past e → Kept P o held past
+    → (o : Opening) (held : ℕ → ℕ → List ℕ) (past : List Entry) (e : PacketInput) (left : Left) → TellsAt o held past e → Kept P o held past
     → Kept P o held (Met e left ∷ past)
 kept_met laws s o held past e left tells k = record {
   works = works_after laws s o held past e left (due o past e) tells k.works;

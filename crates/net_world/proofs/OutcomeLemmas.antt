@@ -12,9 +12,7 @@ use Rattle.messages.specs.declared.frame.Frame.{Frame}
 use Rattle.messages.specs.declared.refusal.Act.TheVariants as acts
 use Rattle.messages.specs.Hearing.{Heard, Meaning, Says, Waits, Spoils, Strays, Comes, Happens, meaning, heard_by}
 use Rattle.messages.specs.Senses.{sense_of, is_drop, refusal_of_sense, heard_or}
-use Rattle.server_core.specs.declared.event.Event.{Event}
-use Rattle.server_core.specs.declared.event.Event.TheVariants as events
-use Rattle.server_core.specs.declared.input.Input.{Input}
+use Rattle.server_core.specs.Inputs.{PacketInput, FrameInput}
 use Rattle.server_core.specs.declared.input.Input.TheVariants as inputs
 use Rattle.server_core.specs.History as server
 use Rattle.server_core.specs.Words as words
@@ -42,17 +40,17 @@ fails x r fault h = rw h refl
 
 -- ---- an event that is no frame
 
-met_here : (t : List Step) (s : ℕ) (e : Event) → answers.refusal (opening_of s) (of_server s t) e ≡ None
+met_here : (t : List Step) (s : ℕ) (e : PacketInput) → answers.refusal (opening_of s) (of_server s t) e ≡ None
     → met_by_server t s e ≡ Ok (OfServer s (Happens (server.Met e (saved_for (words.due (opening_of s) (of_server s t) e)))))
 met_here t s e h = passes (answers.refusal (opening_of s) (of_server s t) e) _ h
 
-pub met_ok : (t : List Step) (s : ℕ) (e : Event) (list : List server.Entry) → list ≡ of_server s t → answers.refusal (opening_of s) list e ≡ None
+pub met_ok : (t : List Step) (s : ℕ) (e : PacketInput) (list : List server.Entry) → list ≡ of_server s t → answers.refusal (opening_of s) list e ≡ None
     → met_by_server t s e ≡ Ok (OfServer s (Happens (server.Met e (saved_for (words.due (opening_of s) list e)))))
 met_ok t s e list is =
     subst (λ l. answers.refusal (opening_of s) l e ≡ None
     → met_by_server t s e ≡ Ok (OfServer s (Happens (server.Met e (saved_for (words.due (opening_of s) l e)))))) (sym is) (met_here t s e)
 
-pub met_err : (t : List Step) (s : ℕ) (e : Event) (list : List server.Entry) (fault : Fault) → list ≡ of_server s t
+pub met_err : (t : List Step) (s : ℕ) (e : PacketInput) (list : List server.Entry) (fault : Fault) → list ≡ of_server s t
     → answers.refusal (opening_of s) list e ≡ Some fault → met_by_server t s e ≡ Err fault
 met_err t s e list fault is h = fails (answers.refusal (opening_of s) (of_server s t) e) _ fault (ap (λ l. answers.refusal (opening_of s) l e) (sym is) ∙ h)
 
@@ -61,27 +59,27 @@ met_err t s e list fault is h = fails (answers.refusal (opening_of s) (of_server
 come : ℕ → Frame → Left → Outcome
 come s f left = Does (Changed (OfServer s (Comes f left)))
 
-says_here : (t : List Step) (s : ℕ) (f : Frame) (p : PacketParts) → answers.refusal (opening_of s) (of_server s t) (events.Deliver p) ≡ None
-    → comes_to_server t s f (Says p) ≡ come s f (saved_for (words.due (opening_of s) (of_server s t) (events.Deliver p)))
+says_here : (t : List Step) (s : ℕ) (f : Frame) (p : PacketParts) → answers.refusal (opening_of s) (of_server s t) (inputs.Deliver p) ≡ None
+    → comes_to_server t s f (Says p) ≡ come s f (saved_for (words.due (opening_of s) (of_server s t) (inputs.Deliver p)))
 unfolding come
 says_here t s f p h =
-    ap outcome_of_step (passes (answers.refusal (opening_of s) (of_server s t) (events.Deliver p))
-    (Ok (OfServer s (Comes f (saved_for (words.due (opening_of s) (of_server s t) (events.Deliver p)))))) h)
+    ap outcome_of_step (passes (answers.refusal (opening_of s) (of_server s t) (inputs.Deliver p))
+    (Ok (OfServer s (Comes f (saved_for (words.due (opening_of s) (of_server s t) (inputs.Deliver p)))))) h)
 
 says_ok : (t : List Step) (s : ℕ) (f : Frame) (p : PacketParts) (list : List server.Entry) → list ≡ of_server s t
-    → answers.refusal (opening_of s) list (events.Deliver p) ≡ None
-    → comes_to_server t s f (Says p) ≡ come s f (saved_for (words.due (opening_of s) list (events.Deliver p)))
+    → answers.refusal (opening_of s) list (inputs.Deliver p) ≡ None
+    → comes_to_server t s f (Says p) ≡ come s f (saved_for (words.due (opening_of s) list (inputs.Deliver p)))
 says_ok t s f p list is =
-    subst (λ l. answers.refusal (opening_of s) l (events.Deliver p) ≡ None
-    → comes_to_server t s f (Says p) ≡ come s f (saved_for (words.due (opening_of s) l (events.Deliver p)))) (sym is) (says_here t s f p)
+    subst (λ l. answers.refusal (opening_of s) l (inputs.Deliver p) ≡ None
+    → comes_to_server t s f (Says p) ≡ come s f (saved_for (words.due (opening_of s) l (inputs.Deliver p)))) (sym is) (says_here t s f p)
 
 says_err : (t : List Step) (s : ℕ) (f : Frame) (p : PacketParts) (list : List server.Entry) (fault : Fault) → list ≡ of_server s t
-    → answers.refusal (opening_of s) list (events.Deliver p) ≡ Some fault
+    → answers.refusal (opening_of s) list (inputs.Deliver p) ≡ Some fault
     → comes_to_server t s f (Says p) ≡ Refuses fault
 says_err t s f p list fault is h =
-    ap outcome_of_step (fails (answers.refusal (opening_of s) (of_server s t) (events.Deliver p))
-    (Ok (OfServer s (Comes f (saved_for (words.due (opening_of s) (of_server s t) (events.Deliver p)))))) fault
-    (ap (λ l. answers.refusal (opening_of s) l (events.Deliver p)) (sym is) ∙ h))
+    ap outcome_of_step (fails (answers.refusal (opening_of s) (of_server s t) (inputs.Deliver p))
+    (Ok (OfServer s (Comes f (saved_for (words.due (opening_of s) (of_server s t) (inputs.Deliver p)))))) fault
+    (ap (λ l. answers.refusal (opening_of s) l (inputs.Deliver p)) (sym is) ∙ h))
 
 pub misses : (on : Bool) → (if on then Some Misdirected else Some Down) ≡ None → ⊥
 misses true h = cc
@@ -92,8 +90,8 @@ misdirected true fault h k = cc
 misdirected false fault h k = cc
 
 meaning_ok : (t : List Step) (s : ℕ) (f : Frame) (list : List server.Entry) → list ≡ of_server s t → (m : Meaning)
-    → refusal_of_sense (rules (opening_of s)) list (sense_of events.Deliver m) ≡ None
-    → comes_to_server t s f m ≡ come s f (saved_for (heard_or None (words.due (opening_of s) list) (sense_of events.Deliver m)))
+    → refusal_of_sense (rules (opening_of s)) list (sense_of inputs.Deliver m) ≡ None
+    → comes_to_server t s f m ≡ come s f (saved_for (heard_or None (words.due (opening_of s) list) (sense_of inputs.Deliver m)))
 unfolding come
 meaning_ok t s f list is (Says p) h = says_ok t s f p list is h
 meaning_ok t s f list is Waits h = refl
@@ -109,8 +107,8 @@ pub bad_field : (fault : Fault) → Some FrameBadField ≡ Some fault → fault 
 bad_field fault h = cc
 
 meaning_err : (t : List Step) (s : ℕ) (f : Frame) (list : List server.Entry) (fault : Fault) → list ≡ of_server s t → words.is_on list ≡ true → (m : Meaning)
-    → refusal_of_sense (rules (opening_of s)) list (sense_of events.Deliver m) ≡ Some fault
-    → DroppedOr s f fault (is_drop (sense_of events.Deliver m)) (comes_to_server t s f m)
+    → refusal_of_sense (rules (opening_of s)) list (sense_of inputs.Deliver m) ≡ Some fault
+    → DroppedOr s f fault (is_drop (sense_of inputs.Deliver m)) (comes_to_server t s f m)
 unfolding DroppedOr
 meaning_err t s f list fault is on (Says p) h = inl (refl, says_err t s f p list fault is h)
 meaning_err t s f list fault is on Waits h = absurd cc
@@ -136,36 +134,36 @@ pub frame_err : (w : Setup) (past : List Change) (s : ℕ) (f : Frame) (fault : 
     (comes_to_server (trace w past) s f (said_to_server (steps past) s f))
 frame_err w past s f fault on h =
     let m = meaning (rules (opening_of s)) (heard_at (opening_of s) (entries past s)) f in
-    subst (λ x. DroppedOr s f fault (is_drop (sense_of events.Deliver m)) (comes_to_server (trace w past) s f x)) (said_is w s past f)
+    subst (λ x. DroppedOr s f fault (is_drop (sense_of inputs.Deliver m)) (comes_to_server (trace w past) s f x)) (said_is w s past f)
     (meaning_err (trace w past) s f (packets_heard (opening_of s) (entries past s)) fault (heard_is w past s) on m h)
 
 -- ---- what the server asks of its caller
 
-act_here : (t : List Step) (s : ℕ) (e : Event) (x : Option Staged) (list : List server.Entry) → list ≡ of_server s t
+act_here : (t : List Step) (s : ℕ) (e : PacketInput) (x : Option Staged) (list : List server.Entry) → list ≡ of_server s t
     → act_of t (Some (AtServer s (server.Met e (saved_for x)))) ≡ answers.act (opening_of s) list e
 act_here t s e x list is =
     ap (λ lost. if lost then acts.None else answers.act (opening_of s) (of_server s t) e) (not_lost x) ∙ ap (λ l. answers.act (opening_of s) l e) (sym is)
 
 act_said : (t : List Step) (s : ℕ) (list : List server.Entry) → list ≡ of_server s t → (m : Meaning)
     → act_of t (option_map (AtServer s)
-    (heard_by (rules (opening_of s)) (saved_for (heard_or None (words.due (opening_of s) list) (sense_of events.Deliver m))) m))
-    ≡ heard_or acts.None (answers.act (opening_of s) list) (sense_of events.Deliver m)
-act_said t s list is (Says p) = act_here t s (events.Deliver p) (words.due (opening_of s) list (events.Deliver p)) list is
+    (heard_by (rules (opening_of s)) (saved_for (heard_or None (words.due (opening_of s) list) (sense_of inputs.Deliver m))) m))
+    ≡ heard_or acts.None (answers.act (opening_of s) list) (sense_of inputs.Deliver m)
+act_said t s list is (Says p) = act_here t s (inputs.Deliver p) (words.due (opening_of s) list (inputs.Deliver p)) list is
 act_said t s list is Waits = refl
 act_said t s list is Spoils = refl
 act_said t s list is Strays = refl
 
-pub act_is : (w : Setup) (past : List Change) (s : ℕ) (e : Input) → act w past (Changed (step_by past s e)) ≡ framed.act (opening_of s) (entries past s) e
+pub act_is : (w : Setup) (past : List Change) (s : ℕ) (e : FrameInput) → act w past (Changed (step_by past s e)) ≡ framed.act (opening_of s) (entries past s) e
 act_is w past s (inputs.Deliver f) =
     let o = opening_of s in
     let list = packets_heard o (entries past s) in
     let m = meaning (rules o) (heard_at o (entries past s)) f in
     ap (λ x. act_of (trace w past) (option_map (AtServer s)
-    (heard_by (rules o) (saved_for (heard_or None (words.due o list) (sense_of events.Deliver m))) x))) (sym (said_is w s past f))
+    (heard_by (rules o) (saved_for (heard_or None (words.due o list) (sense_of inputs.Deliver m))) x))) (sym (said_is w s past f))
     ∙ act_said (trace w past) s list (heard_is w past s) m
-act_is w past s (inputs.Issue j) = act_here (trace w past) s (events.Issue j) (framed.due (opening_of s) (entries past s) (inputs.Issue j))
+act_is w past s (inputs.Issue j) = act_here (trace w past) s (inputs.Issue j) (framed.due (opening_of s) (entries past s) (inputs.Issue j))
     (packets_heard (opening_of s) (entries past s)) (heard_is w past s)
-act_is w past s (inputs.WriteDone ticket end) = act_here (trace w past) s (events.WriteDone ticket end)
+act_is w past s (inputs.WriteDone ticket end) = act_here (trace w past) s (inputs.WriteDone ticket end)
     (framed.due (opening_of s) (entries past s) (inputs.WriteDone ticket end)) (packets_heard (opening_of s) (entries past s)) (heard_is w past s)
-act_is w past s (inputs.CheckDone boot a j report) = act_here (trace w past) s (events.CheckDone boot a j report)
+act_is w past s (inputs.CheckDone boot a j report) = act_here (trace w past) s (inputs.CheckDone boot a j report)
     (framed.due (opening_of s) (entries past s) (inputs.CheckDone boot a j report)) (packets_heard (opening_of s) (entries past s)) (heard_is w past s)

@@ -10,13 +10,13 @@ use Rattle.messages.specs.Laws.{IsPacket}
 use Rattle.messages.specs.PieceLaws.{ArePackets}
 use Rattle.disk_model.specs.declared.left.Left.{Left}
 use Rattle.fc_base.proofs.ListLemmas.{none_in, each_of}
-use Rattle.server_core.specs.declared.event.Event.{Event}
-use Rattle.server_core.specs.declared.event.Event.TheVariants as events
+use Rattle.server_core.specs.Inputs.{PacketInput as ServerInput}
+use Rattle.server_core.specs.declared.input.Input.TheVariants as server_inputs
 use Rattle.server_core.specs.History as history
 use Rattle.server_core.specs.Ranges as ranges
 use Rattle.server_core.specs.Laws as servers
-use Rattle.client_core.specs.declared.call.Call.{Call}
-use Rattle.client_core.specs.declared.call.Call.TheVariants as calls
+use Rattle.client_core.specs.Inputs.{PacketInput as ClientInput}
+use Rattle.client_core.specs.Inputs as client_inputs
 use Rattle.client_core.specs.History as entry
 use Rattle.client_core.specs.Note.{IsNoted, blank}
 use Rattle.client_core.specs.Ranges.{packet_in, packets_come}
@@ -35,13 +35,13 @@ AllSent ps step = AllByRecursion (WasSentTo ps (node_of step)) (taken_by step)
 both : (xs ys : List PacketParts) → ArePackets xs → ArePackets ys → ArePackets (xs ++ ys)
 both xs ys a b p i = elim (Contains-append_cases xs ys p i) [ inl j ↦ a p j | inr j ↦ b p j ]
 
-event_in : (ps : List PacketParts) (s : ℕ) (e : Event) (left : Left) → ArePackets ps → AllSent ps (AtServer s (history.Met e left)) → ReportFits e
+event_in : (ps : List PacketParts) (s : ℕ) (e : ServerInput) (left : Left) → ArePackets ps → AllSent ps (AtServer s (history.Met e left)) → ReportFits e
     → ranges.IsInRange e
 unfolding AllSent
-event_in ps s (events.Deliver p) left are w r = are p w.0.0
-event_in ps s (events.Issue j) left are w r = tt
-event_in ps s (events.WriteDone ticket end) left are w r = tt
-event_in ps s (events.CheckDone boot a j report) left are w r = r
+event_in ps s (server_inputs.Deliver p) left are w r = are p w.0.0
+event_in ps s (server_inputs.Issue j) left are w r = tt
+event_in ps s (server_inputs.WriteDone ticket end) left are w r = tt
+event_in ps s (server_inputs.CheckDone boot a j report) left are w r = r
 
 more_in : (ps : List PacketParts) (s : ℕ) (e : history.Entry) (past : List history.Entry) → ArePackets ps → AllSent ps (AtServer s e) → EntryFits e
     → ranges.CameInRange past → ranges.CameInRange (e ∷ past)
@@ -68,15 +68,15 @@ came_to w s (AtServer r e ∷ past) h f are =
 came_to w s (AtClient e ∷ past) h f are = came_to w s past h.0 f.1 (before w (AtClient e) past are)
 came_to w s (AtMirror e ∷ past) h f are = came_to w s past h.0 f.1 (before w (AtMirror e) past are)
 
-call_in : (ps : List PacketParts) (c : Call) (left : Left) (older : List PacketParts) → ArePackets ps → AllSent ps (AtClient (entry.Met c left))
+call_in : (ps : List PacketParts) (c : ClientInput) (left : Left) (older : List PacketParts) → ArePackets ps → AllSent ps (AtClient (entry.Met c left))
     → AllByRecursion IsPacket older → AllByRecursion IsPacket (packet_in (entry.Met c left) ++ older)
 unfolding AllSent
-call_in ps (calls.Deliver p) left older are w h = (are p w.0.0, h)
-call_in ps (calls.Begin text) left older are w h = h
-call_in ps (calls.Trigger run act) left older are w h = h
-call_in ps (calls.Stop run) left older are w h = h
-call_in ps (calls.Verify run text) left older are w h = h
-call_in ps calls.Tick left older are w h = h
+call_in ps (client_inputs.Deliver p) left older are w h = (are p w.0.0, h)
+call_in ps (client_inputs.Begin text) left older are w h = h
+call_in ps (client_inputs.Trigger run act) left older are w h = h
+call_in ps (client_inputs.Stop run) left older are w h = h
+call_in ps (client_inputs.Verify run text) left older are w h = h
+call_in ps client_inputs.Tick left older are w h = h
 
 more_heard : (ps : List PacketParts) (e : entry.Entry) (past : List entry.Entry) → ArePackets ps → AllSent ps (AtClient e)
     → AllByRecursion IsPacket (packets_come past) → AllByRecursion IsPacket (packets_come (e ∷ past))

@@ -18,10 +18,10 @@ use Rattle.messages.specs.declared.node.Node.TheVariants.{Client}
 use Rattle.client_core.specs.History as client
 use Rattle.client_core.specs.Note.{is_blank}
 use Rattle.client_core.specs.Words.{words_noted}
-use Rattle.client_core.specs.Laws.{generations}
+use Rattle.client_core.specs.Numbering.{generations}
 use Rattle.client_core.specs.Hearing as hearing
 use Rattle.client_core.specs.Hearing.{FrameEntry, rules, heard_at, packets_heard, is_up}
-use Rattle.client_core.specs.declared.input.Input.TheVariants as inputs
+use Rattle.client_core.specs.Inputs as inputs
 use Rattle.net_world.specs.declared.told.Told.{Told}
 use Rattle.net_world.specs.declared.world.World.{World}
 use Rattle.net_world.specs.Setup.{Setup}

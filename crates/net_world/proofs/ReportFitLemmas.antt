@@ -16,7 +16,7 @@ use Rattle.fc_base.proofs.ListLemmas.{each_of}
 use Rattle.recheck.specs.Expected.{expected_by}
 use Rattle.recheck.specs.Fits.{ReportsFit}
 use Rattle.messages.specs.declared.node.Node.TheVariants.{Server}
-use Rattle.server_core.specs.declared.event.Event.{Event}
+use Rattle.server_core.specs.Inputs.{PacketInput}
 use Rattle.server_core.specs.History as server
 use Rattle.server_core.specs.Check.{Check, Progress, Wanting, Full, With, Refused, Done as Made, check, progress_after}
 use Rattle.server_core.specs.Laws.{ChecksHaveSets}
@@ -58,7 +58,7 @@ few_blocks job limits =
     le : (a b : ℕ) → nat_le a b ≡ true → a ≤ b
     le a b h = grind (arith, nat_tests)
 
-unfoldable pub SomeEnd : Option Event → Type 0
+unfoldable pub SomeEnd : Option PacketInput → Type 0
 SomeEnd None = Unit {0}
 SomeEnd (Some e) = ReportFits e
 

@@ -23,8 +23,7 @@ use Rattle.messages.specs.Pieces.{frames_of}
 use Rattle.messages.specs.Hearing.{Heard, frames_by}
 use Rattle.messages.specs.Senses.{refusal_of_sense, Sense, Hears, Keeps, Drops, Misses}
 use Rattle.messages.proofs.SenseLemmas.{entry_by, entry_is}
-use Rattle.server_core.specs.declared.event.Event.{Event}
-use Rattle.server_core.specs.declared.input.Input.{Input}
+use Rattle.server_core.specs.Inputs.{PacketInput, FrameInput}
 use Rattle.server_core.specs.declared.outs.Outs.{Outs}
 use Rattle.server_core.specs.History as server
 use Rattle.server_core.specs.Request.{request_of}
@@ -109,18 +108,18 @@ none_sent : (me : ℕ) (lost : Bool) (x : Option Fault) (fault : Fault) (bodies 
     → flat_map frames_of (to_client me (sent_by lost x bodies)) ≡ []
 none_sent me lost x fault bodies h = rw h refl
 
-event_sends : (o : server.Opening) (list : List server.Entry) (e : Event) (fault : Fault) → packet_answers.refusal o list e ≡ Some fault
+event_sends : (o : server.Opening) (list : List server.Entry) (e : PacketInput) (fault : Fault) → packet_answers.refusal o list e ≡ Some fault
     → frames_by (packet_answers.packets o) list (Some (server.Met e NoSave)) ≡ []
 event_sends o list e fault h = none_sent o.me false (packet_answers.refusal o list e) fault (replies (packet_answers.now o list) (request_of o.me e)) h
 
-sense_sends : (o : server.Opening) (list : List server.Entry) (x : Sense Event) (fault : Fault) → refusal_of_sense (rules o) list x ≡ Some fault
+sense_sends : (o : server.Opening) (list : List server.Entry) (x : Sense PacketInput) (fault : Fault) → refusal_of_sense (rules o) list x ≡ Some fault
     → frames_by (packet_answers.packets o) list (entry_by (rules o) NoSave x) ≡ []
 sense_sends o list (Hears e) fault h = event_sends o list e fault h
 sense_sends o list Keeps fault h = refl
 sense_sends o list Drops fault h = refl
 sense_sends o list Misses fault h = refl
 
-refused_sends : (o : server.Opening) (past : List FrameEntry) (e : Input) (fault : Fault) → answers.refusal o past e ≡ Some fault
+refused_sends : (o : server.Opening) (past : List FrameEntry) (e : FrameInput) (fault : Fault) → answers.refusal o past e ≡ Some fault
     → answers.frames o past (Met e NoSave) ≡ []
 refused_sends o past e fault h =
     ap (frames_by (packet_answers.packets o) (packets_heard o past)) (entry_is (rules o) (heard_at o past) (arrival e) NoSave)
@@ -129,7 +128,7 @@ refused_sends o past e fault h =
 -- ---- the world behind what comes to a server
 
 -- What came to the node of server s in a world, and what the world is then.
-pub record HasServed (s : ℕ) (e : Input) (result : Result Outs Fault) (sent : List (List ℕ)) (old new : World) : Type 0 where
+pub record HasServed (s : ℕ) (e : FrameInput) (result : Result Outs Fault) (sent : List (List ℕ)) (old new : World) : Type 0 where
   pub was : ServerNode
   pub node : ServerNode
   pub was_is : slice_get old.servers.items s ≡ Some was
@@ -143,7 +142,7 @@ pub record IsOf (sent : List (List ℕ)) (outs : Outs) (served : Served) : Type 
   pub issue : served.issue ≡ outs.issue
   pub act : served.act ≡ outs.act
 
-pub serve_ends : (w : Setup) (past : List Change) (s : ℕ) (e : Input) (outs : Outs) (served : Served) (old new : World) → StandsFor w past old
+pub serve_ends : (w : Setup) (past : List Change) (s : ℕ) (e : FrameInput) (outs : Outs) (served : Served) (old new : World) → StandsFor w past old
     → HasServed s e (Ok outs) outs.frames old new → IsOf (sent_in old.sent) outs served
     → Serves w past s e new served
 serve_ends w past s e outs served old new stands h is =
@@ -163,7 +162,7 @@ serve_ends w past s e outs served old new stands h is =
       stands = server_stepped w past s (answers.answered_entry o es e) h.node outs.frames old new stands h.moved sent a.stands;
     }
 
-refused : (w : Setup) (past : List Change) (s : ℕ) (e : Input) (fault : Fault) (old new : World) → StandsFor w past old
+refused : (w : Setup) (past : List Change) (s : ℕ) (e : FrameInput) (fault : Fault) (old new : World) → StandsFor w past old
     → (h : HasServed s e (Err fault) [] old new) → s < w.servers
     → any_node.IsOff (server_nodes (opening_of s)) (entries past s) fault h.node
     ⊎ any_node.Refuses (server_nodes (opening_of s)) (entries past s) e fault h.node
@@ -180,14 +179,14 @@ refused w past s e fault old new stands h l (inr r) =
       unchanged = λ d. server_kept w past s h.node old new stands h.moved (unchanged (server_nodes (opening_of s)) (entries past s) e h.node r.unchanged r.on (λ core same. same d));
     })
 
-by_sort : (w : Setup) (past : List Change) (s : ℕ) (e : Input) (fault : Fault) (old new : World) → StandsFor w past old
+by_sort : (w : Setup) (past : List Change) (s : ℕ) (e : FrameInput) (fault : Fault) (old new : World) → StandsFor w past old
     → (h : HasServed s e (Err fault) [] old new) → s < w.servers
     → (sort : FaultSort) → any_node.Faults (server_nodes (opening_of s)) (entries past s) e sort fault h.node → Faults w past s e sort fault new
 by_sort w past s e fault old new stands h l sorts.Memory f = (f.0, server_kept w past s h.node old new stands h.moved f.1)
 by_sort w past s e fault old new stands h l sorts.Save f = f
 by_sort w past s e fault old new stands h l sorts.Refusal f = refused w past s e fault old new stands h l f
 
-pub serve_fails : (w : Setup) (past : List Change) (s : ℕ) (e : Input) (fault : Fault) (old new : World) → StandsFor w past old
+pub serve_fails : (w : Setup) (past : List Change) (s : ℕ) (e : FrameInput) (fault : Fault) (old new : World) → StandsFor w past old
     → HasServed s e (Err fault) [] old new
     → ServerEnds w past s e new (Err fault)
 serve_fails w past s e fault old new stands h =
@@ -197,7 +196,7 @@ serve_fails w past s e fault old new stands h =
 -- ---- nothing comes of it
 
 -- There is no such server.
-pub none_serves : (w : Setup) (past : List Change) (s : ℕ) (e : Input) (now : World) → StandsFor w past now → nat_lt s (length now.servers.items) ≡ false
+pub none_serves : (w : Setup) (past : List Change) (s : ℕ) (e : FrameInput) (now : World) → StandsFor w past now → nat_lt s (length now.servers.items) ≡ false
     → ServerEnds w past s e now (Err NoServer)
 none_serves w past s e now stands h =
     let l : w.servers ≤ s = omega (arith, stands.number, ltb-false s (length now.servers.items) h) in
@@ -220,7 +219,7 @@ settled w past old new stands sent servers client files mirror = record {
 }
 
 -- Memory has run out.
-pub lacks : (w : Setup) (past : List Change) (s : ℕ) (e : Input) (old new : World) → StandsFor w past old → sent_in new.sent ≡ sent_in old.sent
+pub lacks : (w : Setup) (past : List Change) (s : ℕ) (e : FrameInput) (old new : World) → StandsFor w past old → sent_in new.sent ≡ sent_in old.sent
     → new.servers ≡ old.servers → new.client ≡ old.client → new.files ≡ old.files
     → new.mirror ≡ old.mirror → ServerEnds w past s e new (Err NoMemory)
 lacks w past s e old new stands sent servers client files mirror = (refl, settled w past old new stands sent servers client files mirror)

@@ -4,7 +4,7 @@ use Rattle.disk_model.specs.declared.left.Left.{Left}
 use Rattle.disk_model.specs.Left.{is_lost}
 use Rattle.messages.specs.declared.frame.Frame.TheVariants.{Whole, Piece}
 use Rattle.messages.specs.Hearing.{Meaning, Says, Waits, Spoils, Strays, meaning, heard_by, with_entry}
-use Rattle.server_core.specs.declared.input.Input.{Input}
+use Rattle.server_core.specs.Inputs.{FrameInput}
 use Rattle.server_core.specs.declared.input.Input.TheVariants as inputs
 use Rattle.server_core.specs.History as server
 use Rattle.server_core.specs.History.{Opening}
@@ -20,7 +20,7 @@ piece_stays o list left Waits h k = h
 piece_stays o list left Spoils h k = h
 piece_stays o list left Strays h k = h
 
-stays_up : (o : Opening) (past : List FrameEntry) (e : Input) (left : Left) → is_up o past ≡ true → is_lost left ≡ false → is_up o (Met e left ∷ past) ≡ true
+stays_up : (o : Opening) (past : List FrameEntry) (e : FrameInput) (left : Left) → is_up o past ≡ true → is_lost left ≡ false → is_up o (Met e left ∷ past) ≡ true
 stays_up o past (inputs.Deliver (Whole p)) left h k = stays (is_up o past) (is_lost left) h k
 stays_up o past (inputs.Deliver (Piece q)) left h k = piece_stays o (packets_heard o past) left (meaning (rules o) (heard_at o past) (Piece q)) h k
 stays_up o past (inputs.Issue j) left h k = stays (is_up o past) (is_lost left) h k

@@ -3,7 +3,7 @@ use Rattle.std.proofs.Common.{◌≡◌, refl, ◌∙◌, ap, ℕ, List, [], ◌
 use Rattle.std.specs.Prelude.{map}
 use Rattle.messages.specs.Hearing.{Heard, Coming, Comes, Happens, entry_of, rows_of, with_entry, heard, frames_by}
 use Rattle.disk_model.specs.declared.left.Left.{Left}
-use Rattle.server_core.specs.declared.event.Event.TheVariants as events
+use Rattle.server_core.specs.declared.input.Input.TheVariants as inputs
 use Rattle.server_core.specs.History as server
 use Rattle.server_core.specs.Hearing.{coming_of}
 use Rattle.server_core.specs.Answers as answers
@@ -17,20 +17,20 @@ next s h c = record { entries = with_entry (entry_of (at_server s) h c) h.entrie
 
 entry_same : (s : ℕ) (h : Heard server.Entry) (c : Coming server.Entry Left) → entry_of (at_server s) h (coming_of (frame_entry c)) ≡ entry_of (at_server s) h c
 entry_same s h (Comes f left) = refl
-entry_same s h (Happens (server.Met (events.Deliver p) left)) = refl
-entry_same s h (Happens (server.Met (events.Issue j) left)) = refl
-entry_same s h (Happens (server.Met (events.WriteDone ticket end) left)) = refl
-entry_same s h (Happens (server.Met (events.CheckDone boot a j report) left)) = refl
+entry_same s h (Happens (server.Met (inputs.Deliver p) left)) = refl
+entry_same s h (Happens (server.Met (inputs.Issue j) left)) = refl
+entry_same s h (Happens (server.Met (inputs.WriteDone ticket end) left)) = refl
+entry_same s h (Happens (server.Met (inputs.CheckDone boot a j report) left)) = refl
 entry_same s h (Happens server.Cut) = refl
 entry_same s h (Happens (server.Restart left)) = refl
 
 next_same : (s : ℕ) (h : Heard server.Entry) (c : Coming server.Entry Left) → next s h (coming_of (frame_entry c)) ≡ next s h c
 unfolding next
 next_same s h (Comes f left) = refl
-next_same s h (Happens (server.Met (events.Deliver p) left)) = refl
-next_same s h (Happens (server.Met (events.Issue j) left)) = refl
-next_same s h (Happens (server.Met (events.WriteDone ticket end) left)) = refl
-next_same s h (Happens (server.Met (events.CheckDone boot a j report) left)) = refl
+next_same s h (Happens (server.Met (inputs.Deliver p) left)) = refl
+next_same s h (Happens (server.Met (inputs.Issue j) left)) = refl
+next_same s h (Happens (server.Met (inputs.WriteDone ticket end) left)) = refl
+next_same s h (Happens (server.Met (inputs.CheckDone boot a j report) left)) = refl
 next_same s h (Happens server.Cut) = refl
 next_same s h (Happens (server.Restart left)) = refl
 

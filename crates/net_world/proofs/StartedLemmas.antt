@@ -14,12 +14,12 @@ use Rattle.messages.specs.Ranges.{is_generation}
 use Rattle.disk_model.specs.declared.left.Left.{Left}
 use Rattle.disk_model.specs.declared.left.Left.TheVariants as lefts
 use Rattle.disk_model.specs.Left.{has_new, is_lost, is_saved}
-use Rattle.client_core.specs.declared.call.Call.{Call}
+use Rattle.client_core.specs.Inputs.{PacketInput}
 use Rattle.client_core.specs.declared.note.ClientNote.{ClientNote}
 use Rattle.client_core.specs.declared.peers.Peers.{Peers}
 use Rattle.client_core.specs.History as client
 use Rattle.client_core.specs.History.{Opening, Entry}
-use Rattle.client_core.specs.Laws.{generations}
+use Rattle.client_core.specs.Numbering.{generations}
 use Rattle.client_core.specs.Note.{is_blank, new_note}
 use Rattle.client_core.specs.Saves.{due_by, noted_after}
 use Rattle.client_core.specs.Words.{is_on, words_noted, peers, may_renew}
@@ -53,7 +53,7 @@ pub record IsOfGeneration (o : Opening) (list : List Entry) : Type 0 where
   pub on : is_on list ≡ true → nat_lt 0 (words_noted o list).generation ≡ true
   pub written : is_blank (words_noted o list) ≡ false → nat_lt 0 (words_noted o list).generation ≡ true
 
-met_written : (on : Bool) (p : Peers) (n : ClientNote) (c : Call) (left : Left) → (on ≡ true → nat_lt 0 n.generation ≡ true)
+met_written : (on : Bool) (p : Peers) (n : ClientNote) (c : PacketInput) (left : Left) → (on ≡ true → nat_lt 0 n.generation ≡ true)
     → (is_blank n ≡ false → nat_lt 0 n.generation ≡ true)
     → is_blank (noted_after (has_new left) (due_by on p n c) n) ≡ false → nat_lt 0 (noted_after (has_new left) (due_by on p n c) n).generation ≡ true
 met_written true p n c left f g h = ap (λ (x : ℕ). nat_lt 0 x) (generation_stays (has_new left) (due_by true p n c) n) ∙ f refl

@@ -9,7 +9,7 @@ use Rattle.messages.specs.Bodies.{kind_of}
 use Rattle.messages.specs.Kinds.{is_of_server, is_of_mirror}
 use Rattle.server_core.specs.Sent.{PacketsGoToClient}
 use Rattle.client_core.specs.Packets as clients
-use Rattle.client_core.specs.Laws.{OneTextOfARun, OneTextOfAnAttempt}
+use Rattle.client_core.specs.Numbering.{OneTextOfARun, OneTextOfAnAttempt}
 use Rattle.mirror_core.specs.Laws.{PacketsGoToTheClient}
 use Rattle.net_world.specs.Setup.{Setup}
 use Rattle.net_world.specs.Trace.{Step, AtServer, AtClient, AtMirror, opening_of, client_opening}

@@ -12,8 +12,8 @@ use Rattle.messages.specs.declared.body.Body.{Body}
 use Rattle.messages.specs.declared.node.Node.{Node}
 use Rattle.messages.specs.declared.node.Node.TheVariants.{Server}
 use Rattle.messages.specs.Ranges.{is_generation}
-use Rattle.server_core.specs.declared.event.Event.{Event}
-use Rattle.server_core.specs.declared.event.Event.TheVariants as events
+use Rattle.server_core.specs.Inputs.{PacketInput}
+use Rattle.server_core.specs.declared.input.Input.TheVariants as inputs
 use Rattle.server_core.specs.History as server
 use Rattle.server_core.specs.History.{Opening}
 use Rattle.server_core.specs.Request.{request_of}
@@ -21,7 +21,8 @@ use Rattle.server_core.specs.Words.{work}
 use Rattle.server_core.specs.Taken.{takes, and_those, takings}
 use Rattle.server_core.specs.Heard.{heard_with, heard_packets}
 use Rattle.client_core.specs.History as client
-use Rattle.client_core.specs.Laws.{loses_nothing, generations, is_mirrored, KeepsNumbersApart}
+use Rattle.client_core.specs.Laws.{loses_nothing}
+use Rattle.client_core.specs.Numbering.{generations, is_mirrored, KeepsNumbersApart}
 use Rattle.client_core.specs.Ranges.{packet_in, packets_come}
 use Rattle.client_core.specs.Words.{words_noted}
 use Rattle.mirror_core.specs.Laws as mirror_laws
@@ -182,11 +183,11 @@ copied_was_sent w (AtMirror e ∷ past) p h c =
     ])
 
 -- An entry of a server brings a packet, or it came before.
-heard_by : (e : Event) (older : List PacketParts) (p : PacketParts) → Contains (heard_with e older) p → Contains (heard_with e []) p ⊎ Contains older p
-heard_by (events.Deliver q) older p h = Contains-append_cases (q ∷ []) older p h
-heard_by (events.Issue j) older p h = inr h
-heard_by (events.WriteDone ticket end) older p h = inr h
-heard_by (events.CheckDone boot a j report) older p h = inr h
+heard_by : (e : PacketInput) (older : List PacketParts) (p : PacketParts) → Contains (heard_with e older) p → Contains (heard_with e []) p ⊎ Contains older p
+heard_by (inputs.Deliver q) older p h = Contains-append_cases (q ∷ []) older p h
+heard_by (inputs.Issue j) older p h = inr h
+heard_by (inputs.WriteDone ticket end) older p h = inr h
+heard_by (inputs.CheckDone boot a j report) older p h = inr h
 
 heard_now : (e : server.Entry) (past : List server.Entry) (p : PacketParts) → Contains (heard_packets (e ∷ past)) p
     → Contains (heard_packets (e ∷ [])) p ⊎ Contains (heard_packets past) p

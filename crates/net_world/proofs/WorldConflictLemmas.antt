@@ -15,14 +15,14 @@ use Rattle.messages.specs.declared.node.Node.TheVariants.{Server, Client, Mirror
 use Rattle.messages.specs.PieceLaws.{OnlySentComesTogether}
 use Rattle.messages.specs.Hearing.{Meaning, Says, Waits, Spoils, Strays, heard}
 use Rattle.disk_model.specs.declared.left.Left.TheVariants as lefts
-use Rattle.server_core.specs.declared.event.Event.{Event}
-use Rattle.server_core.specs.declared.event.Event.TheVariants as events
-use Rattle.server_core.specs.declared.event.WriteEnd.{WriteEnd}
-use Rattle.server_core.specs.declared.event.WriteEnd.TheVariants as ends
+use Rattle.server_core.specs.Inputs.{PacketInput as ServerInput}
+use Rattle.server_core.specs.declared.input.Input.TheVariants as server_inputs
+use Rattle.server_core.specs.declared.input.WriteEnd.{WriteEnd}
+use Rattle.server_core.specs.declared.input.WriteEnd.TheVariants as ends
 use Rattle.server_core.specs.Words as servers
 use Rattle.server_core.specs.Answers as answers
-use Rattle.client_core.specs.declared.call.Call.{Call}
-use Rattle.client_core.specs.declared.call.Call.TheVariants as calls
+use Rattle.client_core.specs.Inputs.{PacketInput as ClientInput}
+use Rattle.client_core.specs.Inputs as client_inputs
 use Rattle.client_core.specs.Words as clients
 use Rattle.client_core.specs.Note.{is_blank}
 use Rattle.mirror_core.specs.Words as mirrors
@@ -80,15 +80,15 @@ said_was_sent laws w t steps_are fits f i to p is =
 fine_to_server : (t : List Step) (s : ℕ) (f : Frame) (m : Meaning) → FineCome (comes_to_server t s f m)
 unfolding FineCome
 fine_to_server t s f (Says p) h =
-    fine_step _ (fine_unless (answers.refusal (opening_of s) (of_server s t) (events.Deliver p)) _ (fine_server s (of_server s t) (events.Deliver p))) h
+    fine_step _ (fine_unless (answers.refusal (opening_of s) (of_server s t) (server_inputs.Deliver p)) _ (fine_server s (of_server s t) (server_inputs.Deliver p))) h
 fine_to_server t s f Waits h = cc
 fine_to_server t s f Spoils h = cc
 fine_to_server t s f Strays h = cc
 
 fine_to_client : (w : Setup) (t : List Step) (f : Frame) (m : Meaning)
-    → ((p : PacketParts) → m ≡ Says p → Fine (clients.refusal (client_opening w) (of_client w t) (calls.Deliver p))) → FineCome (comes_to_client w t f m)
+    → ((p : PacketParts) → m ≡ Says p → Fine (clients.refusal (client_opening w) (of_client w t) (client_inputs.Deliver p))) → FineCome (comes_to_client w t f m)
 unfolding FineCome
-fine_to_client w t f (Says p) g h = fine_step _ (fine_unless (clients.refusal (client_opening w) (of_client w t) (calls.Deliver p)) _ (g p refl)) h
+fine_to_client w t f (Says p) g h = fine_step _ (fine_unless (clients.refusal (client_opening w) (of_client w t) (client_inputs.Deliver p)) _ (g p refl)) h
 fine_to_client w t f Waits g h = cc
 fine_to_client w t f Spoils g h = cc
 fine_to_client w t f Strays g h = cc
@@ -125,18 +125,18 @@ fine_delivered laws w past steps_are fits t (Some f) g h = fine_to laws w past s
 
 -- ---- the rest
 
-fine_met_server : (t : List Step) (s : ℕ) (e : Event) → FineStep (met_by_server t s e)
+fine_met_server : (t : List Step) (s : ℕ) (e : ServerInput) → FineStep (met_by_server t s e)
 fine_met_server t s e = fine_unless (answers.refusal (opening_of s) (of_server s t) e) _ (fine_server s (of_server s t) e)
 
-fine_met_client : (w : Setup) (t : List Step) (c : Call) → NoPacket c → FineStep (met_by_client w t c)
+fine_met_client : (w : Setup) (t : List Step) (c : ClientInput) → NoPacket c → FineStep (met_by_client w t c)
 fine_met_client w t c k = fine_unless (clients.refusal (client_opening w) (of_client w t) c) _ (fine_call w (of_client w t) c k)
 
 fine_ended : (t : List Step) (s k : ℕ) (end : WriteEnd) (x : Option Origin) → FineStep (end_of_write t s k end x)
 unfolding FineStep
 fine_ended t s k end None h = cc
-fine_ended t s k end (Some origin) h = fine_met_server t s (events.WriteDone (ticket_of origin k) end) h
+fine_ended t s k end (Some origin) h = fine_met_server t s (server_inputs.WriteDone (ticket_of origin k) end) h
 
-fine_reported : (t : List Step) (s : ℕ) (x : Option Event) → FineStep (end_of_check_met t s x)
+fine_reported : (t : List Step) (s : ℕ) (x : Option ServerInput) → FineStep (end_of_check_met t s x)
 unfolding FineStep
 fine_reported t s None h = cc
 fine_reported t s (Some e) h = fine_met_server t s e h
@@ -178,14 +178,14 @@ unfolding FineStep
 fine_frame_cut w past landed (Server s) f = by (said_to_server (steps past) s f)
   where
     by : (m : Meaning) → server_frame_cut (trace w past) s landed f m ≡ Err Conflict → ⊥
-    by (Says p) h = fine_save (servers.due (opening_of s) (of_server s (trace w past)) (events.Deliver p)) _ h
+    by (Says p) h = fine_save (servers.due (opening_of s) (of_server s (trace w past)) (server_inputs.Deliver p)) _ h
     by Waits h = cc
     by Spoils h = cc
     by Strays h = cc
 fine_frame_cut w past landed Client f = by (said_to_client w (steps past) f)
   where
     by : (m : Meaning) → client_frame_cut w (trace w past) landed f m ≡ Err Conflict → ⊥
-    by (Says p) h = fine_save (clients.due (client_opening w) (of_client w (trace w past)) (calls.Deliver p)) _ h
+    by (Says p) h = fine_save (clients.due (client_opening w) (of_client w (trace w past)) (client_inputs.Deliver p)) _ h
     by Waits h = cc
     by Spoils h = cc
     by Strays h = cc
@@ -198,8 +198,8 @@ fine_delivery_cut w past landed (Some f) h = fine_frame_cut w past landed (to_of
 
 fine_cut_in : (w : Setup) (past : List Change) (landed : Bool) (e : Happening) → FineStep (cut_in w past landed e)
 unfolding Fine FineStep
-fine_cut_in w past landed (Begin text) h = fine_save (clients.due (client_opening w) (of_client w (trace w past)) (calls.Begin text)) _ h
-fine_cut_in w past landed (Verify run text) h = fine_save (clients.due (client_opening w) (of_client w (trace w past)) (calls.Verify run text)) _ h
+fine_cut_in w past landed (Begin text) h = fine_save (clients.due (client_opening w) (of_client w (trace w past)) (client_inputs.Begin text)) _ h
+fine_cut_in w past landed (Verify run text) h = fine_save (clients.due (client_opening w) (of_client w (trace w past)) (client_inputs.Verify run text)) _ h
 fine_cut_in w past landed (Deliver i) h = fine_delivery_cut w past landed (slice_get (frames_sent w (steps past)) i) h
 fine_cut_in w past landed (Restart node) h = fine_restart_cut (trace w past) landed node h
 fine_cut_in w past landed (Renew g) h = fine_renewal w (trace w past) _ NoSave (λ h. cc) h
@@ -219,14 +219,14 @@ fine_cut_in w past landed (CutIn again e) h = cc
 fine_bring : Peace → (w : Setup) (past : List Change) → IsFrameTrace w (steps past) → FitsFrames w (steps past) → IsTrace w (trace w past) → (e : Happening)
     → FineCome (brings w past e)
 unfolding Fine FineCome NoPacket
-fine_bring laws w past steps_are fits t (Begin text) h = fine_step _ (fine_met_client w (trace w past) (calls.Begin text) tt) h
-fine_bring laws w past steps_are fits t (Trigger run act) h = fine_step _ (fine_met_client w (trace w past) (calls.Trigger run act) tt) h
-fine_bring laws w past steps_are fits t (StopRun run) h = fine_step _ (fine_met_client w (trace w past) (calls.Stop run) tt) h
-fine_bring laws w past steps_are fits t (Verify run text) h = fine_step _ (fine_met_client w (trace w past) (calls.Verify run text) tt) h
-fine_bring laws w past steps_are fits t Tick h = fine_step _ (fine_met_client w (trace w past) calls.Tick tt) h
+fine_bring laws w past steps_are fits t (Begin text) h = fine_step _ (fine_met_client w (trace w past) (client_inputs.Begin text) tt) h
+fine_bring laws w past steps_are fits t (Trigger run act) h = fine_step _ (fine_met_client w (trace w past) (client_inputs.Trigger run act) tt) h
+fine_bring laws w past steps_are fits t (StopRun run) h = fine_step _ (fine_met_client w (trace w past) (client_inputs.Stop run) tt) h
+fine_bring laws w past steps_are fits t (Verify run text) h = fine_step _ (fine_met_client w (trace w past) (client_inputs.Verify run text) tt) h
+fine_bring laws w past steps_are fits t Tick h = fine_step _ (fine_met_client w (trace w past) client_inputs.Tick tt) h
 fine_bring laws w past steps_are fits t (Deliver i) h =
     fine_delivered laws w past steps_are fits t (slice_get (frames_sent w (steps past)) i) (sent_at (frames_sent w (steps past)) i) h
-fine_bring laws w past steps_are fits t (Issue s j) h = fine_step _ (fine_met_server (trace w past) s (events.Issue j)) h
+fine_bring laws w past steps_are fits t (Issue s j) h = fine_step _ (fine_met_server (trace w past) s (server_inputs.Issue j)) h
 fine_bring laws w past steps_are fits t (Land s j k mask) h = cc
 fine_bring laws w past steps_are fits t (Done s j k) h = fine_step _ (fine_ended (trace w past) s k ends.Done (open_at (trace w past) s j k)) h
 fine_bring laws w past steps_are fits t (Fail s j k) h = fine_step _ (fine_ended (trace w past) s k ends.Failed (open_at (trace w past) s j k)) h

@@ -14,17 +14,17 @@ use Rattle.messages.specs.declared.frame.Frame.{Frame}
 use Rattle.messages.specs.declared.node.Node.{Node}
 use Rattle.messages.specs.declared.node.Node.TheVariants.{Server, Client, Mirror}
 use Rattle.messages.specs.Hearing.{Comes, Happens, Meaning, Says, Waits, Spoils, Strays}
-use Rattle.server_core.specs.declared.event.Event.{Event}
-use Rattle.server_core.specs.declared.event.Event.TheVariants as events
-use Rattle.server_core.specs.declared.event.WriteEnd.{WriteEnd}
-use Rattle.server_core.specs.declared.event.WriteEnd.TheVariants as ends
+use Rattle.server_core.specs.Inputs.{PacketInput as ServerInput}
+use Rattle.server_core.specs.declared.input.Input.TheVariants as server_inputs
+use Rattle.server_core.specs.declared.input.WriteEnd.{WriteEnd}
+use Rattle.server_core.specs.declared.input.WriteEnd.TheVariants as ends
 use Rattle.server_core.specs.History as server
 use Rattle.server_core.specs.Words as servers
 use Rattle.server_core.specs.Answers as answers
 use Rattle.server_core.specs.Check.{check}
 use Rattle.server_core.specs.Laws.{ChecksHaveSets}
-use Rattle.client_core.specs.declared.call.Call.{Call}
-use Rattle.client_core.specs.declared.call.Call.TheVariants as calls
+use Rattle.client_core.specs.Inputs.{PacketInput as ClientInput}
+use Rattle.client_core.specs.Inputs as client_inputs
 use Rattle.client_core.specs.History as client
 use Rattle.client_core.specs.Words as clients
 use Rattle.client_core.specs.Note.{is_blank}
@@ -83,20 +83,20 @@ fit_if false step fault h = tt
 
 -- ---- each sort of happening
 
-fit_server : (t : List Step) (s : ℕ) (e : Event) → s < MAX_SERVERS → ReportFits e → FitBe (met_by_server t s e)
+fit_server : (t : List Step) (s : ℕ) (e : ServerInput) → s < MAX_SERVERS → ReportFits e → FitBe (met_by_server t s e)
 unfolding FitBe
 fit_server t s e l r = fit_unless (answers.refusal (opening_of s) (of_server s t) e) _ (l, r)
 
-fit_client : (w : Setup) (t : List Step) (c : Call) → FitBe (met_by_client w t c)
+fit_client : (w : Setup) (t : List Step) (c : ClientInput) → FitBe (met_by_client w t c)
 unfolding FitBe
 fit_client w t c = fit_unless (clients.refusal (client_opening w) (of_client w t) c) _ tt
 
 fit_ended : (t : List Step) (s k : ℕ) (end : WriteEnd) (x : Option Origin) → s < MAX_SERVERS → FitBe (end_of_write t s k end x)
 unfolding FitBe
 fit_ended t s k end None l = tt
-fit_ended t s k end (Some origin) l = fit_server t s (events.WriteDone (ticket_of origin k) end) l tt
+fit_ended t s k end (Some origin) l = fit_server t s (server_inputs.WriteDone (ticket_of origin k) end) l tt
 
-fit_reported : (t : List Step) (s : ℕ) (x : Option Event) → s < MAX_SERVERS → SomeEnd x → FitBe (end_of_check_met t s x)
+fit_reported : (t : List Step) (s : ℕ) (x : Option ServerInput) → s < MAX_SERVERS → SomeEnd x → FitBe (end_of_check_met t s x)
 unfolding FitBe SomeEnd
 fit_reported t s None l r = tt
 fit_reported t s (Some e) l r = fit_server t s e l r
@@ -131,14 +131,14 @@ fit_restart_cut w t landed Mirror l h = tt
 
 fit_comes_to_server : (t : List Step) (s : ℕ) (f : Frame) (m : Meaning) → s < MAX_SERVERS → FitCome (comes_to_server t s f m)
 unfolding FitCome FitBe
-fit_comes_to_server t s f (Says p) l = fit_step _ (fit_unless (answers.refusal (opening_of s) (of_server s t) (events.Deliver p)) _ l)
+fit_comes_to_server t s f (Says p) l = fit_step _ (fit_unless (answers.refusal (opening_of s) (of_server s t) (server_inputs.Deliver p)) _ l)
 fit_comes_to_server t s f Waits l = l
 fit_comes_to_server t s f Spoils l = l
 fit_comes_to_server t s f Strays l = tt
 
 fit_comes_to_client : (w : Setup) (t : List Step) (f : Frame) (m : Meaning) → FitCome (comes_to_client w t f m)
 unfolding FitCome FitBe
-fit_comes_to_client w t f (Says p) = fit_step _ (fit_unless (clients.refusal (client_opening w) (of_client w t) (calls.Deliver p)) _ tt)
+fit_comes_to_client w t f (Says p) = fit_step _ (fit_unless (clients.refusal (client_opening w) (of_client w t) (client_inputs.Deliver p)) _ tt)
 fit_comes_to_client w t f Waits = tt
 fit_comes_to_client w t f Spoils = tt
 fit_comes_to_client w t f Strays = tt
@@ -163,7 +163,7 @@ fit_delivered w past (Some f) l h = fit_comes_to w past (to_of f) f l h
 fit_server_frame_cut : (t : List Step) (s : ℕ) (landed : Bool) (f : Frame) (m : Meaning) → s < MAX_SERVERS → FitBe (server_frame_cut t s landed f m)
 unfolding FitBe
 fit_server_frame_cut t s landed f (Says p) l =
-    fit_save (servers.due (opening_of s) (of_server s t) (events.Deliver p)) (OfServer s (Comes f (lost_by landed))) l
+    fit_save (servers.due (opening_of s) (of_server s t) (server_inputs.Deliver p)) (OfServer s (Comes f (lost_by landed))) l
 fit_server_frame_cut t s landed f Waits l = tt
 fit_server_frame_cut t s landed f Spoils l = tt
 fit_server_frame_cut t s landed f Strays l = tt
@@ -171,7 +171,7 @@ fit_server_frame_cut t s landed f Strays l = tt
 fit_client_frame_cut : (w : Setup) (t : List Step) (landed : Bool) (f : Frame) (m : Meaning) → FitBe (client_frame_cut w t landed f m)
 unfolding FitBe
 fit_client_frame_cut w t landed f (Says p) =
-    fit_save (clients.due (client_opening w) (of_client w t) (calls.Deliver p)) (OfClient (Comes f (lost_by landed))) tt
+    fit_save (clients.due (client_opening w) (of_client w t) (client_inputs.Deliver p)) (OfClient (Comes f (lost_by landed))) tt
 fit_client_frame_cut w t landed f Waits = tt
 fit_client_frame_cut w t landed f Spoils = tt
 fit_client_frame_cut w t landed f Strays = tt
@@ -190,7 +190,7 @@ unfolding FitBe
 fit_delivery_cut w past landed None l h = tt
 fit_delivery_cut w past landed (Some f) l h = fit_frame_cut w past landed (to_of f) f l h
 
-fit_client_cut : (w : Setup) (t : List Step) (landed : Bool) (c : Call) → FitBe (client_cut_in w t landed c)
+fit_client_cut : (w : Setup) (t : List Step) (landed : Bool) (c : ClientInput) → FitBe (client_cut_in w t landed c)
 fit_client_cut w t landed c = fit_save (clients.due (client_opening w) (of_client w t) c) (OfClient (Happens (client.Met c (lost_by landed)))) tt
 
 -- The laws on which this rests.
@@ -201,8 +201,8 @@ pub record Reports : Type 0 where
 fit_cut_in : (w : Setup) (past : List Change) (landed : Bool) (e : Happening) → w.servers ≤ MAX_SERVERS
     → barring_fault w (trace w past) (frames_sent w (steps past)) (CutIn landed e) ≡ None → FitBe (cut_in w past landed e)
 unfolding FitBe
-fit_cut_in w past landed (Begin text) l h = fit_client_cut w (trace w past) landed (calls.Begin text)
-fit_cut_in w past landed (Verify run text) l h = fit_client_cut w (trace w past) landed (calls.Verify run text)
+fit_cut_in w past landed (Begin text) l h = fit_client_cut w (trace w past) landed (client_inputs.Begin text)
+fit_cut_in w past landed (Verify run text) l h = fit_client_cut w (trace w past) landed (client_inputs.Verify run text)
 fit_cut_in w past landed (Deliver i) l h = fit_delivery_cut w past landed (slice_get (frames_sent w (steps past)) i) l h
 fit_cut_in w past landed (Restart node) l h = fit_restart_cut w (trace w past) landed node l h
 fit_cut_in w past landed (Renew g) l h = fit_renewal w (trace w past) g (lost_by landed) NoSave
@@ -222,13 +222,13 @@ fit_cut_in w past landed (CutIn again e) l h = tt
 fit_bring : Reports → (w : Setup) (past : List Change) (e : Happening) → w.servers ≤ MAX_SERVERS
     → barring_fault w (trace w past) (frames_sent w (steps past)) e ≡ None → FitCome (brings w past e)
 unfolding FitBe FitCome
-fit_bring laws w past (Begin text) l h = fit_step _ (fit_client w (trace w past) (calls.Begin text))
-fit_bring laws w past (Trigger run act) l h = fit_step _ (fit_client w (trace w past) (calls.Trigger run act))
-fit_bring laws w past (StopRun run) l h = fit_step _ (fit_client w (trace w past) (calls.Stop run))
-fit_bring laws w past (Verify run text) l h = fit_step _ (fit_client w (trace w past) (calls.Verify run text))
-fit_bring laws w past Tick l h = fit_step _ (fit_client w (trace w past) calls.Tick)
+fit_bring laws w past (Begin text) l h = fit_step _ (fit_client w (trace w past) (client_inputs.Begin text))
+fit_bring laws w past (Trigger run act) l h = fit_step _ (fit_client w (trace w past) (client_inputs.Trigger run act))
+fit_bring laws w past (StopRun run) l h = fit_step _ (fit_client w (trace w past) (client_inputs.Stop run))
+fit_bring laws w past (Verify run text) l h = fit_step _ (fit_client w (trace w past) (client_inputs.Verify run text))
+fit_bring laws w past Tick l h = fit_step _ (fit_client w (trace w past) client_inputs.Tick)
 fit_bring laws w past (Deliver i) l h = fit_delivered w past (slice_get (frames_sent w (steps past)) i) l h
-fit_bring laws w past (Issue s j) l h = fit_step _ (fit_server (trace w past) s (events.Issue j) (server_there w (trace w past) s l h) tt)
+fit_bring laws w past (Issue s j) l h = fit_step _ (fit_server (trace w past) s (server_inputs.Issue j) (server_there w (trace w past) s l h) tt)
 fit_bring laws w past (Land s j k mask) l h = tt
 fit_bring laws w past (Done s j k) l h =
     fit_step _ (fit_ended (trace w past) s k ends.Done (open_at (trace w past) s j k) (write_there w (trace w past) s j k l h))

@@ -16,16 +16,16 @@ use Rattle.messages.specs.declared.node.Node.{Node}
 use Rattle.messages.specs.declared.node.Node.TheVariants.{Server, Client, Mirror}
 use Rattle.messages.specs.Hearing.{Comes, Happens, Meaning, Says, Waits, Spoils, Strays}
 use Rattle.fc_base.specs.declared.report.ReportParts.{ReportParts}
-use Rattle.server_core.specs.declared.event.Event.{Event}
-use Rattle.server_core.specs.declared.event.Event.TheVariants as events
-use Rattle.server_core.specs.declared.event.WriteEnd.{WriteEnd}
+use Rattle.server_core.specs.Inputs.{PacketInput as ServerInput}
+use Rattle.server_core.specs.declared.input.Input.TheVariants as server_inputs
+use Rattle.server_core.specs.declared.input.WriteEnd.{WriteEnd}
 use Rattle.server_core.specs.History as server
 use Rattle.server_core.specs.Heard.{heard_with}
 use Rattle.server_core.specs.Words as servers
 use Rattle.server_core.specs.Answers as answers
 use Rattle.server_core.specs.Check.{Check}
-use Rattle.client_core.specs.declared.call.Call.{Call}
-use Rattle.client_core.specs.declared.call.Call.TheVariants as calls
+use Rattle.client_core.specs.Inputs.{PacketInput as ClientInput}
+use Rattle.client_core.specs.Inputs as client_inputs
 use Rattle.client_core.specs.History as client
 use Rattle.client_core.specs.Ranges.{packet_in}
 use Rattle.client_core.specs.Words as clients
@@ -93,7 +93,7 @@ may_step w ps (Err fault) m = tt
 
 -- ---- what takes no frame
 
-pub may_server : (w : Setup) (ps : List FrameStep) (t : List Step) (s : ℕ) (e : Event) → heard_with e [] ≡ [] → MayBe w ps (met_by_server t s e)
+pub may_server : (w : Setup) (ps : List FrameStep) (t : List Step) (s : ℕ) (e : ServerInput) → heard_with e [] ≡ [] → MayBe w ps (met_by_server t s e)
 unfolding MayBe Goes
 may_server w ps t s e m = may_unless w ps (answers.refusal (opening_of s) (of_server s t) e) _ (m, refl)
 
@@ -101,7 +101,7 @@ pub either_way : (b : Bool) → (if b then true else true) ≡ true
 either_way true = refl
 either_way false = refl
 
-pub may_client : (w : Setup) (ps : List FrameStep) (t : List Step) (c : Call) → ((left : Left) → packet_in (client.Met c left) ≡ [])
+pub may_client : (w : Setup) (ps : List FrameStep) (t : List Step) (c : ClientInput) → ((left : Left) → packet_in (client.Met c left) ≡ [])
     → MayBe w ps (met_by_client w t c)
 unfolding MayBe Goes
 may_client w ps t c m = may_unless w ps (clients.refusal (client_opening w) (of_client w t) c) _
@@ -110,13 +110,13 @@ may_client w ps t c m = may_unless w ps (clients.refusal (client_opening w) (of_
 pub may_end : (w : Setup) (ps : List FrameStep) (t : List Step) (s k : ℕ) (end : WriteEnd) (x : Option Origin) → MayBe w ps (end_of_write t s k end x)
 unfolding MayBe
 may_end w ps t s k end None = tt
-may_end w ps t s k end (Some origin) = may_server w ps t s (events.WriteDone (ticket_of origin k) end) refl
+may_end w ps t s k end (Some origin) = may_server w ps t s (server_inputs.WriteDone (ticket_of origin k) end) refl
 
 may_report : (w : Setup) (ps : List FrameStep) (t : List Step) (s : ℕ) (c : Check) (j : ℕ) (x : Option ReportParts)
     → MayBe w ps (end_of_check_met t s (check_end c j x))
 unfolding MayBe
 may_report w ps t s c j None = tt
-may_report w ps t s c j (Some r) = may_server w ps t s (events.CheckDone c.boot c.attempt j r) refl
+may_report w ps t s c j (Some r) = may_server w ps t s (server_inputs.CheckDone c.boot c.attempt j r) refl
 
 pub may_check : (w : Setup) (ps : List FrameStep) (t : List Step) (s : ℕ) (x : Option Check) (j : ℕ) (held : ℕ → List ℕ)
     → MayBe w ps (end_of_check_met t s (end_of_check_in x j held))
@@ -147,7 +147,7 @@ unfolding Goes
 may_renew w ps g left fault h =
     may_if w ps (is_blank (noted_in w (trace_heard w ps))) (OfClient (Happens (client.Renew g left))) fault (λ e. (refl, renewal_fits w ps g left h))
 
-may_client_cut : (w : Setup) (ps : List FrameStep) (t : List Step) (landed : Bool) (c : Call) → ((left : Left) → packet_in (client.Met c left) ≡ [])
+may_client_cut : (w : Setup) (ps : List FrameStep) (t : List Step) (landed : Bool) (c : ClientInput) → ((left : Left) → packet_in (client.Met c left) ≡ [])
     → MayBe w ps (client_cut_in w t landed c)
 unfolding Goes
 may_client_cut w ps t landed c m = may_save w ps (clients.due (client_opening w) (of_client w t) c) (OfClient (Happens (client.Met c (lost_by landed))))
@@ -165,7 +165,7 @@ may_come_to_server : (w : Setup) (ps : List FrameStep) (t : List Step) (s : ℕ)
     → MayCome w ps (comes_to_server t s f m)
 unfolding MayCome MayBe Goes
 may_come_to_server w ps t s f (Says p) i to =
-    may_step w ps _ (may_unless w ps (answers.refusal (opening_of s) (of_server s t) (events.Deliver p)) _ ((i, to), refl))
+    may_step w ps _ (may_unless w ps (answers.refusal (opening_of s) (of_server s t) (server_inputs.Deliver p)) _ ((i, to), refl))
 may_come_to_server w ps t s f Waits i to = ((i, to), refl)
 may_come_to_server w ps t s f Spoils i to = ((i, to), refl)
 may_come_to_server w ps t s f Strays i to = tt
@@ -174,7 +174,7 @@ may_come_to_client : (w : Setup) (ps : List FrameStep) (t : List Step) (f : Fram
     → MayCome w ps (comes_to_client w t f m)
 unfolding MayCome MayBe Goes
 may_come_to_client w ps t f (Says p) i to =
-    may_step w ps _ (may_unless w ps (clients.refusal (client_opening w) (of_client w t) (calls.Deliver p)) _ ((i, to), refl))
+    may_step w ps _ (may_unless w ps (clients.refusal (client_opening w) (of_client w t) (client_inputs.Deliver p)) _ ((i, to), refl))
 may_come_to_client w ps t f Waits i to = ((i, to), refl)
 may_come_to_client w ps t f Spoils i to = ((i, to), refl)
 may_come_to_client w ps t f Strays i to = tt
@@ -204,7 +204,7 @@ may_server_frame_cut : (w : Setup) (ps : List FrameStep) (t : List Step) (s : �
     → to_of f ≡ Server s → MayBe w ps (server_frame_cut t s landed f m)
 unfolding MayBe Goes
 may_server_frame_cut w ps t s landed f (Says p) i to =
-    may_save w ps (servers.due (opening_of s) (of_server s t) (events.Deliver p)) (OfServer s (Comes f (lost_by landed))) ((i, to), refl)
+    may_save w ps (servers.due (opening_of s) (of_server s t) (server_inputs.Deliver p)) (OfServer s (Comes f (lost_by landed))) ((i, to), refl)
 may_server_frame_cut w ps t s landed f Waits i to = tt
 may_server_frame_cut w ps t s landed f Spoils i to = tt
 may_server_frame_cut w ps t s landed f Strays i to = tt
@@ -213,7 +213,7 @@ may_client_frame_cut : (w : Setup) (ps : List FrameStep) (t : List Step) (landed
     → to_of f ≡ Client → MayBe w ps (client_frame_cut w t landed f m)
 unfolding MayBe Goes
 may_client_frame_cut w ps t landed f (Says p) i to =
-    may_save w ps (clients.due (client_opening w) (of_client w t) (calls.Deliver p)) (OfClient (Comes f (lost_by landed))) ((i, to), refl)
+    may_save w ps (clients.due (client_opening w) (of_client w t) (client_inputs.Deliver p)) (OfClient (Comes f (lost_by landed))) ((i, to), refl)
 may_client_frame_cut w ps t landed f Waits i to = tt
 may_client_frame_cut w ps t landed f Spoils i to = tt
 may_client_frame_cut w ps t landed f Strays i to = tt
@@ -236,8 +236,8 @@ may_delivery_cut w past landed (Some f) b h = may_frame_cut w past landed (to_of
 pub may_cut_in : (w : Setup) (past : List Change) (landed : Bool) (e : Happening)
     → barring_fault w (trace w past) (frames_sent w (steps past)) (CutIn landed e) ≡ None → MayBe w (steps past) (cut_in w past landed e)
 unfolding MayBe
-may_cut_in w past landed (Begin text) h = may_client_cut w (steps past) (trace w past) landed (calls.Begin text) (λ left. refl)
-may_cut_in w past landed (Verify run text) h = may_client_cut w (steps past) (trace w past) landed (calls.Verify run text) (λ left. refl)
+may_cut_in w past landed (Begin text) h = may_client_cut w (steps past) (trace w past) landed (client_inputs.Begin text) (λ left. refl)
+may_cut_in w past landed (Verify run text) h = may_client_cut w (steps past) (trace w past) landed (client_inputs.Verify run text) (λ left. refl)
 may_cut_in w past landed (Deliver i) h = may_delivery_cut w past landed (slice_get (frames_sent w (steps past)) i) h (sent_at (frames_sent w (steps past)) i)
 may_cut_in w past landed (Restart node) h = may_restart_cut w (steps past) (trace w past) landed node
 may_cut_in w past landed (Renew g) h = may_renew w (steps past) g (lost_by landed) NoSave h

@@ -4,10 +4,10 @@ use Rattle.std.specs.Prelude.{slice_get}
 use Rattle.fc_base.specs.declared.fault.Fault.{Fault}
 use Rattle.fc_base.specs.declared.fault.Fault.TheVariants.{BadNote}
 use Rattle.disk_model.specs.declared.left.Left.TheVariants as lefts
-use Rattle.server_core.specs.declared.event.Event.TheVariants as events
-use Rattle.server_core.specs.declared.event.WriteEnd.TheVariants as ends
+use Rattle.server_core.specs.declared.input.Input.TheVariants as server_inputs
+use Rattle.server_core.specs.declared.input.WriteEnd.TheVariants as ends
 use Rattle.server_core.specs.Check.{check}
-use Rattle.client_core.specs.declared.call.Call.TheVariants as calls
+use Rattle.client_core.specs.Inputs as client_inputs
 use Rattle.net_world.specs.Setup.{Setup}
 use Rattle.net_world.specs.Happenings.{Happening, Begin, Trigger, StopRun, Verify, Tick, Deliver, Issue}
 use Rattle.net_world.specs.Happenings.{Land, Done, Fail, Rot, Cut, Restart, LoseNote, Renew, CutIn}
@@ -29,13 +29,13 @@ use Rattle.net_world.proofs.WorldLemmas.{may_cut, may_restart, may_renew, sent_a
 may_bring : (w : Setup) (past : List Change) (e : Happening) → IsFrameTrace w (steps past)
     → barring_fault w (trace w past) (frames_sent w (steps past)) e ≡ None → MayCome w (steps past) (brings w past e)
 unfolding MayBe MayCome Goes
-may_bring w past (Begin text) so h = may_step w (steps past) _ (may_client w (steps past) (trace w past) (calls.Begin text) (λ left. refl))
-may_bring w past (Trigger run act) so h = may_step w (steps past) _ (may_client w (steps past) (trace w past) (calls.Trigger run act) (λ left. refl))
-may_bring w past (StopRun run) so h = may_step w (steps past) _ (may_client w (steps past) (trace w past) (calls.Stop run) (λ left. refl))
-may_bring w past (Verify run text) so h = may_step w (steps past) _ (may_client w (steps past) (trace w past) (calls.Verify run text) (λ left. refl))
-may_bring w past Tick so h = may_step w (steps past) _ (may_client w (steps past) (trace w past) calls.Tick (λ left. refl))
+may_bring w past (Begin text) so h = may_step w (steps past) _ (may_client w (steps past) (trace w past) (client_inputs.Begin text) (λ left. refl))
+may_bring w past (Trigger run act) so h = may_step w (steps past) _ (may_client w (steps past) (trace w past) (client_inputs.Trigger run act) (λ left. refl))
+may_bring w past (StopRun run) so h = may_step w (steps past) _ (may_client w (steps past) (trace w past) (client_inputs.Stop run) (λ left. refl))
+may_bring w past (Verify run text) so h = may_step w (steps past) _ (may_client w (steps past) (trace w past) (client_inputs.Verify run text) (λ left. refl))
+may_bring w past Tick so h = may_step w (steps past) _ (may_client w (steps past) (trace w past) client_inputs.Tick (λ left. refl))
 may_bring w past (Deliver i) so h = may_deliver w past (slice_get (frames_sent w (steps past)) i) h (sent_at (frames_sent w (steps past)) i)
-may_bring w past (Issue s j) so h = may_step w (steps past) _ (may_server w (steps past) (trace w past) s (events.Issue j) refl)
+may_bring w past (Issue s j) so h = may_step w (steps past) _ (may_server w (steps past) (trace w past) s (server_inputs.Issue j) refl)
 may_bring w past (Land s j k mask) so h = tt
 may_bring w past (Done s j k) so h = may_step w (steps past) _ (may_end w (steps past) (trace w past) s k ends.Done (open_at (trace w past) s j k))
 may_bring w past (Fail s j k) so h = may_step w (steps past) _ (may_end w (steps past) (trace w past) s k ends.Failed (open_at (trace w past) s j k))

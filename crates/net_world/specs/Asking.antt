@@ -9,7 +9,7 @@ use Rattle.messages.specs.Senses.{is_drop}
 use Rattle.disk_model.specs.declared.left.Left.TheVariants.{NoSave}
 use Rattle.messages.specs.declared.node.Node.TheVariants.{Client}
 use Rattle.messages.specs.declared.refusal.Act.TheVariants as acts
-use Rattle.client_core.specs.declared.input.Input.{Input}
+use Rattle.client_core.specs.Inputs.{FrameInput}
 use Rattle.client_core.specs.Hearing.{FrameEntry, Met, coming_of}
 use Rattle.client_core.specs.FrameAnswers.{sense, refusal, answered_entry}
 use Rattle.net_world.specs.declared.client_outs.ClientOuts.{ClientOuts}
@@ -33,7 +33,7 @@ abbrev pub step_of : FrameEntry → FrameStep
 step_of e = OfClient (coming_of e)
 
 -- The step of a call that is answered.
-abbrev pub step_by : Setup → List Change → Input → FrameStep
+abbrev pub step_by : Setup → List Change → FrameInput → FrameStep
 step_by w past e = step_of (answered_entry (client_opening w) (entries w past) e)
 
 -- What is told of what the client has answered, behind so many frames.
@@ -42,7 +42,7 @@ told_of first asked =
     record { answer = asked.answer; first = first; sent = length asked.frames; act = acts.None }
 
 -- The client is on, doesn't refuse what comes, and its step is added.
-pub record IsAnswered (w : Setup) (past : List Change) (e : Input) (new : World)
+pub record IsAnswered (w : Setup) (past : List Change) (e : FrameInput) (new : World)
     (told : Told) : Type 0 where
   pub on : unless_on w (trace w past) Client ≡ None
   pub free : refusal (client_opening w) (entries w past) e ≡ None
@@ -62,7 +62,7 @@ pub record IsBarred (w : Setup) (past : List Change) (fault : Fault) (new : Worl
 
 -- The client refuses what comes. That may stand in the list, or be left out, but where it drops a
 -- tag.
-pub record Refuses (w : Setup) (past : List Change) (e : Input) (fault : Fault)
+pub record Refuses (w : Setup) (past : List Change) (e : FrameInput) (fault : Fault)
     (new : World) : Type 0 where
   pub on : unless_on w (trace w past) Client ≡ None
   pub why : refusal (client_opening w) (entries w past) e ≡ Some fault
@@ -71,12 +71,12 @@ pub record Refuses (w : Setup) (past : List Change) (e : Input) (fault : Fault)
       → StandsFor w past new
 
 -- How a call ends that isn't answered.
-abbrev pub Faults : Setup → List Change → Input → FaultSort → Fault → World → Type 0
+abbrev pub Faults : Setup → List Change → FrameInput → FaultSort → Fault → World → Type 0
 Faults w past e sorts.Memory fault new = (fault ≡ NoMemory) × StandsFor w past new
 Faults w past e sorts.Save fault new = ⊥
 Faults w past e sorts.Refusal fault new = IsBarred w past fault new ⊎ Refuses w past e fault new
 
 -- How a call of the client ends.
-abbrev pub ClientEnds : Setup → List Change → Input → World → Result Told Fault → Type 0
+abbrev pub ClientEnds : Setup → List Change → FrameInput → World → Result Told Fault → Type 0
 ClientEnds w past e new (Ok told) = IsAnswered w past e new told
 ClientEnds w past e new (Err fault) = Faults w past e (sort_of fault) fault new

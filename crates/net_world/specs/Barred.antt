@@ -12,7 +12,7 @@ use Rattle.messages.specs.declared.frame.Frame.{Frame}
 use Rattle.messages.specs.Ranges.{is_generation}
 use Rattle.server_core.specs.Words as servers
 use Rattle.client_core.specs.Words as clients
-use Rattle.client_core.specs.Laws.{generations}
+use Rattle.client_core.specs.Numbering.{generations}
 use Rattle.mirror_core.specs.Words as mirrors
 use Rattle.net_world.specs.Setup.{Setup}
 use Rattle.net_world.specs.Happenings.{Happening, Begin, Trigger, StopRun, Verify, Tick, Deliver, Issue}

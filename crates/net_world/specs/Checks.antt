@@ -8,8 +8,8 @@ use Rattle.verify_state.specs.State.{State}
 use Rattle.disk_model.specs.File.{block_bytes}
 use Rattle.recheck.specs.Expected.{expected_by}
 use Rattle.recheck.specs.Report.{report}
-use Rattle.server_core.specs.declared.event.Event.{Event}
-use Rattle.server_core.specs.declared.event.Event.TheVariants.{CheckDone}
+use Rattle.server_core.specs.Inputs.{PacketInput}
+use Rattle.server_core.specs.declared.input.Input.TheVariants.{CheckDone}
 use Rattle.server_core.specs.Check.{Check, Progress, Wanting, Full, With, Refused, Done, check, progress_after}
 use Rattle.net_world.specs.Setup.{Setup}
 use Rattle.net_world.specs.Trace.{of_server, opening_of}
@@ -41,16 +41,16 @@ report_for c j None held = None
 report_for c j (Some job) held = report_by c j job (progress_after c j job c.since) held
 
 -- The end of a check with this report.
-abbrev pub check_end : Check → ℕ → Option ReportParts → Option Event
+abbrev pub check_end : Check → ℕ → Option ReportParts → Option PacketInput
 check_end c j None = None
 check_end c j (Some r) = Some (CheckDone c.boot c.attempt j r)
 
 -- The end of the check of job j over this content, where the job is ready.
-abbrev pub end_of_check_in : Option Check → ℕ → (ℕ → List ℕ) → Option Event
+abbrev pub end_of_check_in : Option Check → ℕ → (ℕ → List ℕ) → Option PacketInput
 end_of_check_in None j held = None
 end_of_check_in (Some c) j held = check_end c j (report_for c j (slice_get c.jobs j) held)
 
 -- The end of the check of job j's file at server s, as the file is now, where the job is ready.
-abbrev pub end_of_check : Setup → List Change → ℕ → ℕ → Option Event
+abbrev pub end_of_check : Setup → List Change → ℕ → ℕ → Option PacketInput
 end_of_check w past s j =
     end_of_check_in (check (opening_of s) (of_server s (trace w past))) j (content w past s j)

@@ -7,8 +7,8 @@ use Rattle.fc_base.specs.Fault.{sort_of}
 use Rattle.disk_model.specs.MemNotes.{Saved as Kept, note_of}
 use Rattle.disk_model.specs.declared.left.Left.TheVariants.{Saved}
 use Rattle.client_core.specs.declared.client.Client.{Client}
-use Rattle.client_core.specs.declared.input.Input.{Input}
-use Rattle.client_core.specs.declared.input.Input.TheVariants as inputs
+use Rattle.client_core.specs.Inputs.{FrameInput}
+use Rattle.client_core.specs.Inputs as inputs
 use Rattle.client_core.specs.History.{Opening}
 use Rattle.client_core.specs.declared.note.ClientNote.{ClientNote}
 use Rattle.client_core.specs.Note.{Says, is_blank}
@@ -48,7 +48,7 @@ IsNoteOf opening past notes =
 -- The kind of the client of a world that was opened so: one over notes in memory, which are empty
 -- for as long as they say nothing.
 abbrev pub client_nodes : Opening →
-    Kind (Client Kept) Kept Input FrameEntry Addition (List (List ℕ))
+    Kind (Client Kept) Kept FrameInput FrameEntry Addition (List (List ℕ))
 client_nodes opening = record {
   core = steps note_of opening;
   note = note_of;
@@ -61,7 +61,7 @@ abbrev pub Stands : Opening → List FrameEntry → ClientNode → Type 0
 Stands opening = nodes.Stands (client_nodes opening)
 
 -- What is answered: the number of the run or of the attempt, if one has begun.
-abbrev pub answer_to : Opening → List FrameEntry → Input → WorldAnswer
+abbrev pub answer_to : Opening → List FrameEntry → FrameInput → WorldAnswer
 answer_to opening past (inputs.Begin text) =
     answers.Run ((words_noted opening (packets_heard opening past)).runs + 1)
 answer_to opening past (inputs.Verify run text) =
@@ -69,7 +69,7 @@ answer_to opening past (inputs.Verify run text) =
 answer_to opening past _ = answers.Plain
 
 -- How a call ends: as what comes to a node does, and with that number.
-abbrev pub Asks : Opening → List FrameEntry → Input → ClientNode → Result ClientOuts Fault → Type 0
+abbrev pub Asks : Opening → List FrameEntry → FrameInput → ClientNode → Result ClientOuts Fault → Type 0
 Asks opening past e new (Ok asked) =
     (asked.answer ≡ answer_to opening past e)
     × Answers (client_nodes opening) past e new asked.frames

@@ -1,7 +1,7 @@
 -- What an event of a world is: something that can happen.
 use Rattle.std.specs.Prelude.{ℕ, true}
-use Rattle.server_core.specs.declared.event.WriteEnd.{WriteEnd}
-use Rattle.server_core.specs.declared.event.WriteEnd.TheVariants as ends
+use Rattle.server_core.specs.declared.input.WriteEnd.{WriteEnd}
+use Rattle.server_core.specs.declared.input.WriteEnd.TheVariants as ends
 use Rattle.net_world.specs.declared.event.PlainEvent.{PlainEvent}
 use Rattle.net_world.specs.declared.event.PlainEvent.TheVariants as plain
 use Rattle.net_world.specs.declared.event.WorldEvent.{WorldEvent}

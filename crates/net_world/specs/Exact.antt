@@ -5,7 +5,7 @@ use Rattle.job_file.specs.declared.job.Job.{Job}
 use Rattle.verify_state.specs.State.{State}
 use Rattle.disk_model.specs.declared.left.Left.{Left}
 use Rattle.disk_model.specs.declared.left.Left.TheVariants.{Saved}
-use Rattle.server_core.specs.declared.event.Event.{Event}
+use Rattle.server_core.specs.Inputs.{PacketInput}
 use Rattle.server_core.specs.History.{Opening, Entry, Met}
 use Rattle.server_core.specs.Accepted.{IsTaking}
 use Rattle.server_core.specs.Answers.{issue}
@@ -24,7 +24,7 @@ abbrev pub IsQuiet :
     IsTaking opening run j list state
     → Type 0
 IsQuiet {opening} taking =
-    (later between : List Entry) (e : Event) (left : Left) →
+    (later between : List Entry) (e : PacketInput) (left : Left) →
     taking.newer ≡ later ++ Met e left ∷ between →
     gives_write (issue opening (between ++ Met taking.trigger taking.left
     ∷ (taking.between ++ Met taking.start Saved ∷ taking.older)) e) ≡ false

@@ -12,15 +12,13 @@ use Rattle.messages.specs.Pieces.{frames_of}
 use Rattle.messages.specs.Hearing.{Rules, Coming, Comes, Happens, entry_of, frames_by, with_entry, heard}
 use Rattle.disk_model.specs.declared.left.Left.{Left}
 use Rattle.disk_model.specs.declared.left.Left.TheVariants.{Saved}
-use Rattle.server_core.specs.declared.event.Event.{Event}
-use Rattle.server_core.specs.declared.event.Event.TheVariants as events
-use Rattle.server_core.specs.declared.input.Input.TheVariants as inputs
+use Rattle.server_core.specs.Inputs.{PacketInput as ServerInput}
+use Rattle.server_core.specs.declared.input.Input.TheVariants as server_inputs
 use Rattle.server_core.specs.History as server
 use Rattle.server_core.specs.Hearing as server_hearing
 use Rattle.server_core.specs.Answers as servers
-use Rattle.client_core.specs.declared.call.Call.{Call}
-use Rattle.client_core.specs.declared.call.Call.TheVariants as calls
-use Rattle.client_core.specs.declared.input.Input.TheVariants as client_inputs
+use Rattle.client_core.specs.Inputs.{PacketInput as ClientInput}
+use Rattle.client_core.specs.Inputs as client_inputs
 use Rattle.client_core.specs.History as client
 use Rattle.client_core.specs.Packets as clients
 use Rattle.client_core.specs.Hearing as client_hearing
@@ -58,11 +56,11 @@ of_mirror (OfClient c ∷ past) = of_mirror past
 of_mirror (OfMirror e ∷ past) = e ∷ of_mirror past
 
 -- How each node hears.
-abbrev pub at_server : ℕ → Rules Event server.Entry Left
+abbrev pub at_server : ℕ → Rules ServerInput server.Entry Left
 at_server s = server_hearing.rules (opening_of s)
 
 -- How the client of a setup hears frames.
-abbrev pub at_client : Setup → Rules Call client.Entry Left
+abbrev pub at_client : Setup → Rules ClientInput client.Entry Left
 at_client w = client_hearing.rules (client_opening w)
 
 -- The frames that a node sends, to which this has happened, with what happens now.
@@ -131,14 +129,14 @@ IsFrameTrace w (step ∷ past) =
 -- What happens to a server, as an entry of its list of frames. A packet that comes besides the
 -- frames, as none does in a trace, is one that comes whole.
 abbrev pub frame_entry : Coming server.Entry Left → server_hearing.FrameEntry
-frame_entry (Comes f left) = server_hearing.Met (inputs.Deliver f) left
-frame_entry (Happens (server.Met (events.Deliver p) left)) =
-    server_hearing.Met (inputs.Deliver (Whole p)) left
-frame_entry (Happens (server.Met (events.Issue j) left)) = server_hearing.Met (inputs.Issue j) left
-frame_entry (Happens (server.Met (events.WriteDone ticket end) left)) =
-    server_hearing.Met (inputs.WriteDone ticket end) left
-frame_entry (Happens (server.Met (events.CheckDone boot a j report) left)) =
-    server_hearing.Met (inputs.CheckDone boot a j report) left
+frame_entry (Comes f left) = server_hearing.Met (server_inputs.Deliver f) left
+frame_entry (Happens (server.Met (server_inputs.Deliver p) left)) =
+    server_hearing.Met (server_inputs.Deliver (Whole p)) left
+frame_entry (Happens (server.Met (server_inputs.Issue j) left)) = server_hearing.Met (server_inputs.Issue j) left
+frame_entry (Happens (server.Met (server_inputs.WriteDone ticket end) left)) =
+    server_hearing.Met (server_inputs.WriteDone ticket end) left
+frame_entry (Happens (server.Met (server_inputs.CheckDone boot a j report) left)) =
+    server_hearing.Met (server_inputs.CheckDone boot a j report) left
 frame_entry (Happens server.Cut) = server_hearing.Cut
 frame_entry (Happens (server.Restart left)) = server_hearing.Restart left
 
@@ -149,17 +147,17 @@ server_entries s t = map frame_entry (of_server s t)
 -- What happens to the client, as an entry of its list of frames.
 abbrev pub client_frame_entry : Coming client.Entry Left → client_hearing.FrameEntry
 client_frame_entry (Comes f left) = client_hearing.Met (client_inputs.Deliver f) left
-client_frame_entry (Happens (client.Met (calls.Begin text) left)) =
+client_frame_entry (Happens (client.Met (client_inputs.Begin text) left)) =
     client_hearing.Met (client_inputs.Begin text) left
-client_frame_entry (Happens (client.Met (calls.Trigger run act) left)) =
+client_frame_entry (Happens (client.Met (client_inputs.Trigger run act) left)) =
     client_hearing.Met (client_inputs.Trigger run act) left
-client_frame_entry (Happens (client.Met (calls.Stop run) left)) =
+client_frame_entry (Happens (client.Met (client_inputs.Stop run) left)) =
     client_hearing.Met (client_inputs.Stop run) left
-client_frame_entry (Happens (client.Met (calls.Verify run text) left)) =
+client_frame_entry (Happens (client.Met (client_inputs.Verify run text) left)) =
     client_hearing.Met (client_inputs.Verify run text) left
-client_frame_entry (Happens (client.Met (calls.Deliver p) left)) =
+client_frame_entry (Happens (client.Met (client_inputs.Deliver p) left)) =
     client_hearing.Met (client_inputs.Deliver (Whole p)) left
-client_frame_entry (Happens (client.Met calls.Tick left)) =
+client_frame_entry (Happens (client.Met client_inputs.Tick left)) =
     client_hearing.Met client_inputs.Tick left
 client_frame_entry (Happens client.Cut) = client_hearing.Cut
 client_frame_entry (Happens (client.Restart mirror)) = client_hearing.Restart mirror

@@ -10,7 +10,7 @@ use Rattle.messages.specs.declared.packet.PacketParts.{PacketParts}
 use Rattle.messages.specs.declared.body.Body.TheVariants as bodies
 use Rattle.messages.specs.declared.refusal.Act.TheVariants as acts
 use Rattle.disk_model.specs.declared.left.Left.{Left}
-use Rattle.server_core.specs.declared.event.Event.{Event}
+use Rattle.server_core.specs.Inputs.{PacketInput}
 use Rattle.server_core.specs.History.{Met}
 use Rattle.server_core.specs.Run.{Work}
 use Rattle.server_core.specs.Words.{work}
@@ -20,7 +20,7 @@ use Rattle.server_core.specs.Check.{Check, With, progress}
 use Rattle.client_core.specs.Life.{life, deeds_done}
 use Rattle.client_core.specs.Requests.{Served, trigger_at}
 use Rattle.client_core.specs.Words.{kept_state}
-use Rattle.client_core.specs.Laws.{runs_in, attempts_in}
+use Rattle.client_core.specs.Numbering.{runs_in, attempts_in}
 use Rattle.net_world.specs.declared.told.WorldAnswer.TheVariants.{Checked}
 use Rattle.net_world.specs.declared.told.Told.{Told}
 use Rattle.net_world.specs.Setup.{Setup}
@@ -107,7 +107,7 @@ KeptWhereServed w t =
 -- be lost since.
 abbrev pub KeptWhereCut : Setup → List Step → Type 0
 KeptWhereCut w t =
-    (later earlier : List Step) (s : ℕ) (e : Event) (left : Left) (now : Work) (j : ℕ)
+    (later earlier : List Step) (s : ℕ) (e : PacketInput) (left : Left) (now : Work) (j : ℕ)
     (state : State) →
     t ≡ later ++ AtServer s (Met e left) ∷ earlier
     → work (opening_of s) (of_server s earlier) ≡ Some now

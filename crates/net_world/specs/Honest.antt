@@ -11,8 +11,8 @@ use Rattle.disk_model.specs.File.{block_bytes, has_bit}
 use Rattle.engine.specs.Running.{Origin}
 use Rattle.recheck.specs.Expected.{expected_by}
 use Rattle.recheck.specs.Faults.{is_fault}
-use Rattle.server_core.specs.declared.event.Event.TheVariants.{WriteDone}
-use Rattle.server_core.specs.declared.event.WriteEnd.TheVariants.{Done}
+use Rattle.server_core.specs.declared.input.Input.TheVariants.{WriteDone}
+use Rattle.server_core.specs.declared.input.WriteEnd.TheVariants.{Done}
 use Rattle.server_core.specs.History as server
 use Rattle.server_core.specs.Check.{Check, With, check, progress_after}
 use Rattle.messages.specs.Hearing.{Happens}

@@ -5,15 +5,15 @@ use Rattle.fc_base.specs.declared.limits.TheConstants.{MAX_SERVERS}
 use Rattle.fc_base.specs.Report.{is_report}
 use Rattle.messages.specs.PieceLaws.{ArePackets}
 use Rattle.messages.specs.Hearing.{Comes, Happens}
-use Rattle.server_core.specs.declared.event.Event.{Event}
-use Rattle.server_core.specs.declared.event.Event.TheVariants.{Deliver, Issue, WriteDone, CheckDone}
+use Rattle.server_core.specs.Inputs.{PacketInput}
+use Rattle.server_core.specs.declared.input.Input.TheVariants.{Deliver, Issue, WriteDone, CheckDone}
 use Rattle.server_core.specs.History.{Entry, Met, Cut, Restart}
 use Rattle.net_world.specs.Setup.{Setup}
 use Rattle.net_world.specs.Trace.{Step, AtServer, AtClient, AtMirror, IsTrace, sent_packets}
 use Rattle.net_world.specs.Frames.{FrameStep, OfServer, OfClient, OfMirror}
 
 -- The report of a check is within its ranges.
-abbrev pub ReportFits : Event → Type 0
+abbrev pub ReportFits : PacketInput → Type 0
 ReportFits (Deliver p) = Unit {0}
 ReportFits (Issue j) = Unit {0}
 ReportFits (WriteDone ticket end) = Unit {0}

@@ -11,15 +11,15 @@ use Rattle.disk_model.specs.declared.left.Left.TheVariants as lefts
 use Rattle.disk_model.specs.Left.{saved_for}
 use Rattle.engine.specs.Running.{Origin}
 use Rattle.engine.specs.Answers.{ticket_of}
-use Rattle.server_core.specs.declared.event.Event.{Event}
-use Rattle.server_core.specs.declared.event.Event.TheVariants as events
-use Rattle.server_core.specs.declared.event.WriteEnd.{WriteEnd}
-use Rattle.server_core.specs.declared.event.WriteEnd.TheVariants as ends
+use Rattle.server_core.specs.Inputs.{PacketInput as ServerInput}
+use Rattle.server_core.specs.declared.input.Input.TheVariants as server_inputs
+use Rattle.server_core.specs.declared.input.WriteEnd.{WriteEnd}
+use Rattle.server_core.specs.declared.input.WriteEnd.TheVariants as ends
 use Rattle.server_core.specs.History as server
 use Rattle.server_core.specs.Words as servers
 use Rattle.server_core.specs.Answers as answers
-use Rattle.client_core.specs.declared.call.Call.{Call}
-use Rattle.client_core.specs.declared.call.Call.TheVariants as calls
+use Rattle.client_core.specs.Inputs.{PacketInput as ClientInput}
+use Rattle.client_core.specs.Inputs as client_inputs
 use Rattle.client_core.specs.History as client
 use Rattle.client_core.specs.Words as clients
 use Rattle.client_core.specs.Note.{is_blank}
@@ -64,7 +64,7 @@ abbrev pub lost_by : Bool → Left
 lost_by landed = if landed then lefts.LostNew else lefts.LostOld
 
 -- A server meets an event and saves what is due, unless it refuses the event.
-abbrev pub met_by_server : List Step → ℕ → Event → Result FrameStep Fault
+abbrev pub met_by_server : List Step → ℕ → ServerInput → Result FrameStep Fault
 met_by_server t s e =
     let opening = opening_of s in
     let past = of_server s t in
@@ -72,7 +72,7 @@ met_by_server t s e =
     (Ok (OfServer s (Happens (server.Met e (saved_for (servers.due opening past e))))))
 
 -- The client meets a call and saves what is due, unless it refuses the call.
-abbrev pub met_by_client : Setup → List Step → Call → Result FrameStep Fault
+abbrev pub met_by_client : Setup → List Step → ClientInput → Result FrameStep Fault
 met_by_client w t c =
     let opening = client_opening w in
     let past = of_client w t in
@@ -85,8 +85,8 @@ abbrev pub comes_to_server : List Step → ℕ → Frame → Meaning → Outcome
 comes_to_server t s f (Says p) =
     let opening = opening_of s in
     let past = of_server s t in
-    outcome_of_step (unless_fault (answers.refusal opening past (events.Deliver p))
-    (Ok (OfServer s (Comes f (saved_for (servers.due opening past (events.Deliver p)))))))
+    outcome_of_step (unless_fault (answers.refusal opening past (server_inputs.Deliver p))
+    (Ok (OfServer s (Comes f (saved_for (servers.due opening past (server_inputs.Deliver p)))))))
 comes_to_server t s f Waits = Does (Met (OfServer s (Comes f lefts.NoSave)))
 comes_to_server t s f Spoils = Drops (OfServer s (Comes f lefts.NoSave))
 comes_to_server t s f Strays = Refuses Misdirected
@@ -96,8 +96,8 @@ abbrev pub comes_to_client : Setup → List Step → Frame → Meaning → Outco
 comes_to_client w t f (Says p) =
     let opening = client_opening w in
     let past = of_client w t in
-    outcome_of_step (unless_fault (clients.refusal opening past (calls.Deliver p))
-    (Ok (OfClient (Comes f (saved_for (clients.due opening past (calls.Deliver p)))))))
+    outcome_of_step (unless_fault (clients.refusal opening past (client_inputs.Deliver p))
+    (Ok (OfClient (Comes f (saved_for (clients.due opening past (client_inputs.Deliver p)))))))
 comes_to_client w t f Waits = Does (Met (OfClient (Comes f lefts.NoSave)))
 comes_to_client w t f Spoils = Drops (OfClient (Comes f lefts.NoSave))
 comes_to_client w t f Strays = Refuses Misdirected
@@ -131,10 +131,10 @@ delivery w past (Some f) = comes_to w past (to_of f) f
 -- The worker of an open write tells how it ended.
 abbrev pub end_of_write : List Step → ℕ → ℕ → WriteEnd → Option Origin → Result FrameStep Fault
 end_of_write t s k end None = Err NoWrite
-end_of_write t s k end (Some origin) = met_by_server t s (events.WriteDone (ticket_of origin k) end)
+end_of_write t s k end (Some origin) = met_by_server t s (server_inputs.WriteDone (ticket_of origin k) end)
 
 -- A server meets the end of a check, where the job is ready.
-abbrev pub end_of_check_met : List Step → ℕ → Option Event → Result FrameStep Fault
+abbrev pub end_of_check_met : List Step → ℕ → Option ServerInput → Result FrameStep Fault
 end_of_check_met t s None = Err NotInFlight
 end_of_check_met t s (Some e) = met_by_server t s e
 
@@ -167,7 +167,7 @@ renewal w t g =
     else Err BadNote
 
 -- The client loses its power within the save that a call is due to make.
-abbrev pub client_cut_in : Setup → List Step → Bool → Call → Result FrameStep Fault
+abbrev pub client_cut_in : Setup → List Step → Bool → ClientInput → Result FrameStep Fault
 client_cut_in w t landed c =
     where_saved (clients.due (client_opening w) (of_client w t) c)
     (OfClient (Happens (client.Met c (lost_by landed))))
@@ -175,14 +175,14 @@ client_cut_in w t landed c =
 -- A server, or the client, loses its power within the save that a frame's packet is due to make.
 abbrev pub server_frame_cut : List Step → ℕ → Bool → Frame → Meaning → Result FrameStep Fault
 server_frame_cut t s landed f (Says p) =
-    where_saved (servers.due (opening_of s) (of_server s t) (events.Deliver p))
+    where_saved (servers.due (opening_of s) (of_server s t) (server_inputs.Deliver p))
     (OfServer s (Comes f (lost_by landed)))
 server_frame_cut t s landed f _ = Err NoSave
 
 -- The client loses its power within the save of what a frame says, where there is one.
 abbrev pub client_frame_cut : Setup → List Step → Bool → Frame → Meaning → Result FrameStep Fault
 client_frame_cut w t landed f (Says p) =
-    where_saved (clients.due (client_opening w) (of_client w t) (calls.Deliver p))
+    where_saved (clients.due (client_opening w) (of_client w t) (client_inputs.Deliver p))
     (OfClient (Comes f (lost_by landed)))
 client_frame_cut w t landed f _ = Err NoSave
 
@@ -221,9 +221,9 @@ renewal_cut_in w t landed g =
 
 -- A node loses its power within the save of what happens. Only these five make one.
 abbrev pub cut_in : Setup → List Change → Bool → Happening → Result FrameStep Fault
-cut_in w past landed (Begin text) = client_cut_in w (trace w past) landed (calls.Begin text)
+cut_in w past landed (Begin text) = client_cut_in w (trace w past) landed (client_inputs.Begin text)
 cut_in w past landed (Verify run text) =
-    client_cut_in w (trace w past) landed (calls.Verify run text)
+    client_cut_in w (trace w past) landed (client_inputs.Verify run text)
 cut_in w past landed (Deliver i) =
     delivery_cut_in w past landed (slice_get (frames_sent w (steps past)) i)
 cut_in w past landed (Restart node) = restart_cut_in (trace w past) landed node
@@ -232,15 +232,15 @@ cut_in w past landed _ = Err NoSave
 
 -- What comes of what the world doesn't refuse.
 abbrev pub brings : Setup → List Change → Happening → Outcome
-brings w past (Begin text) = outcome_of_step (met_by_client w (trace w past) (calls.Begin text))
+brings w past (Begin text) = outcome_of_step (met_by_client w (trace w past) (client_inputs.Begin text))
 brings w past (Trigger run act) =
-    outcome_of_step (met_by_client w (trace w past) (calls.Trigger run act))
-brings w past (StopRun run) = outcome_of_step (met_by_client w (trace w past) (calls.Stop run))
+    outcome_of_step (met_by_client w (trace w past) (client_inputs.Trigger run act))
+brings w past (StopRun run) = outcome_of_step (met_by_client w (trace w past) (client_inputs.Stop run))
 brings w past (Verify run text) =
-    outcome_of_step (met_by_client w (trace w past) (calls.Verify run text))
-brings w past Tick = outcome_of_step (met_by_client w (trace w past) calls.Tick)
+    outcome_of_step (met_by_client w (trace w past) (client_inputs.Verify run text))
+brings w past Tick = outcome_of_step (met_by_client w (trace w past) client_inputs.Tick)
 brings w past (Deliver i) = delivery w past (slice_get (frames_sent w (steps past)) i)
-brings w past (Issue s j) = outcome_of_step (met_by_server (trace w past) s (events.Issue j))
+brings w past (Issue s j) = outcome_of_step (met_by_server (trace w past) s (server_inputs.Issue j))
 brings w past (Land s j k mask) = Does (Landed s j k mask)
 brings w past (Done s j k) =
     outcome_of_step (end_of_write (trace w past) s k ends.Done (open_at (trace w past) s j k))

@@ -8,7 +8,7 @@ use Rattle.messages.specs.declared.packet.PacketParts.{PacketParts}
 use Rattle.messages.specs.declared.body.Body.TheVariants as bodies
 use Rattle.messages.specs.declared.frame.Frame.TheVariants.{Whole}
 use Rattle.server_core.specs.Check.{With, progress}
-use Rattle.client_core.specs.declared.call.Call.TheVariants.{Deliver}
+use Rattle.client_core.specs.Inputs.{Deliver}
 use Rattle.client_core.specs.Words.{kept_state, words_noted, refusal}
 use Rattle.client_core.specs.Laws.{from_server}
 use Rattle.client_core.specs.Packets.{to_server}

@@ -5,7 +5,7 @@ use Rattle.fc_base.specs.declared.fault.Fault.{Fault}
 use Rattle.fc_base.specs.declared.fault.Fault.TheVariants.{NoSave, NumbersSpent}
 use Rattle.disk_model.specs.MemNotes.{Saved as Kept, note_of}
 use Rattle.disk_model.specs.declared.left.Left.TheVariants.{Saved}
-use Rattle.server_core.specs.declared.input.Input.{Input}
+use Rattle.server_core.specs.Inputs.{FrameInput}
 use Rattle.server_core.specs.declared.note.ServerNote.{ServerNote}
 use Rattle.server_core.specs.declared.outs.Outs.{Outs}
 use Rattle.server_core.specs.declared.server.Server.{Server}
@@ -24,7 +24,7 @@ abbrev pub ServerNode : Type 0
 ServerNode = Power (Server Kept) Kept
 
 -- The kind of a server of a world that was opened so: one over notes in memory.
-abbrev pub server_nodes : Opening → Kind (Server Kept) Kept Input FrameEntry Staged Outs
+abbrev pub server_nodes : Opening → Kind (Server Kept) Kept FrameInput FrameEntry Staged Outs
 server_nodes opening = server_kind note_of opening
 
 -- For which lists it stands.

@@ -8,7 +8,7 @@ use Rattle.fc_base.specs.Fault.{sort_of}
 use Rattle.messages.specs.Senses.{is_drop}
 use Rattle.disk_model.specs.declared.left.Left.TheVariants.{NoSave}
 use Rattle.messages.specs.declared.node.Node.TheVariants as nodes
-use Rattle.server_core.specs.declared.input.Input.{Input}
+use Rattle.server_core.specs.Inputs.{FrameInput}
 use Rattle.server_core.specs.Hearing.{FrameEntry, Met, coming_of}
 use Rattle.server_core.specs.FrameAnswers.{sense, refusal, issue, act, answered_entry}
 use Rattle.net_world.specs.declared.served.Served.{Served}
@@ -30,11 +30,11 @@ abbrev pub step_of : ℕ → FrameEntry → FrameStep
 step_of s e = OfServer s (coming_of e)
 
 -- The step of what comes to it and is answered.
-abbrev pub step_by : List Change → ℕ → Input → FrameStep
+abbrev pub step_by : List Change → ℕ → FrameInput → FrameStep
 step_by past s e = step_of s (answered_entry (opening_of s) (entries past s) e)
 
 -- The server is there and on, doesn't refuse what comes, and its step is added.
-pub record Serves (w : Setup) (past : List Change) (s : ℕ) (e : Input) (new : World)
+pub record Serves (w : Setup) (past : List Change) (s : ℕ) (e : FrameInput) (new : World)
     (served : Served) : Type 0 where
   pub on : unless_on w (trace w past) (nodes.Server s) ≡ None
   pub free : refusal (opening_of s) (entries past s) e ≡ None
@@ -52,7 +52,7 @@ pub record IsBarred (w : Setup) (past : List Change) (s : ℕ) (fault : Fault)
 
 -- The server refuses what comes. That may stand in the list, or be left out, but where it drops a
 -- tag.
-pub record Refuses (w : Setup) (past : List Change) (s : ℕ) (e : Input) (fault : Fault)
+pub record Refuses (w : Setup) (past : List Change) (s : ℕ) (e : FrameInput) (fault : Fault)
     (new : World) : Type 0 where
   pub on : unless_on w (trace w past) (nodes.Server s) ≡ None
   pub why : refusal (opening_of s) (entries past s) e ≡ Some fault
@@ -60,13 +60,13 @@ pub record Refuses (w : Setup) (past : List Change) (s : ℕ) (e : Input) (fault
   pub unchanged : is_drop (sense (opening_of s) (entries past s) e) ≡ false → StandsFor w past new
 
 -- How what comes to a server ends that isn't answered.
-abbrev pub Faults : Setup → List Change → ℕ → Input → FaultSort → Fault → World → Type 0
+abbrev pub Faults : Setup → List Change → ℕ → FrameInput → FaultSort → Fault → World → Type 0
 Faults w past s e sorts.Memory fault new = (fault ≡ NoMemory) × StandsFor w past new
 Faults w past s e sorts.Save fault new = ⊥
 Faults w past s e sorts.Refusal fault new =
     IsBarred w past s fault new ⊎ Refuses w past s e fault new
 
 -- How what comes to a server ends.
-abbrev pub ServerEnds : Setup → List Change → ℕ → Input → World → Result Served Fault → Type 0
+abbrev pub ServerEnds : Setup → List Change → ℕ → FrameInput → World → Result Served Fault → Type 0
 ServerEnds w past s e new (Ok served) = Serves w past s e new served
 ServerEnds w past s e new (Err fault) = Faults w past s e (sort_of fault) fault new

@@ -14,7 +14,7 @@ use Rattle.client_core.specs.History as client
 use Rattle.client_core.specs.Note.{blank}
 use Rattle.client_core.specs.Ranges.{packet_in}
 use Rattle.client_core.specs.Words.{words_noted}
-use Rattle.client_core.specs.Laws.{generations}
+use Rattle.client_core.specs.Numbering.{generations}
 use Rattle.client_core.specs.Packets as clients
 use Rattle.mirror_core.specs.declared.note.MirrorNote.{MirrorNote}
 use Rattle.mirror_core.specs.Note as mirror_note

@@ -11,8 +11,8 @@ use Rattle.messages.specs.declared.node.Node.TheVariants.{Server, Client}
 use Rattle.messages.specs.declared.refusal.Act.{Act}
 use Rattle.messages.specs.declared.refusal.Act.TheVariants as acts
 use Rattle.messages.specs.FrameBytes.{frame_spelling}
-use Rattle.server_core.specs.declared.event.Event.{Event}
-use Rattle.server_core.specs.declared.event.Event.TheVariants as events
+use Rattle.server_core.specs.Inputs.{PacketInput}
+use Rattle.server_core.specs.declared.input.Input.TheVariants as inputs
 use Rattle.server_core.specs.declared.status.Status.{Status}
 use Rattle.server_core.specs.History as server
 use Rattle.server_core.specs.Answers as servers
@@ -69,8 +69,8 @@ answer_of_issue None = answers.Plain
 answer_of_issue (Some answer) = answers.Issued answer
 
 -- The report of a check that is done.
-abbrev pub report_in : Option Event → WorldAnswer
-report_in (Some (events.CheckDone boot attempt j report)) = answers.Checked report
+abbrev pub report_in : Option PacketInput → WorldAnswer
+report_in (Some (inputs.CheckDone boot attempt j report)) = answers.Checked report
 report_in _ = answers.Plain
 
 -- What is answered where it isn't refused: the number of the run or attempt, what the worker is
@@ -79,7 +79,7 @@ abbrev pub answer : Setup → List Change → Happening → WorldAnswer
 answer w past (Begin text) = answers.Run ((client_note w past).runs + 1)
 answer w past (Verify run text) = answers.Attempt ((client_note w past).attempts + 1)
 answer w past (Issue s j) =
-    answer_of_issue (servers.issue (opening_of s) (of_server s (trace w past)) (events.Issue j))
+    answer_of_issue (servers.issue (opening_of s) (of_server s (trace w past)) (inputs.Issue j))
 answer w past (Check s j) = report_in (end_of_check w past s j)
 answer w past _ = answers.Plain
 

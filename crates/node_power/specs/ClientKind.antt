@@ -2,7 +2,7 @@
 use Rattle.std.specs.Prelude.{ℕ, List}
 use Rattle.disk_model.specs.Notes.{Note}
 use Rattle.client_core.specs.declared.client.Client.{Client}
-use Rattle.client_core.specs.declared.input.Input.{Input}
+use Rattle.client_core.specs.Inputs.{FrameInput}
 use Rattle.client_core.specs.History.{Opening}
 use Rattle.client_core.specs.Note.{Says}
 use Rattle.client_core.specs.Words.{words_noted}
@@ -13,7 +13,7 @@ use Rattle.node_power.specs.Kinds.{Kind}
 
 -- The kind of a client that was opened so.
 abbrev pub client_kind : {T : Type 0} → (T → Note) → Opening →
-    Kind (Client T) T Input FrameEntry Addition (List (List ℕ))
+    Kind (Client T) T FrameInput FrameEntry Addition (List (List ℕ))
 client_kind note opening = record {
   core = steps note opening;
   note = note;

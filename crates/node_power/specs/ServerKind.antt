@@ -1,6 +1,6 @@
 -- What kind of node a server is.
 use Rattle.disk_model.specs.Notes.{Note}
-use Rattle.server_core.specs.declared.input.Input.{Input}
+use Rattle.server_core.specs.Inputs.{FrameInput}
 use Rattle.server_core.specs.declared.outs.Outs.{Outs}
 use Rattle.server_core.specs.declared.server.Server.{Server}
 use Rattle.server_core.specs.History.{Opening}
@@ -12,7 +12,7 @@ use Rattle.node_power.specs.Kinds.{Kind}
 
 -- The kind of a server that was opened so.
 abbrev pub server_kind : {T : Type 0} → (T → Note) → Opening →
-    Kind (Server T) T Input FrameEntry Staged Outs
+    Kind (Server T) T FrameInput FrameEntry Staged Outs
 server_kind note opening = record {
   core = steps note opening;
   note = note;

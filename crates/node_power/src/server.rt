@@ -2,7 +2,7 @@
 
 ghost use Rattle.std.specs.Prelude.{◌<◌};
 ghost use Rattle.fc_base.specs.declared.limits.TheConstants.{MAX_SERVERS};
-ghost use Rattle.server_core.specs.declared.input.Input.{Input as ServerInput};
+ghost use Rattle.server_core.specs.Inputs.{FrameInput as ServerInput};
 ghost use Rattle.server_core.specs.declared.outs.Outs.{Outs as ServerOuts};
 ghost use Rattle.server_core.specs.History.{Opening as ServerOpening};
 ghost use Rattle.server_core.specs.Hearing.{FrameEntry};

@@ -15,8 +15,8 @@ use Rattle.messages.specs.Assemblies as looks
 use Rattle.messages.specs.Assemblies.{Look, look_at_piece}
 use Rattle.messages.specs.PieceLaws.{OnlySentComesTogether}
 use Rattle.messages.specs.Hearing.{Comes as ComesFrame, Says, Strays, said_by, heard}
-use Rattle.server_core.specs.declared.event.Event.{Event}
-use Rattle.server_core.specs.declared.event.Event.TheVariants as inputs
+use Rattle.server_core.specs.Inputs.{PacketInput}
+use Rattle.server_core.specs.declared.input.Input.TheVariants as inputs
 use Rattle.server_core.specs.History as server
 use Rattle.server_core.specs.Hearing.{is_piece_for}
 use Rattle.server_core.specs.Words as words
@@ -48,7 +48,7 @@ use Rattle.seen.proofs.FrameLemmas.{sent_at, frames_are}
 use Rattle.seen.proofs.DoneLemmas.{same_event, told_ok}
 
 -- An event by which a packet comes to a server, in a frame that is delivered.
-pub record Arrives (w : Setup) (s : ℕ) (events : List Happening) (e : Happening) (x : Event) (left : Left) : Type 0 where
+pub record Arrives (w : Setup) (s : ℕ) (events : List Happening) (e : Happening) (x : PacketInput) (left : Left) : Type 0 where
   pub index : ℕ
   pub event : e ≡ Deliver index
   pub frame : Frame
@@ -60,20 +60,20 @@ pub record Arrives (w : Setup) (s : ℕ) (events : List Happening) (e : Happenin
   pub kept : is_lost left ≡ false
   pub does : outcome w (world w events) e ≡ Does (Met (OfServer s (ComesFrame frame left)))
 
-pub same_left : (x y : Event) (l m : Left) → server.Met x l ≡ server.Met y m → l ≡ m
+pub same_left : (x y : PacketInput) (l m : Left) → server.Met x l ≡ server.Met y m → l ≡ m
 same_left x y l m h = cc
 
 not_lost : (x : Option Staged) → is_lost (saved_for x) ≡ false
 not_lost None = refl
 not_lost (Some d) = refl
 
-no_packet : (s : ℕ) (x y : Event) → x ≡ y → is_packets (request_of s y) ≡ false → is_packets (request_of s x) ≡ true → ⊥
+no_packet : (s : ℕ) (x y : PacketInput) → x ≡ y → is_packets (request_of s y) ≡ false → is_packets (request_of s x) ≡ true → ⊥
 no_packet s x y same none some =
-    let k : is_packets (request_of s y) ≡ true = subst (λ (z : Event). is_packets (request_of s z) ≡ true) same some in
+    let k : is_packets (request_of s y) ≡ true = subst (λ (z : PacketInput). is_packets (request_of s z) ≡ true) same some in
     let both : false ≡ true = sym none ∙ k in
     absurd cc
 
-arrived : (w : Setup) (s : ℕ) (evs : List Happening) (e : Happening) (x : Event) (left : Left) → is_packets (request_of s x) ≡ true
+arrived : (w : Setup) (s : ℕ) (evs : List Happening) (e : Happening) (x : PacketInput) (left : Left) → is_packets (request_of s x) ≡ true
     → (is_lost left ≡ true → (d : Staged) → due (opening_of s) (list_at w s evs) x ≡ Some d → ⊥)
     → Makes w (world w evs) s e (outcome w (world w evs) e) (server.Met x left) → Arrives w s evs e x left
 arrived w s evs e x left asks stays (ByFrame i f p l event there to says free saved is does) =
@@ -87,14 +87,14 @@ arrived w s evs e x left asks stays (ByFrame i f p l event there to says free sa
       packet = p;
       says = says;
       is = same;
-      free = subst (λ (z : Event). refusal (opening_of s) (list_at w s evs) z ≡ None) (sym same) free;
+      free = subst (λ (z : PacketInput). refusal (opening_of s) (list_at w s evs) z ≡ None) (sym same) free;
       kept = ap is_lost (l_is ∙ saved) ∙ not_lost (due (opening_of s) (list_at w s evs) (inputs.Deliver p));
       does = does ∙ ap (λ (v : Left). Does (Met (OfServer s (ComesFrame f v)))) (sym l_is);
     }
 arrived w s evs e x left asks stays (ByLoss y l is lost d due_is) =
     let same : x ≡ y = same_event x y left l is in
     let l_is : left ≡ l = same_left x y left l is in
-    absurd (stays (ap is_lost l_is ∙ lost) d (subst (λ (z : Event). due (opening_of s) (list_at w s evs) z ≡ Some d) (sym same) due_is))
+    absurd (stays (ap is_lost l_is ∙ lost) d (subst (λ (z : PacketInput). due (opening_of s) (list_at w s evs) z ≡ Some d) (sym same) due_is))
 arrived w s evs e x left asks stays (ByWorker j l event saved is c does) =
     absurd (no_packet s x (inputs.Issue j) (same_event x (inputs.Issue j) left l is) refl asks)
 arrived w s evs e x left asks stays (ByEnd end j k origin l event there free saved is c does) =
@@ -104,7 +104,7 @@ arrived w s evs e x left asks stays (ByCut is) = absurd cc
 arrived w s evs e x left asks stays (ByRestart l is) = absurd cc
 
 -- What asks in a packet arrives in a frame, where its save wasn't cut off.
-pub arrives : (w : Setup) (s : ℕ) (evs : List Happening) (e : Happening) (x : Event) (left : Left) → entry_now w s evs e ≡ Some (server.Met x left)
+pub arrives : (w : Setup) (s : ℕ) (evs : List Happening) (e : Happening) (x : PacketInput) (left : Left) → entry_now w s evs e ≡ Some (server.Met x left)
     → is_packets (request_of s x) ≡ true → (is_lost left ≡ true → (d : Staged) → due (opening_of s) (list_at w s evs) x ≡ Some d → ⊥)
     → Arrives w s evs e x left
 arrives w s evs e x left h asks stays = arrived w s evs e x left asks stays (makes w (world w evs) s e (server.Met x left) h)
@@ -143,7 +143,7 @@ whole_if laws w s evs (Piece q) i p few there says short =
     absurd cc
 
 -- It is seen to come.
-pub comes : ArriveLaws → (w : Setup) (s : ℕ) (evs : List Happening) (e : Happening) (x : Event) (left : Left) (p : PacketParts) → w.servers ≤ MAX_SERVERS
+pub comes : ArriveLaws → (w : Setup) (s : ℕ) (evs : List Happening) (e : Happening) (x : PacketInput) (left : Left) (p : PacketParts) → w.servers ≤ MAX_SERVERS
     → (a : Arrives w s evs e x left) → a.packet ≡ p → is_cut p.body ≡ false → Comes (observations w evs) (observation w evs e) p
 comes laws w s evs e x left p few a packet short =
     let says : said_to_server (steps (world w evs)) s a.frame ≡ Says p = a.says ∙ ap Says packet in

@@ -15,8 +15,8 @@ use Rattle.messages.specs.declared.refusal.Asked.TheVariants as asks
 use Rattle.messages.specs.declared.refusal.Reason.{Reason}
 use Rattle.messages.specs.declared.refusal.Reason.TheVariants as reasons
 use Rattle.messages.specs.Nodes.{node_number}
-use Rattle.client_core.specs.declared.call.Call.{Call}
-use Rattle.client_core.specs.declared.call.Call.TheVariants as calls
+use Rattle.client_core.specs.Inputs.{PacketInput}
+use Rattle.client_core.specs.Inputs as inputs
 use Rattle.client_core.specs.Life.{Deed, Begins, Triggers, Stops, Verifies, Hears, deeds_of, deeds_done}
 use Rattle.client_core.specs.Life as lives
 use Rattle.client_core.specs.Life.{life}
@@ -267,17 +267,17 @@ tick_carries all deeds ps n old =
     (copies_carry all deeds ps.mirror n.kept))
 
 -- What an answered call sends is of what it does, or of what was done before.
-pub call_carries : (all deeds : List Deed) (ps : Peers) (n : ClientNote) (c : Call) → AreIn (deeds_of n c) all → AreIn deeds all
+pub call_carries : (all deeds : List Deed) (ps : Peers) (n : ClientNote) (c : PacketInput) → AreIn (deeds_of n c) all → AreIn deeds all
     → AllCarry all (packets_for ps n deeds c)
-call_carries all deeds ps n (calls.Begin text) new old =
+call_carries all deeds ps n (inputs.Begin text) new old =
     all_map (λ p. Carries all p.body) (clients.to_server (bodies.Jobs (n.runs + 1) text)) (numbers_below ps.servers)
     (λ s. new (Begins (n.runs + 1) text) (first_of (Begins (n.runs + 1) text) []))
-call_carries all deeds ps n (calls.Trigger run act) new old =
+call_carries all deeds ps n (inputs.Trigger run act) new old =
     all_map (λ p. Carries all p.body) (clients.to_server (bodies.Trigger run act)) (numbers_below ps.servers) (λ s. tt)
-call_carries all deeds ps n (calls.Stop run) new old =
+call_carries all deeds ps n (inputs.Stop run) new old =
     all_map (λ p. Carries all p.body) (clients.to_server (bodies.Stop run)) (numbers_below ps.servers) (λ s. tt)
-call_carries all deeds ps n (calls.Verify run text) new old =
+call_carries all deeds ps n (inputs.Verify run text) new old =
     all_map (λ p. Carries all p.body) (clients.to_server (bodies.Verify run (n.attempts + 1) text)) (numbers_below ps.servers)
     (λ s. new (Verifies run (n.attempts + 1) text) (first_of (Verifies run (n.attempts + 1) text) []))
-call_carries all deeds ps n (calls.Deliver p) new old = reply_carries all deeds ps.mirror n (node_number p.from) p.body old
-call_carries all deeds ps n calls.Tick new old = tick_carries all deeds ps n old
+call_carries all deeds ps n (inputs.Deliver p) new old = reply_carries all deeds ps.mirror n (node_number p.from) p.body old
+call_carries all deeds ps n inputs.Tick new old = tick_carries all deeds ps n old

@@ -11,7 +11,7 @@ use Rattle.fc_base.specs.declared.limits.TheConstants.{MAX_SERVERS}
 use Rattle.fc_base.proofs.ListLemmas.{each_of, first_or_behind, none_in}
 use Rattle.client_core.specs.History.{Opening}
 use Rattle.client_core.specs.Life.{Deed, Begins, Verifies, deeds_done}
-use Rattle.client_core.specs.Laws.{run_in, attempt_in, runs_in, attempts_in}
+use Rattle.client_core.specs.Numbering.{run_in, attempt_in, runs_in, attempts_in}
 use Rattle.net_world.specs.Setup.{Setup}
 use Rattle.net_world.specs.Happenings.{Happening}
 use Rattle.net_world.specs.Trace.{first_entry, client_opening}

@@ -10,8 +10,8 @@ use Rattle.messages.specs.declared.packet.PacketParts.{PacketParts}
 use Rattle.messages.specs.Laws.{LengthsAreBounded}
 use Rattle.messages.specs.Pieces.{is_cut}
 use Rattle.messages.specs.Hearing.{with_entry}
-use Rattle.server_core.specs.declared.event.Event.{Event}
-use Rattle.server_core.specs.declared.event.Event.TheVariants as inputs
+use Rattle.server_core.specs.Inputs.{PacketInput}
+use Rattle.server_core.specs.declared.input.Input.TheVariants as inputs
 use Rattle.server_core.specs.History.{Met}
 use Rattle.server_core.specs.Heard.{heard_packets}
 use Rattle.server_core.specs.Request.{Request, request_of}
@@ -62,7 +62,7 @@ pub record CameIn (w : Setup) (s : ℕ) (evs : List Happening) (x : Request) : T
   pub event : Happening
   pub earlier : List Happening
   pub split : evs ≡ later ++ event ∷ earlier
-  pub input : Event
+  pub input : PacketInput
   pub left : Left
   pub arrives_in : Arrives w s earlier event input left
   pub request : request_of s (inputs.Deliver arrives_in.packet) ≡ x

@@ -14,15 +14,15 @@ use Rattle.messages.specs.declared.frame.Frame.{Frame}
 use Rattle.messages.specs.declared.node.Node.{Node}
 use Rattle.messages.specs.declared.node.Node.TheVariants.{Server, Client, Mirror}
 use Rattle.messages.specs.Hearing.{Comes, Happens, Meaning, Says, Waits, Spoils, Strays, heard_by, entry_of, with_entry, heard}
-use Rattle.server_core.specs.declared.event.Event.{Event}
-use Rattle.server_core.specs.declared.event.Event.TheVariants as inputs
-use Rattle.server_core.specs.declared.event.WriteEnd.{WriteEnd}
+use Rattle.server_core.specs.Inputs.{PacketInput as ServerInput}
+use Rattle.server_core.specs.declared.input.Input.TheVariants as server_inputs
+use Rattle.server_core.specs.declared.input.WriteEnd.{WriteEnd}
 use Rattle.server_core.specs.History as server
 use Rattle.server_core.specs.Words as servers
 use Rattle.server_core.specs.Answers as answering
 use Rattle.server_core.specs.Sent.{PacketsGoToClient}
-use Rattle.client_core.specs.declared.call.Call.{Call}
-use Rattle.client_core.specs.declared.call.Call.TheVariants as calls
+use Rattle.client_core.specs.Inputs.{PacketInput as ClientInput}
+use Rattle.client_core.specs.Inputs as client_inputs
 use Rattle.client_core.specs.History.{Opening, Entry, Met, Cut, Restart, Renew, Lose}
 use Rattle.client_core.specs.Words.{words_noted, refusal, due, is_answered}
 use Rattle.client_core.specs.Note.{is_blank}
@@ -161,7 +161,7 @@ said_calm : (w : Setup) (list : List Entry) (left : Left) (m : Meaning)
     → AllByRecursion IsPlain (new_deeds (client_opening w) list (heard_by (at_client w) left m))
 said_calm w list left (Says p) =
     let o = client_opening w in
-    plain_when (is_answered o list (calls.Deliver p) left) (deeds_of (words_noted o list) (calls.Deliver p)) (tt, tt)
+    plain_when (is_answered o list (client_inputs.Deliver p) left) (deeds_of (words_noted o list) (client_inputs.Deliver p)) (tt, tt)
 said_calm w list left Waits = tt
 said_calm w list left Spoils = tt
 said_calm w list left Strays = tt
@@ -193,14 +193,14 @@ other_of : (w : Setup) (past : List Change) (b : Bool) (step : FrameStep) (fault
 other_of w past true step fault h = tt
 other_of w past false step fault h = h
 
-pub calm_server : (w : Setup) (past : List Change) (s : ℕ) (x : Event) → IsCalm w past (outcome_of_step (met_by_server (trace w past) s x))
+pub calm_server : (w : Setup) (past : List Change) (s : ℕ) (x : ServerInput) → IsCalm w past (outcome_of_step (met_by_server (trace w past) s x))
 calm_server w past s x =
     let o = opening_of s in
     let list = of_server s (trace w past) in
     free w past (answering.refusal o list x) (OfServer s (Happens (server.Met x (saved_for (servers.due o list x))))) tt
 
 -- A call that gives none.
-pub calm_call : (w : Setup) (past : List Change) (c : Call) → AllByRecursion IsPlain (deeds_of (words_noted (client_opening w) (of_client w (trace w past))) c)
+pub calm_call : (w : Setup) (past : List Change) (c : ClientInput) → AllByRecursion IsPlain (deeds_of (words_noted (client_opening w) (of_client w (trace w past))) c)
     → IsCalm w past (outcome_of_step (met_by_client w (trace w past) c))
 calm_call w past c h =
     let o = client_opening w in
@@ -211,9 +211,9 @@ calm_call w past c h =
 pub calm_end : (w : Setup) (past : List Change) (s k : ℕ) (end : WriteEnd) (x : Option Origin)
     → IsCalm w past (outcome_of_step (end_of_write (trace w past) s k end x))
 calm_end w past s k end None = tt
-calm_end w past s k end (Some origin) = calm_server w past s (inputs.WriteDone (ticket_of origin k) end)
+calm_end w past s k end (Some origin) = calm_server w past s (server_inputs.WriteDone (ticket_of origin k) end)
 
-pub calm_check : (w : Setup) (past : List Change) (s : ℕ) (x : Option Event) → IsCalm w past (outcome_of_step (end_of_check_met (trace w past) s x))
+pub calm_check : (w : Setup) (past : List Change) (s : ℕ) (x : Option ServerInput) → IsCalm w past (outcome_of_step (end_of_check_met (trace w past) s x))
 calm_check w past s None = tt
 calm_check w past s (Some x) = calm_server w past s x
 
@@ -234,7 +234,7 @@ calm_at_server : (w : Setup) (past : List Change) (s : ℕ) (f : Frame) (m : Mea
 calm_at_server w past s f (Says p) =
     let o = opening_of s in
     let list = of_server s (trace w past) in
-    free w past (answering.refusal o list (inputs.Deliver p)) (OfServer s (Comes f (saved_for (servers.due o list (inputs.Deliver p))))) tt
+    free w past (answering.refusal o list (server_inputs.Deliver p)) (OfServer s (Comes f (saved_for (servers.due o list (server_inputs.Deliver p))))) tt
 calm_at_server w past s f Waits = tt
 calm_at_server w past s f Spoils = tt
 calm_at_server w past s f Strays = tt
@@ -243,8 +243,8 @@ calm_at_client : (w : Setup) (past : List Change) (f : Frame) (m : Meaning) → 
 calm_at_client w past f (Says p) =
     let o = client_opening w in
     let list = of_client w (trace w past) in
-    let left = saved_for (due o list (calls.Deliver p)) in
-    free w past (refusal o list (calls.Deliver p)) (OfClient (Comes f left)) (frame_calm w past f left)
+    let left = saved_for (due o list (client_inputs.Deliver p)) in
+    free w past (refusal o list (client_inputs.Deliver p)) (OfClient (Comes f left)) (frame_calm w past f left)
 calm_at_client w past f Waits = frame_calm w past f lefts.NoSave
 calm_at_client w past f Spoils = frame_calm w past f lefts.NoSave
 calm_at_client w past f Strays = tt

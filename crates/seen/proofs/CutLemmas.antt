@@ -9,8 +9,8 @@ use Rattle.verify_state.specs.State.{State}
 use Rattle.disk_model.specs.declared.left.Left.{Left}
 use Rattle.messages.specs.declared.packet.PacketParts.{PacketParts}
 use Rattle.messages.specs.declared.body.Body.TheVariants as bodies
-use Rattle.server_core.specs.declared.event.Event.{Event}
-use Rattle.server_core.specs.declared.event.Event.TheVariants as inputs
+use Rattle.server_core.specs.Inputs.{PacketInput}
+use Rattle.server_core.specs.declared.input.Input.TheVariants as inputs
 use Rattle.server_core.specs.History as server
 use Rattle.server_core.specs.History.{Opening, Entry}
 use Rattle.server_core.specs.Heard.{heard_with, heard_packets}
@@ -42,13 +42,13 @@ ack_is_short : (r j : ℕ) → Long (bodies.StateAck r j) → ⊥
 ack_is_short r j (OfJobs q text k) = cc
 ack_is_short r j (OfVerify q attempt text k) = cc
 
-no_start : (o : Opening) (list : List Entry) (x : Event) (r j : ℕ) (d : Staged) → request_of o.me x ≡ ToMark r j → due o list x ≡ Some d → ⊥
+no_start : (o : Opening) (list : List Entry) (x : PacketInput) (r j : ℕ) (d : Staged) → request_of o.me x ≡ ToMark r j → due o list x ≡ Some d → ⊥
 no_start o list x r j d asks h =
     let none : None ≡ Some d = sym (ap (due_by (is_on list) (last_run o list) (staged_run o list) (work o list)) asks) ∙ h in
     absurd cc
 
 -- An acknowledgement arrives in a frame.
-ack_arrives : (w : Setup) (s : ℕ) (evs : List Happening) (e : Happening) (x : Event) (left : Left) (r j : ℕ) → entry_now w s evs e ≡ Some (server.Met x left)
+ack_arrives : (w : Setup) (s : ℕ) (evs : List Happening) (e : Happening) (x : PacketInput) (left : Left) (r j : ℕ) → entry_now w s evs e ≡ Some (server.Met x left)
     → request_of s x ≡ ToMark r j → Arrives w s evs e x left
 ack_arrives w s evs e x left r j h asks =
     arrives w s evs e x left h (ap is_packets asks) (λ lost d k. no_start (opening_of s) (list_at w s evs) x r j d asks k)
@@ -77,7 +77,7 @@ heard_there (server.Cut ∷ past) p h = absurd (none_in p h)
 heard_there (server.Restart left ∷ past) p h = absurd (none_in p h)
 
 -- What an entry has brought, or what came before it.
-here_or_before : (x : Event) (older : List PacketParts) (p : PacketParts) → Contains (heard_with x older) p → (x ≡ inputs.Deliver p) ⊎ Contains older p
+here_or_before : (x : PacketInput) (older : List PacketParts) (p : PacketParts) → Contains (heard_with x older) p → (x ≡ inputs.Deliver p) ⊎ Contains older p
 here_or_before (inputs.Deliver q) older p h = elim (first_or_behind q older p h) [ inl e ↦ inl (ap inputs.Deliver e) | inr i ↦ inr i ]
 here_or_before (inputs.Issue j) older p h = inr h
 here_or_before (inputs.WriteDone ticket end) older p h = inr h
@@ -91,7 +91,7 @@ mark_of me r j = by (me == me) (eq-eqb me me refl)
     by false e = absurd cc
 
 -- An acknowledgement is seen to come.
-ack_comes : TakingLaws → (w : Setup) (s : ℕ) (evs : List Happening) (e : Happening) (x : Event) (left : Left) (r j : ℕ) → w.servers ≤ MAX_SERVERS
+ack_comes : TakingLaws → (w : Setup) (s : ℕ) (evs : List Happening) (e : Happening) (x : PacketInput) (left : Left) (r j : ℕ) → w.servers ≤ MAX_SERVERS
     → (h : entry_now w s evs e ≡ Some (server.Met x left)) → (asks : request_of s x ≡ ToMark r j)
     → Comes (observations w evs) (observation w evs e) (to_server s (bodies.StateAck r j))
 ack_comes laws w s evs e x left r j few h asks =

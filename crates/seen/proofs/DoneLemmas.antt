@@ -14,10 +14,10 @@ use Rattle.engine.specs.Answers.{ticket_of}
 use Rattle.disk_model.specs.declared.left.Left.{Left}
 use Rattle.disk_model.specs.Left.{saved_for}
 use Rattle.messages.specs.Hearing.{Happens, with_entry}
-use Rattle.server_core.specs.declared.event.Event.{Event}
-use Rattle.server_core.specs.declared.event.Event.TheVariants as inputs
-use Rattle.server_core.specs.declared.event.WriteEnd.{WriteEnd}
-use Rattle.server_core.specs.declared.event.WriteEnd.TheVariants as ends
+use Rattle.server_core.specs.Inputs.{PacketInput}
+use Rattle.server_core.specs.declared.input.Input.TheVariants as inputs
+use Rattle.server_core.specs.declared.input.WriteEnd.{WriteEnd}
+use Rattle.server_core.specs.declared.input.WriteEnd.TheVariants as ends
 use Rattle.server_core.specs.History as server
 use Rattle.server_core.specs.History.{Opening, Entry}
 use Rattle.server_core.specs.Run.{Work, origin_of, history}
@@ -95,7 +95,7 @@ pub record Ended (w : Setup) (past : List Change) (s : ℕ) (e : Happening) (r :
 same_end : (t u : Ticket) (a b : WriteEnd) (l m : Left) → server.Met (inputs.WriteDone t a) l ≡ server.Met (inputs.WriteDone u b) m → (t ≡ u) × (a ≡ b)
 same_end t u a b l m h = (cc, cc)
 
-pub same_event : (x y : Event) (l m : Left) → server.Met x l ≡ server.Met y m → x ≡ y
+pub same_event : (x y : PacketInput) (l m : Left) → server.Met x l ≡ server.Met y m → x ≡ y
 same_event x y l m h = cc
 
 pub ended : (w : Setup) (past : List Change) (s : ℕ) (e : Happening) (r : Outcome) (ticket : Ticket) (left : Left)
@@ -103,7 +103,7 @@ pub ended : (w : Setup) (past : List Change) (s : ℕ) (e : Happening) (r : Outc
 ended w past s e r ticket left (ByFrame i f p l event there to says free saved is does) = absurd cc
 ended w past s e r ticket left (ByLoss x l is lost d due_is) =
     let same = same_event (inputs.WriteDone ticket ends.Done) x left l is in
-    let no : None ≡ Some d = subst (λ (y : Event). due (opening_of s) (of_server s (trace w past)) y ≡ Some d) (sym same) due_is in
+    let no : None ≡ Some d = subst (λ (y : PacketInput). due (opening_of s) (of_server s (trace w past)) y ≡ Some d) (sym same) due_is in
     absurd cc
 ended w past s e r ticket left (ByWorker j l event saved is c does) = absurd cc
 ended w past s e r ticket left (ByEnd end j k origin l event there free saved is c does) =
@@ -129,7 +129,7 @@ pub told_ok : (w : Setup) (past : List Change) (e : Happening) (r : Outcome) (c 
 told_ok w past e r c h = ap (λ x. is_ok (told_by w past e x)) h
 
 -- A write that a server accepted as done with an event is seen to be.
-done_now : PresentIsLast → (w : Setup) (s : ℕ) (events : List Happening) (e : Happening) (x : Event) (left : Left) (past : List Entry) (key : Key) (k : ℕ)
+done_now : PresentIsLast → (w : Setup) (s : ℕ) (events : List Happening) (e : Happening) (x : PacketInput) (left : Left) (past : List Entry) (key : Key) (k : ℕ)
     (among : List Observation) → entry_now w s events e ≡ Some (server.Met x left) → IsDoneBy (opening_of s) past x key k
     → IsDone (observation w events e ∷ among) s key.job k
 done_now law w s events e (inputs.WriteDone ticket ends.Done) left past key k among h d =

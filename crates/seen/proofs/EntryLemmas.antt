@@ -15,16 +15,16 @@ use Rattle.messages.specs.declared.node.Node.{Node}
 use Rattle.messages.specs.declared.node.Node.TheVariants.{Server, Client, Mirror}
 use Rattle.messages.specs.declared.packet.PacketParts.{PacketParts}
 use Rattle.messages.specs.Hearing.{Comes, Happens, Says, entry_of, with_entry, heard}
-use Rattle.server_core.specs.declared.event.Event.{Event}
-use Rattle.server_core.specs.declared.event.Event.TheVariants as events
-use Rattle.server_core.specs.declared.event.WriteEnd.{WriteEnd}
+use Rattle.server_core.specs.Inputs.{PacketInput as ServerInput}
+use Rattle.server_core.specs.declared.input.Input.TheVariants as inputs
+use Rattle.server_core.specs.declared.input.WriteEnd.{WriteEnd}
 use Rattle.server_core.specs.History as server
 use Rattle.server_core.specs.History.{Entry}
 use Rattle.server_core.specs.Words as words
 use Rattle.server_core.specs.Words.{Staged, due}
 use Rattle.server_core.specs.Answers.{refusal}
 use Rattle.server_core.specs.Check.{Check}
-use Rattle.client_core.specs.declared.call.Call.{Call}
+use Rattle.client_core.specs.Inputs.{PacketInput as ClientInput}
 use Rattle.client_core.specs.History as client
 use Rattle.client_core.specs.Words as clients
 use Rattle.client_core.specs.Note.{is_blank}
@@ -90,20 +90,20 @@ list_with w s past (Drops step) = step_with w s (steps past) step
 -- What comes to server s with this event, of which this comes.
 pub data Makes (w : Setup) (past : List Change) (s : ℕ) (e : Happening) (r : Outcome) (y : Entry) : Type 0 where
   ByFrame : (i : ℕ) (f : Frame) (p : PacketParts) (left : Left) → e ≡ Deliver i → slice_get (frames_sent w (steps past)) i ≡ Some f → to_of f ≡ Server s
-      → said_to_server (steps past) s f ≡ Says p → refusal (opening_of s) (of_server s (trace w past)) (events.Deliver p) ≡ None
-      → left ≡ saved_for (due (opening_of s) (of_server s (trace w past)) (events.Deliver p)) → y ≡ server.Met (events.Deliver p) left
+      → said_to_server (steps past) s f ≡ Says p → refusal (opening_of s) (of_server s (trace w past)) (inputs.Deliver p) ≡ None
+      → left ≡ saved_for (due (opening_of s) (of_server s (trace w past)) (inputs.Deliver p)) → y ≡ server.Met (inputs.Deliver p) left
       → r ≡ Does (Met (OfServer s (Comes f left))) → Makes w past s e r y
-  ByLoss : (x : Event) (left : Left) → y ≡ server.Met x left → is_lost left ≡ true → (d : Staged)
+  ByLoss : (x : ServerInput) (left : Left) → y ≡ server.Met x left → is_lost left ≡ true → (d : Staged)
       → due (opening_of s) (of_server s (trace w past)) x ≡ Some d → Makes w past s e r y
-  ByWorker : (j : ℕ) (left : Left) → e ≡ Issue s j → left ≡ saved_for (due (opening_of s) (of_server s (trace w past)) (events.Issue j))
-      → y ≡ server.Met (events.Issue j) left → (c : Change) → r ≡ Does c → Makes w past s e r y
+  ByWorker : (j : ℕ) (left : Left) → e ≡ Issue s j → left ≡ saved_for (due (opening_of s) (of_server s (trace w past)) (inputs.Issue j))
+      → y ≡ server.Met (inputs.Issue j) left → (c : Change) → r ≡ Does c → Makes w past s e r y
   ByEnd : (end : WriteEnd) (j k : ℕ) (origin : Origin) (left : Left) → e ≡ happening_of_end end s j k → open_at (trace w past) s j k ≡ Some origin
-      → refusal (opening_of s) (of_server s (trace w past)) (events.WriteDone (ticket_of origin k) end) ≡ None
-      → left ≡ saved_for (due (opening_of s) (of_server s (trace w past)) (events.WriteDone (ticket_of origin k) end))
-      → y ≡ server.Met (events.WriteDone (ticket_of origin k) end) left → (c : Change) → r ≡ Does c → Makes w past s e r y
+      → refusal (opening_of s) (of_server s (trace w past)) (inputs.WriteDone (ticket_of origin k) end) ≡ None
+      → left ≡ saved_for (due (opening_of s) (of_server s (trace w past)) (inputs.WriteDone (ticket_of origin k) end))
+      → y ≡ server.Met (inputs.WriteDone (ticket_of origin k) end) left → (c : Change) → r ≡ Does c → Makes w past s e r y
   ByCheck : (boot a j : ℕ) (report : ReportParts) (left : Left)
-      → left ≡ saved_for (due (opening_of s) (of_server s (trace w past)) (events.CheckDone boot a j report))
-      → y ≡ server.Met (events.CheckDone boot a j report) left → Makes w past s e r y
+      → left ≡ saved_for (due (opening_of s) (of_server s (trace w past)) (inputs.CheckDone boot a j report))
+      → y ≡ server.Met (inputs.CheckDone boot a j report) left → Makes w past s e r y
   ByCut : y ≡ server.Cut → Makes w past s e r y
   ByRestart : (left : Left) → y ≡ server.Restart left → Makes w past s e r y
 
@@ -142,7 +142,7 @@ other_of : (s : ℕ) (ps : List FrameStep) (b : Bool) (step : FrameStep) (fault 
 other_of s ps true step fault h = refl
 other_of s ps false step fault h = h
 
-pub by_client : (w : Setup) (past : List Change) (s : ℕ) (e : Happening) (c : Call) → Adds w past s e (outcome_of_step (met_by_client w (trace w past) c))
+pub by_client : (w : Setup) (past : List Change) (s : ℕ) (e : Happening) (c : ClientInput) → Adds w past s e (outcome_of_step (met_by_client w (trace w past) c))
 by_client w past s e c =
     adds_none w past s e _ (free s (steps past) (clients.refusal (client_opening w) (of_client w (trace w past)) c)
     (OfClient (Happens (client.Met c (saved_for (clients.due (client_opening w) (of_client w (trace w past)) c))))) refl)
@@ -162,15 +162,15 @@ pub met : (s r : ℕ) (ps : List FrameStep) (x : Option Fault) (e y : Entry)
 met s r ps None e y h = let k = here r s (r == s) (eqb-true r s) (Some e) y h in (k.0, refl, same_entry e y k.1, refl)
 met s r ps (Some fault) e y h = absurd cc
 
-pub by_worker : (w : Setup) (past : List Change) (s r j : ℕ) → Adds w past s (Issue r j) (outcome_of_step (met_by_server (trace w past) r (events.Issue j)))
+pub by_worker : (w : Setup) (past : List Change) (s r j : ℕ) → Adds w past s (Issue r j) (outcome_of_step (met_by_server (trace w past) r (inputs.Issue j)))
 unfolding Adds
 by_worker w past s r j y h =
     let o = opening_of r in
     let list = of_server r (trace w past) in
-    let left = saved_for (due o list (events.Issue j)) in
-    let k = met s r (steps past) (refusal o list (events.Issue j)) (server.Met (events.Issue j) left) y h in
-    subst (λ n. Makes w past n (Issue r j) (outcome_of_step (met_by_server (trace w past) r (events.Issue j))) y) k.0
-    (ByWorker j left refl refl (sym k.2) (Met (OfServer r (Happens (server.Met (events.Issue j) left)))) k.3)
+    let left = saved_for (due o list (inputs.Issue j)) in
+    let k = met s r (steps past) (refusal o list (inputs.Issue j)) (server.Met (inputs.Issue j) left) y h in
+    subst (λ n. Makes w past n (Issue r j) (outcome_of_step (met_by_server (trace w past) r (inputs.Issue j))) y) k.0
+    (ByWorker j left refl refl (sym k.2) (Met (OfServer r (Happens (server.Met (inputs.Issue j) left)))) k.3)
 
 pub by_end : (w : Setup) (past : List Change) (s r j k : ℕ) (end : WriteEnd) (x : Option Origin) → open_at (trace w past) r j k ≡ x
     → Adds w past s (happening_of_end end r j k) (outcome_of_step (end_of_write (trace w past) r k end x))
@@ -179,7 +179,7 @@ by_end w past s r j k end None is y h = absurd cc
 by_end w past s r j k end (Some origin) is y h =
     let o = opening_of r in
     let list = of_server r (trace w past) in
-    let x = events.WriteDone (ticket_of origin k) end in
+    let x = inputs.WriteDone (ticket_of origin k) end in
     let left = saved_for (due o list x) in
     let m = met s r (steps past) (refusal o list x) (server.Met x left) y h in
     subst (λ n. Makes w past n (happening_of_end end r j k) (outcome_of_step (met_by_server (trace w past) r x)) y) m.0
@@ -192,7 +192,7 @@ by_report w past s r e c j None y h = absurd cc
 by_report w past s r e c j (Some report) y h =
     let o = opening_of r in
     let list = of_server r (trace w past) in
-    let x = events.CheckDone c.boot c.attempt j report in
+    let x = inputs.CheckDone c.boot c.attempt j report in
     let left = saved_for (due o list x) in
     let m = met s r (steps past) (refusal o list x) (server.Met x left) y h in
     subst (λ n. Makes w past n e (outcome_of_step (met_by_server (trace w past) r x)) y) m.0

@@ -18,8 +18,8 @@ use Rattle.messages.specs.Nodes.{is_client, is_server}
 use Rattle.messages.specs.declared.body.Body.{Body}
 use Rattle.messages.specs.declared.body.Body.TheVariants as bodies
 use Rattle.messages.specs.Hearing.{with_entry}
-use Rattle.server_core.specs.declared.event.Event.{Event}
-use Rattle.server_core.specs.declared.event.Event.TheVariants as inputs
+use Rattle.server_core.specs.Inputs.{PacketInput}
+use Rattle.server_core.specs.declared.input.Input.TheVariants as inputs
 use Rattle.server_core.specs.History.{Entry, Met, Cut, Restart}
 use Rattle.server_core.specs.Request.{ToIssue, ToNobody}
 use Rattle.server_core.specs.Request.{request_in, request_of}
@@ -76,7 +76,7 @@ no_issue_by true body j h = no_issue_in body j h
 no_issue_by false body j h = cc
 
 -- Only a worker asks for a write.
-pub asks_issue : (me j : ℕ) (x : Event) → request_of me x ≡ ToIssue j → x ≡ inputs.Issue j
+pub asks_issue : (me j : ℕ) (x : PacketInput) → request_of me x ≡ ToIssue j → x ≡ inputs.Issue j
 asks_issue me j (inputs.Deliver p) h = absurd (no_issue_by (is_client p.from && is_server me p.to) p.body j h)
 asks_issue me j (inputs.Issue i) h = cc
 asks_issue me j (inputs.WriteDone ticket end) h = absurd cc
@@ -88,7 +88,7 @@ pub issue_happens : (w : Setup) (past : List Change) (s : ℕ) (e : Happening) (
 issue_happens w past s e r j left (ByFrame i f p l event there to says free saved is does) = absurd cc
 issue_happens w past s e r j left (ByLoss x l is lost d due_is) =
     let same = same_event (inputs.Issue j) x left l is in
-    let none : None ≡ Some d = subst (λ (y : Event). due (opening_of s) (of_server s (trace w past)) y ≡ Some d) (sym same) due_is in
+    let none : None ≡ Some d = subst (λ (y : PacketInput). due (opening_of s) (of_server s (trace w past)) y ≡ Some d) (sym same) due_is in
     absurd cc
 issue_happens w past s e r j left (ByWorker i l event saved is c does) =
     let same : i ≡ j = cc in
@@ -198,7 +198,7 @@ new_is_seen s j k ticket a seq is =
     ap (λ b. if b then ticket_in k a else None) (and_from (s == s) (j == j) (eq-eqb s s refl) (eq-eqb j j refl))
     ∙ ap (ticket_in k) is ∙ ap (λ b. if b then Some ticket else None) (eq-eqb ticket.seq k seq)
 
-seen_new : (w : Setup) (s j k : ℕ) (events : List Happening) (e : Happening) (origin : Origin) (x : Event) (left : Left)
+seen_new : (w : Setup) (s j k : ℕ) (events : List Happening) (e : Happening) (origin : Origin) (x : PacketInput) (left : Left)
     → (f : Opened (work (opening_of s) (list_at w s events)) j origin) → entry_now w s events e ≡ Some (Met x left)
     → IsNew origin (is_halted f.at) (request_of s x) (history origin f.at.since) k
     → ticket_with s j k e (told_of_happening w (world w events) e) ≡ Some (ticket_of origin k)
@@ -207,7 +207,7 @@ seen_new w s j k events e origin x left f is new =
     let now = work (opening_of s) (list_at w s events) in
     let job : origin.key.job ≡ j = ap (λ (z : Origin). z.key.job) f.origin_is in
     let asks : x ≡ inputs.Issue j = asks_issue s j x (new.asks ∙ ap ToIssue job) in
-    let entry : entry_now w s events e ≡ Some (Met (inputs.Issue j) left) = is ∙ ap (λ (y : Event). Some (Met y left)) asks in
+    let entry : entry_now w s events e ≡ Some (Met (inputs.Issue j) left) = is ∙ ap (λ (y : PacketInput). Some (Met y left)) asks in
     let m = issue_happens w past s e (outcome w past e) j left (makes w past s e (Met (inputs.Issue j) left) entry) in
     let answer : worlds.answer w past e ≡ answers.Issued (Write (ticket_of origin k)) =
     ap (worlds.answer w past) m.0 ∙ ap answers.Issued (answered now j origin f ∙ new.gives) in

@@ -21,8 +21,8 @@ use Rattle.engine.specs.Running.{Origin}
 use Rattle.engine.specs.Answers.{ticket_of, answer_by, answer_to, ticket_answer}
 use Rattle.disk_model.specs.declared.left.Left.{Left}
 use Rattle.disk_model.specs.declared.left.Left.TheVariants.{NoSave, Saved, LostNew, LostOld}
-use Rattle.server_core.specs.declared.event.WriteEnd.{WriteEnd}
-use Rattle.server_core.specs.declared.event.WriteEnd.TheVariants as ends
+use Rattle.server_core.specs.declared.input.WriteEnd.{WriteEnd}
+use Rattle.server_core.specs.declared.input.WriteEnd.TheVariants as ends
 use Rattle.server_core.specs.Request.{Request, ToStage, ToStart, ToTrigger, ToMark, ToStop, ToVerify, ToHold, ToPassFully, ToIssue, ToEnd, ToReport, ToNobody}
 use Rattle.server_core.specs.Run.{Work, is_halted, origin_of, with_issue, with_end, with_ticket, with_request, history, goes_on}
 use Rattle.server_core.specs.OpenWrites.{open_origin_of, open_origin}

@@ -12,8 +12,8 @@ use Rattle.engine.specs.declared.issue.Ticket.{Ticket}
 use Rattle.engine.specs.Running.{Origin}
 use Rattle.engine.specs.Answers.{ticket_of}
 use Rattle.messages.specs.Hearing.{Comes, Happens}
-use Rattle.server_core.specs.declared.event.Event.TheVariants as inputs
-use Rattle.server_core.specs.declared.event.WriteEnd.TheVariants as ends
+use Rattle.server_core.specs.declared.input.Input.TheVariants as inputs
+use Rattle.server_core.specs.declared.input.WriteEnd.TheVariants as ends
 use Rattle.server_core.specs.History as server
 use Rattle.server_core.specs.History.{Entry}
 use Rattle.net_world.specs.Setup.{Setup}

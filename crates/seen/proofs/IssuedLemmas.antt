@@ -20,10 +20,10 @@ use Rattle.disk_model.specs.declared.left.Left.{Left}
 use Rattle.disk_model.specs.declared.left.Left.TheVariants.{NoSave, Saved, LostNew, LostOld}
 use Rattle.disk_model.specs.Left.{saved_for}
 use Rattle.messages.specs.Hearing.{Happens, with_entry}
-use Rattle.server_core.specs.declared.event.Event.{Event}
-use Rattle.server_core.specs.declared.event.Event.TheVariants as inputs
-use Rattle.server_core.specs.declared.event.WriteEnd.{WriteEnd}
-use Rattle.server_core.specs.declared.event.WriteEnd.TheVariants as ends
+use Rattle.server_core.specs.Inputs.{PacketInput}
+use Rattle.server_core.specs.declared.input.Input.TheVariants as inputs
+use Rattle.server_core.specs.declared.input.WriteEnd.{WriteEnd}
+use Rattle.server_core.specs.declared.input.WriteEnd.TheVariants as ends
 use Rattle.server_core.specs.History.{Entry, Met, Cut, Restart}
 use Rattle.server_core.specs.Request.{Request, ToStage, ToStart, ToTrigger, ToMark, ToStop, ToVerify, ToHold, ToPassFully, ToIssue, ToEnd, ToReport, ToNobody}
 use Rattle.server_core.specs.Request.{request_of}
@@ -134,7 +134,7 @@ record Gives (o : Observation) (s j k : ℕ) : Type 0 where
   pub number : ticket.seq ≡ k
 
 -- What isn't refused is heard.
-heard_if : (w : Setup) (s : ℕ) (events : List Happening) (e : Happening) (x : Event) (left : Left) (fault : Option Fault)
+heard_if : (w : Setup) (s : ℕ) (events : List Happening) (e : Happening) (x : PacketInput) (left : Left) (fault : Option Fault)
     → outcome w (world w events) e ≡ outcome_of_step (unless_fault fault (Ok (OfServer s (Happens (Met x left)))))
     → is_ok (told_by w (world w events) e (outcome_of_step (unless_fault fault (Ok (OfServer s (Happens (Met x left))))))) ≡ true
     → entry_now w s events e ≡ Some (Met x left)
@@ -169,12 +169,12 @@ meets w s events e j k g =
     )
 
 -- A request that the server answers with a write is seen to give it.
-gives : (w : Setup) (s j : ℕ) (events : List Happening) (e : Happening) (x : Event) (left : Left) (t : Ticket)
+gives : (w : Setup) (s j : ℕ) (events : List Happening) (e : Happening) (x : PacketInput) (left : Left) (t : Ticket)
     → entry_now w s events e ≡ Some (Met x left) → request_of s x ≡ ToIssue j → issue_of j (work (opening_of s) (list_at w s events)) ≡ Write t
     → Gives (observation w events e) s j t.seq
 gives w s j events e x left t is asks answer =
     let past = world w events in
-    let entry : entry_now w s events e ≡ Some (Met (inputs.Issue j) left) = is ∙ ap (λ (y : Event). Some (Met y left)) (asks_issue s j x asks) in
+    let entry : entry_now w s events e ≡ Some (Met (inputs.Issue j) left) = is ∙ ap (λ (y : PacketInput). Some (Met y left)) (asks_issue s j x asks) in
     let m = issue_happens w past s e (outcome w past e) j left (makes w past s e (Met (inputs.Issue j) left) entry) in
     let write : worlds.answer w past e ≡ answers.Issued (Write t) = ap (worlds.answer w past) m.0 ∙ ap answers.Issued answer in
     record { event = m.0; answer = _; told = ap (told_by w past e) m.2; ticket = t; write = write; number = refl }
@@ -236,7 +236,7 @@ next_given o among s j n a g =
 
 -- ---- event by event
 
-met_is_seen : (w : Setup) (s j : ℕ) (events : List Happening) (e : Happening) (among : List Observation) (x : Event) (left : Left) (at : Work) (job : Job)
+met_is_seen : (w : Setup) (s j : ℕ) (events : List Happening) (e : Happening) (among : List Observation) (x : PacketInput) (left : Left) (at : Work) (job : Job)
     → entry_now w s events e ≡ Some (Met x left) → work (opening_of s) (list_at w s events) ≡ Some at → slice_get at.jobs j ≡ Some job
     → AreGiven among s j (issued (history (origin_of at j job) at.since))
     → AreGiven (observation w events e ∷ among) s j (issued (history (origin_of at j job) (request_of s x ∷ at.since)))

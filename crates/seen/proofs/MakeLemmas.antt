@@ -12,15 +12,15 @@ use Rattle.messages.specs.declared.node.Node.{Node}
 use Rattle.messages.specs.declared.node.Node.TheVariants.{Server, Client, Mirror}
 use Rattle.messages.specs.declared.packet.PacketParts.{PacketParts}
 use Rattle.messages.specs.Hearing.{Comes, Happens, Meaning, Says, Waits, Spoils, Strays, heard_by, entry_of, heard}
-use Rattle.server_core.specs.declared.event.Event.TheVariants as events
-use Rattle.server_core.specs.declared.event.WriteEnd.TheVariants as ends
+use Rattle.server_core.specs.declared.input.Input.TheVariants as server_inputs
+use Rattle.server_core.specs.declared.input.WriteEnd.TheVariants as ends
 use Rattle.server_core.specs.History as server
 use Rattle.server_core.specs.History.{Entry}
 use Rattle.server_core.specs.Words.{Staged, due}
 use Rattle.server_core.specs.Answers.{refusal}
 use Rattle.server_core.specs.Check.{check}
-use Rattle.client_core.specs.declared.call.Call.{Call}
-use Rattle.client_core.specs.declared.call.Call.TheVariants as calls
+use Rattle.client_core.specs.Inputs.{PacketInput}
+use Rattle.client_core.specs.Inputs as client_inputs
 use Rattle.client_core.specs.History as client
 use Rattle.client_core.specs.Words as clients
 use Rattle.mirror_core.specs.History as mirror
@@ -52,13 +52,13 @@ heard_of s r ps f left m y is h =
 -- A frame that comes to a server and isn't refused.
 brought : (w : Setup) (past : List Change) (s r i : ℕ) (f : Frame) (p : PacketParts) (x : Option Fault) (left : Left)
     → slice_get (frames_sent w (steps past)) i ≡ Some f → to_of f ≡ Server r → said_to_server (steps past) r f ≡ Says p
-    → refusal (opening_of r) (of_server r (trace w past)) (events.Deliver p) ≡ x
-    → left ≡ saved_for (due (opening_of r) (of_server r (trace w past)) (events.Deliver p))
+    → refusal (opening_of r) (of_server r (trace w past)) (server_inputs.Deliver p) ≡ x
+    → left ≡ saved_for (due (opening_of r) (of_server r (trace w past)) (server_inputs.Deliver p))
     → Adds w past s (Deliver i) (outcome_of_step (unless_fault x (Ok (OfServer r (Comes f left)))))
 unfolding Adds
 brought w past s r i f p None left is to says ok saved y h =
     let k = heard_of s r (steps past) f left (Says p) y says h in
-    let e = same_entry (server.Met (events.Deliver p) left) y k.1 in
+    let e = same_entry (server.Met (server_inputs.Deliver p) left) y k.1 in
     subst (λ n. Makes w past n (Deliver i) (Does (Met (OfServer r (Comes f left)))) y) k.0
     (ByFrame i f p left refl is to says ok saved (sym e) refl)
 brought w past s r i f p (Some fault) left is to says ok saved y h = absurd cc
@@ -74,13 +74,13 @@ come_to_server : (w : Setup) (past : List Change) (s r i : ℕ) (f : Frame) (m :
     → to_of f ≡ Server r → said_to_server (steps past) r f ≡ m → Adds w past s (Deliver i) (comes_to_server (trace w past) r f m)
 unfolding Adds
 come_to_server w past s r i f (Says p) is to says =
-    brought w past s r i f p (refusal (opening_of r) (of_server r (trace w past)) (events.Deliver p)) _ is to says refl refl
+    brought w past s r i f p (refusal (opening_of r) (of_server r (trace w past)) (server_inputs.Deliver p)) _ is to says refl refl
 come_to_server w past s r i f Waits is to says = λ y h. absurd (waits w past s r (Deliver i) f Waits says refl y h)
 come_to_server w past s r i f Spoils is to says = λ y h. absurd (waits w past s r (Deliver i) f Spoils says refl y h)
 come_to_server w past s r i f Strays is to says = λ y h. absurd cc
 
 come_to_client : (w : Setup) (past : List Change) (s : ℕ) (f : Frame) (m : Meaning) → entry_by s (steps past) (step_in (comes_to_client w (trace w past) f m)) ≡ None
-come_to_client w past s f (Says p) = free s (steps past) (clients.refusal (client_opening w) (of_client w (trace w past)) (calls.Deliver p)) _ refl
+come_to_client w past s f (Says p) = free s (steps past) (clients.refusal (client_opening w) (of_client w (trace w past)) (client_inputs.Deliver p)) _ refl
 come_to_client w past s f Waits = refl
 come_to_client w past s f Spoils = refl
 come_to_client w past s f Strays = refl
@@ -103,27 +103,27 @@ lost true = refl
 lost false = refl
 
 cut_off : (w : Setup) (past : List Change) (s r : ℕ) (e : Happening) (f : Frame) (p : PacketParts) (landed : Bool) (x : Option Staged)
-    → said_to_server (steps past) r f ≡ Says p → due (opening_of r) (of_server r (trace w past)) (events.Deliver p) ≡ x
+    → said_to_server (steps past) r f ≡ Says p → due (opening_of r) (of_server r (trace w past)) (server_inputs.Deliver p) ≡ x
     → Adds w past s e (outcome_of_step (where_saved x (OfServer r (Comes f (lost_by landed)))))
 unfolding Adds
 cut_off w past s r e f p landed None says is y h = absurd cc
 cut_off w past s r e f p landed (Some d) says is y h =
     let k = heard_of s r (steps past) f (lost_by landed) (Says p) y says h in
-    let same = same_entry (server.Met (events.Deliver p) (lost_by landed)) y k.1 in
+    let same = same_entry (server.Met (server_inputs.Deliver p) (lost_by landed)) y k.1 in
     subst (λ n. Makes w past n e (Does (Met (OfServer r (Comes f (lost_by landed))))) y) k.0
-    (ByLoss (events.Deliver p) (lost_by landed) (sym same) (lost landed) d is)
+    (ByLoss (server_inputs.Deliver p) (lost_by landed) (sym same) (lost landed) d is)
 
 cut_at_server : (w : Setup) (past : List Change) (s r : ℕ) (e : Happening) (f : Frame) (landed : Bool) (m : Meaning) → said_to_server (steps past) r f ≡ m
     → Adds w past s e (outcome_of_step (server_frame_cut (trace w past) r landed f m))
 cut_at_server w past s r e f landed (Says p) says =
-    cut_off w past s r e f p landed (due (opening_of r) (of_server r (trace w past)) (events.Deliver p)) says refl
+    cut_off w past s r e f p landed (due (opening_of r) (of_server r (trace w past)) (server_inputs.Deliver p)) says refl
 cut_at_server w past s r e f landed Waits says = adds_none w past s e _ refl
 cut_at_server w past s r e f landed Spoils says = adds_none w past s e _ refl
 cut_at_server w past s r e f landed Strays says = adds_none w past s e _ refl
 
 cut_at_client : (w : Setup) (past : List Change) (s : ℕ) (f : Frame) (landed : Bool) (m : Meaning)
     → entry_by s (steps past) (step_in (outcome_of_step (client_frame_cut w (trace w past) landed f m))) ≡ None
-cut_at_client w past s f landed (Says p) = saves s (steps past) (clients.due (client_opening w) (of_client w (trace w past)) (calls.Deliver p)) _ refl
+cut_at_client w past s f landed (Says p) = saves s (steps past) (clients.due (client_opening w) (of_client w (trace w past)) (client_inputs.Deliver p)) _ refl
 cut_at_client w past s f landed Waits = refl
 cut_at_client w past s f landed Spoils = refl
 cut_at_client w past s f landed Strays = refl
@@ -140,7 +140,7 @@ delivery_cut : (w : Setup) (past : List Change) (s : ℕ) (e : Happening) (lande
 delivery_cut w past s e landed None = adds_none w past s e _ refl
 delivery_cut w past s e landed (Some f) = cut_at w past s e f landed (to_of f)
 
-client_cut : (w : Setup) (past : List Change) (s : ℕ) (e : Happening) (landed : Bool) (c : Call)
+client_cut : (w : Setup) (past : List Change) (s : ℕ) (e : Happening) (landed : Bool) (c : PacketInput)
     → Adds w past s e (outcome_of_step (client_cut_in w (trace w past) landed c))
 client_cut w past s e landed c =
     adds_none w past s e _ (saves s (steps past) (clients.due (client_opening w) (of_client w (trace w past)) c)
@@ -148,8 +148,8 @@ client_cut w past s e landed c =
 
 by_cut_in : (w : Setup) (past : List Change) (s : ℕ) (e : Happening) (landed : Bool) (inner : Happening)
     → Adds w past s e (outcome_of_step (cut_in w past landed inner))
-by_cut_in w past s e landed (Begin text) = client_cut w past s e landed (calls.Begin text)
-by_cut_in w past s e landed (Verify run text) = client_cut w past s e landed (calls.Verify run text)
+by_cut_in w past s e landed (Begin text) = client_cut w past s e landed (client_inputs.Begin text)
+by_cut_in w past s e landed (Verify run text) = client_cut w past s e landed (client_inputs.Verify run text)
 by_cut_in w past s e landed (Deliver i) = delivery_cut w past s e landed (slice_get (frames_sent w (steps past)) i)
 by_cut_in w past s e landed (Restart node) = by_restart_cut w past s e landed node
 by_cut_in w past s e landed (Renew g) = by_renewal w past s g e (lost_by landed) NoSave
@@ -169,11 +169,11 @@ by_cut_in w past s e landed (CutIn again f) = adds_none w past s e _ refl
 -- ---- all of it
 
 brings_so : (w : Setup) (past : List Change) (s : ℕ) (e : Happening) → Adds w past s e (brings w past e)
-brings_so w past s (Begin text) = by_client w past s (Begin text) (calls.Begin text)
-brings_so w past s (Trigger run act) = by_client w past s (Trigger run act) (calls.Trigger run act)
-brings_so w past s (StopRun run) = by_client w past s (StopRun run) (calls.Stop run)
-brings_so w past s (Verify run text) = by_client w past s (Verify run text) (calls.Verify run text)
-brings_so w past s Tick = by_client w past s Tick calls.Tick
+brings_so w past s (Begin text) = by_client w past s (Begin text) (client_inputs.Begin text)
+brings_so w past s (Trigger run act) = by_client w past s (Trigger run act) (client_inputs.Trigger run act)
+brings_so w past s (StopRun run) = by_client w past s (StopRun run) (client_inputs.Stop run)
+brings_so w past s (Verify run text) = by_client w past s (Verify run text) (client_inputs.Verify run text)
+brings_so w past s Tick = by_client w past s Tick client_inputs.Tick
 brings_so w past s (Deliver i) = delivered w past s i (slice_get (frames_sent w (steps past)) i) refl
 brings_so w past s (Issue r j) = by_worker w past s r j
 brings_so w past s (Land r j k mask) = adds_none w past s (Land r j k mask) _ refl

@@ -10,7 +10,7 @@ use Rattle.disk_model.specs.Left.{is_lost}
 use Rattle.messages.specs.declared.refusal.Act.{Act}
 use Rattle.messages.specs.declared.refusal.Act.TheVariants as acts
 use Rattle.messages.specs.Hearing.{Coming, entry_of, heard}
-use Rattle.server_core.specs.declared.event.Event.{Event}
+use Rattle.server_core.specs.Inputs.{PacketInput}
 use Rattle.server_core.specs.History as server
 use Rattle.server_core.specs.History.{Opening, Entry}
 use Rattle.server_core.specs.Request.{Request, ToStage, ToStart, ToTrigger, ToMark, ToStop, ToVerify, ToHold, ToPassFully, ToIssue, ToEnd, ToReport, ToNobody}
@@ -95,7 +95,7 @@ cut_is_mark (Some w) x h = (w, refl, completing w x (cut_if (completes w x) h))
 -- The entry with which a server asks for its cut.
 pub record AsksCut (w : Setup) (evs : List Happening) (e : Happening) : Type 0 where
   pub s : ℕ
-  pub x : Event
+  pub x : PacketInput
   pub left : Left
   pub heard_it : entry_now w s evs e ≡ Some (server.Met x left)
   pub asks : servers.act (opening_of s) (list_at w s evs) x ≡ acts.Cut

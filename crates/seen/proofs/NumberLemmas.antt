@@ -12,12 +12,12 @@ use Rattle.messages.specs.declared.frame.Frame.{Frame}
 use Rattle.messages.specs.declared.node.Node.{Node}
 use Rattle.messages.specs.declared.node.Node.TheVariants.{Server, Client, Mirror}
 use Rattle.messages.specs.Hearing.{Comes, Happens, Meaning, Says, Waits, Spoils, Strays}
-use Rattle.server_core.specs.declared.event.Event.TheVariants as inputs
-use Rattle.server_core.specs.declared.event.WriteEnd.TheVariants as ends
+use Rattle.server_core.specs.declared.input.Input.TheVariants as server_inputs
+use Rattle.server_core.specs.declared.input.WriteEnd.TheVariants as ends
 use Rattle.server_core.specs.History as server
 use Rattle.server_core.specs.Words as servers
-use Rattle.client_core.specs.declared.call.Call.{Call}
-use Rattle.client_core.specs.declared.call.Call.TheVariants as calls
+use Rattle.client_core.specs.Inputs.{PacketInput}
+use Rattle.client_core.specs.Inputs as client_inputs
 use Rattle.client_core.specs.Saves.{Addition, is_answer}
 use Rattle.client_core.specs.History.{Opening, Entry, Met, Renew}
 use Rattle.client_core.specs.Words.{words_noted, refusal, due, is_answered}
@@ -54,7 +54,7 @@ plain_unless true xs h = absurd cc
 plain_unless false xs h = tt
 
 -- A call whose save is lost isn't answered, so it gives no number.
-calm_loss : (w : Setup) (past : List Change) (landed : Bool) (c : Call) → IsCalm w past (outcome_of_step (client_cut_in w (trace w past) landed c))
+calm_loss : (w : Setup) (past : List Change) (landed : Bool) (c : PacketInput) → IsCalm w past (outcome_of_step (client_cut_in w (trace w past) landed c))
 calm_loss w past landed c =
     let o = client_opening w in
     let list = of_client w (trace w past) in
@@ -64,7 +64,7 @@ calm_loss w past landed c =
 calm_server_frame : (w : Setup) (past : List Change) (s : ℕ) (landed : Bool) (f : Frame) (m : Meaning)
     → IsCalm w past (outcome_of_step (server_frame_cut (trace w past) s landed f m))
 calm_server_frame w past s landed f (Says p) =
-    saves w past (servers.due (opening_of s) (of_server s (trace w past)) (inputs.Deliver p)) (OfServer s (Comes f (lost_by landed))) tt
+    saves w past (servers.due (opening_of s) (of_server s (trace w past)) (server_inputs.Deliver p)) (OfServer s (Comes f (lost_by landed))) tt
 calm_server_frame w past s landed f Waits = tt
 calm_server_frame w past s landed f Spoils = tt
 calm_server_frame w past s landed f Strays = tt
@@ -72,7 +72,7 @@ calm_server_frame w past s landed f Strays = tt
 calm_client_frame : (w : Setup) (past : List Change) (landed : Bool) (f : Frame) (m : Meaning)
     → IsCalm w past (outcome_of_step (client_frame_cut w (trace w past) landed f m))
 calm_client_frame w past landed f (Says p) =
-    saves w past (due (client_opening w) (of_client w (trace w past)) (calls.Deliver p)) (OfClient (Comes f (lost_by landed)))
+    saves w past (due (client_opening w) (of_client w (trace w past)) (client_inputs.Deliver p)) (OfClient (Comes f (lost_by landed)))
     (frame_calm w past f (lost_by landed))
 calm_client_frame w past landed f Waits = tt
 calm_client_frame w past landed f Spoils = tt
@@ -96,8 +96,8 @@ calm_restart_cut w past landed Client = tt
 calm_restart_cut w past landed Mirror = tt
 
 calm_cut_in : (w : Setup) (past : List Change) (landed : Bool) (inner : Happening) → IsCalm w past (outcome_of_step (cut_in w past landed inner))
-calm_cut_in w past landed (Begin text) = calm_loss w past landed (calls.Begin text)
-calm_cut_in w past landed (Verify run text) = calm_loss w past landed (calls.Verify run text)
+calm_cut_in w past landed (Begin text) = calm_loss w past landed (client_inputs.Begin text)
+calm_cut_in w past landed (Verify run text) = calm_loss w past landed (client_inputs.Verify run text)
 calm_cut_in w past landed (Deliver i) = calm_delivery_cut w past landed (slice_get (frames_sent w (steps past)) i)
 calm_cut_in w past landed (happenings.Restart node) = calm_restart_cut w past landed node
 calm_cut_in w past landed (happenings.Renew g) =
@@ -110,7 +110,7 @@ saved_answers : (x : Option Addition) → is_answer x (saved_for x) ≡ true
 saved_answers None = refl
 saved_answers (Some a) = refl
 
-answered_now : (o : Opening) (list : List Entry) (c : Call) → refusal o list c ≡ None → is_answered o list c (saved_for (due o list c)) ≡ true
+answered_now : (o : Opening) (list : List Entry) (c : PacketInput) → refusal o list c ≡ None → is_answered o list c (saved_for (due o list c)) ≡ true
 answered_now o list c h = ap (λ x. is_none x && is_answer (due o list c) (saved_for (due o list c))) h ∙ saved_answers (due o list c)
 
 all_when : (b : Bool) (xs : List Deed) → b ≡ true → (if b then xs else []) ≡ xs
@@ -118,7 +118,7 @@ all_when true xs h = refl
 all_when false xs h = absurd cc
 
 -- What an answered call does.
-call_does : (w : Setup) (past : List Change) (c : Call) → refusal (client_opening w) (of_client w (trace w past)) c ≡ None
+call_does : (w : Setup) (past : List Change) (c : PacketInput) → refusal (client_opening w) (of_client w (trace w past)) c ≡ None
     → deeds_by w past (Does (changes.Met (OfClient (Happens (Met c (saved_for (due (client_opening w) (of_client w (trace w past)) c)))))))
     ≡ deeds_of (words_noted (client_opening w) (of_client w (trace w past))) c
 call_does w past c h =
@@ -127,38 +127,38 @@ call_does w past c h =
     all_when (is_answered o list c (saved_for (due o list c))) (deeds_of (words_noted o list) c) (answered_now o list c h)
 
 begins_if : (w : Setup) (past : List Change) (text : List ℕ) (x : Option Fault)
-    → refusal (client_opening w) (of_client w (trace w past)) (calls.Begin text) ≡ x → (left : Left)
-    → left ≡ saved_for (due (client_opening w) (of_client w (trace w past)) (calls.Begin text))
-    → Shows w past (Begin text) (outcome_of_step (unless_fault x (Ok (OfClient (Happens (Met (calls.Begin text) left))))))
+    → refusal (client_opening w) (of_client w (trace w past)) (client_inputs.Begin text) ≡ x → (left : Left)
+    → left ≡ saved_for (due (client_opening w) (of_client w (trace w past)) (client_inputs.Begin text))
+    → Shows w past (Begin text) (outcome_of_step (unless_fault x (Ok (OfClient (Happens (Met (client_inputs.Begin text) left))))))
 begins_if w past text None is left saved =
     let o = client_opening w in
     let list = of_client w (trace w past) in
     ShowsRun ((words_noted o list).runs + 1) text (λ m. refl) (λ m. refl)
-    (ap (λ l. deeds_by w past (Does (changes.Met (OfClient (Happens (Met (calls.Begin text) l)))))) saved ∙ call_does w past (calls.Begin text) is)
+    (ap (λ l. deeds_by w past (Does (changes.Met (OfClient (Happens (Met (client_inputs.Begin text) l)))))) saved ∙ call_does w past (client_inputs.Begin text) is)
 begins_if w past text (Some fault) is left saved = ShowsNone (λ m. refl) (λ m. refl) tt
 
 verifies_if : (w : Setup) (past : List Change) (run : ℕ) (text : List ℕ) (x : Option Fault)
-    → refusal (client_opening w) (of_client w (trace w past)) (calls.Verify run text) ≡ x → (left : Left)
-    → left ≡ saved_for (due (client_opening w) (of_client w (trace w past)) (calls.Verify run text))
-    → Shows w past (Verify run text) (outcome_of_step (unless_fault x (Ok (OfClient (Happens (Met (calls.Verify run text) left))))))
+    → refusal (client_opening w) (of_client w (trace w past)) (client_inputs.Verify run text) ≡ x → (left : Left)
+    → left ≡ saved_for (due (client_opening w) (of_client w (trace w past)) (client_inputs.Verify run text))
+    → Shows w past (Verify run text) (outcome_of_step (unless_fault x (Ok (OfClient (Happens (Met (client_inputs.Verify run text) left))))))
 verifies_if w past run text None is left saved =
     let o = client_opening w in
     let list = of_client w (trace w past) in
     ShowsAttempt run ((words_noted o list).attempts + 1) text (λ m. refl) (λ m. refl)
-    (ap (λ l. deeds_by w past (Does (changes.Met (OfClient (Happens (Met (calls.Verify run text) l)))))) saved
-    ∙ call_does w past (calls.Verify run text) is)
+    (ap (λ l. deeds_by w past (Does (changes.Met (OfClient (Happens (Met (client_inputs.Verify run text) l)))))) saved
+    ∙ call_does w past (client_inputs.Verify run text) is)
 verifies_if w past run text (Some fault) is left saved = ShowsNone (λ m. refl) (λ m. refl) tt
 
 -- ---- all of it
 
 brings_so : (w : Setup) (past : List Change) (e : Happening) → Shows w past e (brings w past e)
-brings_so w past (Begin text) = begins_if w past text (refusal (client_opening w) (of_client w (trace w past)) (calls.Begin text)) refl _ refl
-brings_so w past (Verify run text) = verifies_if w past run text (refusal (client_opening w) (of_client w (trace w past)) (calls.Verify run text)) refl _ refl
-brings_so w past (Trigger run act) = ShowsNone (λ m. refl) (λ m. refl) (calm_call w past (calls.Trigger run act) (tt, tt))
-brings_so w past (StopRun run) = ShowsNone (λ m. refl) (λ m. refl) (calm_call w past (calls.Stop run) (tt, tt))
-brings_so w past Tick = ShowsNone (λ m. refl) (λ m. refl) (calm_call w past calls.Tick tt)
+brings_so w past (Begin text) = begins_if w past text (refusal (client_opening w) (of_client w (trace w past)) (client_inputs.Begin text)) refl _ refl
+brings_so w past (Verify run text) = verifies_if w past run text (refusal (client_opening w) (of_client w (trace w past)) (client_inputs.Verify run text)) refl _ refl
+brings_so w past (Trigger run act) = ShowsNone (λ m. refl) (λ m. refl) (calm_call w past (client_inputs.Trigger run act) (tt, tt))
+brings_so w past (StopRun run) = ShowsNone (λ m. refl) (λ m. refl) (calm_call w past (client_inputs.Stop run) (tt, tt))
+brings_so w past Tick = ShowsNone (λ m. refl) (λ m. refl) (calm_call w past client_inputs.Tick tt)
 brings_so w past (Deliver i) = ShowsNone (λ m. refl) (λ m. refl) (calm_delivery w past (slice_get (frames_sent w (steps past)) i))
-brings_so w past (Issue s j) = ShowsNone (λ m. refl) (λ m. refl) (calm_server w past s (inputs.Issue j))
+brings_so w past (Issue s j) = ShowsNone (λ m. refl) (λ m. refl) (calm_server w past s (server_inputs.Issue j))
 brings_so w past (Land s j k mask) = ShowsNone (λ m. refl) (λ m. refl) tt
 brings_so w past (Done s j k) = ShowsNone (λ m. refl) (λ m. refl) (calm_end w past s k ends.Done (open_at (trace w past) s j k))
 brings_so w past (Fail s j k) = ShowsNone (λ m. refl) (λ m. refl) (calm_end w past s k ends.Failed (open_at (trace w past) s j k))

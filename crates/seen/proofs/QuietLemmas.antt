@@ -16,8 +16,8 @@ use Rattle.messages.specs.declared.packet.PacketParts.{PacketParts}
 use Rattle.messages.specs.Laws.{LengthsAreBounded}
 use Rattle.messages.specs.Pieces.{is_cut}
 use Rattle.messages.specs.Hearing.{Coming, Comes as ComesFrame, heard_by, meaning, entry_of, heard, with_entry}
-use Rattle.server_core.specs.declared.event.Event.{Event}
-use Rattle.server_core.specs.declared.event.Event.TheVariants as inputs
+use Rattle.server_core.specs.Inputs.{PacketInput}
+use Rattle.server_core.specs.declared.input.Input.TheVariants as inputs
 use Rattle.server_core.specs.History.{Entry, Met, Cut, Restart}
 use Rattle.server_core.specs.Request.{request_of}
 use Rattle.server_core.specs.Words.{last_run, work, due}
@@ -65,13 +65,13 @@ pub record TakingLaws : Type 0 where
 -- ---- what an entry sends
 
 -- A packet of an entry that arrived is seen.
-pub seen_sent : FrameLaws → (w : Setup) (s : ℕ) (evs : List Happening) (e : Happening) (x : Event) (left : Left) (p : PacketParts) → w.servers ≤ MAX_SERVERS
+pub seen_sent : FrameLaws → (w : Setup) (s : ℕ) (evs : List Happening) (e : Happening) (x : PacketInput) (left : Left) (p : PacketParts) → w.servers ≤ MAX_SERVERS
     → Arrives w s evs e x left → Contains (packets (opening_of s) (list_at w s evs) (Met x left)) p
     → is_cut p.body ≡ false → IsAmong (observation w evs e).frames p
 seen_sent laws w s evs e x left p few a h short =
     let hears : heard_by (at_server s) left (meaning (at_server s) (heard (at_server s) (frames.of_server s (steps (world w evs)))) a.frame)
     ≡ Some (Met x left) =
-    ap (heard_by (at_server s) left) a.says ∙ ap (λ (y : Event). Some (Met y left)) (sym a.is) in
+    ap (heard_by (at_server s) left) a.says ∙ ap (λ (y : PacketInput). Some (Met y left)) (sym a.is) in
     seen_here laws w s evs e (ComesFrame a.frame left) (Met x left) p few a.does hears short h
 
 -- A packet of an entry that arrived was sent.
@@ -87,9 +87,9 @@ sent_in w s evs e c y p does hears h =
     subst (λ l. Contains (sent_packets w l) p) (sym (is ∙ ap (λ z. with_entry (option_map (AtServer s) z) t) hears))
     (Contains-append_right (sent_packets w t) (packets (opening_of s) (list_at w s evs) y) p h)
 
-pub hears_it : (w : Setup) (s : ℕ) (evs : List Happening) (e : Happening) (x : Event) (left : Left) → (a : Arrives w s evs e x left)
+pub hears_it : (w : Setup) (s : ℕ) (evs : List Happening) (e : Happening) (x : PacketInput) (left : Left) → (a : Arrives w s evs e x left)
     → entry_of (at_server s) (heard (at_server s) (frames.of_server s (steps (world w evs)))) (ComesFrame a.frame left) ≡ Some (Met x left)
-hears_it w s evs e x left a = ap (heard_by (at_server s) left) a.says ∙ ap (λ (y : Event). Some (Met y left)) (sym a.is)
+hears_it w s evs e x left a = ap (heard_by (at_server s) left) a.says ∙ ap (λ (y : PacketInput). Some (Met y left)) (sym a.is)
 
 -- A packet that a server sends is never cut: only job files are long enough, and it sends none.
 pub short_packet : TakingLaws → (w : Setup) (s : ℕ) (evs : List Happening) (e : Happening) (c : Coming Entry Left) (y : Entry) (p : PacketParts)
@@ -113,12 +113,12 @@ not_jobs jobs state (OfVerify run attempt text k) = cc
 
 -- ---- what is said of runs
 
-saved_so : (w : Setup) (s : ℕ) (evs : List Happening) (x y : Event) (left l : Left) → Met x left ≡ Met y l
+saved_so : (w : Setup) (s : ℕ) (evs : List Happening) (x y : PacketInput) (left l : Left) → Met x left ≡ Met y l
     → l ≡ saved_for (due (opening_of s) (list_at w s evs) y) → left ≡ saved_for (due (opening_of s) (list_at w s evs) x)
 saved_so w s evs x y left l is saved =
     same_left x y left l is ∙ saved ∙ ap (λ z. saved_for (due (opening_of s) (list_at w s evs) z)) (sym (same_event x y left l is))
 
-saved_or_lost : (w : Setup) (s : ℕ) (evs : List Happening) (e : Happening) (r : Outcome) (x : Event) (left : Left) → Makes w (world w evs) s e r (Met x left)
+saved_or_lost : (w : Setup) (s : ℕ) (evs : List Happening) (e : Happening) (r : Outcome) (x : PacketInput) (left : Left) → Makes w (world w evs) s e r (Met x left)
     → (is_lost left ≡ true) ⊎ (left ≡ saved_for (due (opening_of s) (list_at w s evs) x))
 saved_or_lost w s evs e r x left (ByFrame i f p l event there to says free saved is does) = inr (saved_so w s evs x (inputs.Deliver p) left l is saved)
 saved_or_lost w s evs e r x left (ByLoss y l is lost d due_is) = inl (ap is_lost (same_left x y left l is) ∙ lost)
@@ -179,7 +179,7 @@ write_of (Some a) ticket h = let same : a ≡ Write ticket = cc in ap (λ y. giv
 -- Where a state was taken of a run, with this event behind these.
 pub record TakenAt (w : Setup) (s run : ℕ) (base : List Happening) : Type 0 where
   pub older : List Entry
-  pub trigger : Event
+  pub trigger : PacketInput
   pub was : Left
   pub list : list_at w s base ≡ Met trigger was ∷ older
   pub job : ℕ

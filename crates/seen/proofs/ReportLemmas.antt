@@ -14,7 +14,7 @@ use Rattle.disk_model.specs.Left.{is_lost, saved_for}
 use Rattle.messages.specs.declared.packet.PacketParts.{PacketParts}
 use Rattle.messages.specs.declared.body.Body.TheVariants as bodies
 use Rattle.messages.specs.Hearing.{Happens}
-use Rattle.server_core.specs.declared.event.Event.TheVariants as inputs
+use Rattle.server_core.specs.declared.input.Input.TheVariants as inputs
 use Rattle.server_core.specs.History as server
 use Rattle.server_core.specs.History.{Entry}
 use Rattle.server_core.specs.Request.{ToVerify, ToHold, ToPassFully}

@@ -7,7 +7,7 @@ use Rattle.messages.specs.Nodes.{is_client, is_server}
 use Rattle.messages.specs.declared.body.Body.{Body}
 use Rattle.messages.specs.declared.body.Body.TheVariants as bodies
 use Rattle.messages.specs.declared.packet.PacketParts.{PacketParts}
-use Rattle.server_core.specs.declared.event.Event.TheVariants as events
+use Rattle.server_core.specs.declared.input.Input.TheVariants as inputs
 use Rattle.server_core.specs.Request.{ToStage, ToMark, ToVerify, ToHold, ToPassFully, ToNobody, request_in, request_of}
 use Rattle.net_world.proofs.TraceLemmas.{same_packet}
 use Rattle.seen.specs.Sightings.{to_server}
@@ -123,20 +123,20 @@ none_in_body (bodies.CopyOk q server job) c j h = absurd cc
 none_in_body (bodies.Fetch g) c j h = absurd cc
 none_in_body (bodies.Granted g) c j h = absurd cc
 
-pub asks_jobs : (me r : ℕ) (text : List ℕ) (p : PacketParts) → request_of me (events.Deliver p) ≡ ToStage r text → p ≡ to_server me (bodies.Jobs r text)
+pub asks_jobs : (me r : ℕ) (text : List ℕ) (p : PacketParts) → request_of me (inputs.Deliver p) ≡ ToStage r text → p ≡ to_server me (bodies.Jobs r text)
 asks_jobs me r text p h =
     packet_is me p (is_client p.from && is_server me p.to) (bodies.Jobs r text) (ToStage r text) refl h (λ e. cc) (jobs_in_body p.body r text)
 
-pub asks_verify : (me r a : ℕ) (text : List ℕ) (p : PacketParts) → request_of me (events.Deliver p) ≡ ToVerify r a text
+pub asks_verify : (me r a : ℕ) (text : List ℕ) (p : PacketParts) → request_of me (inputs.Deliver p) ≡ ToVerify r a text
     → p ≡ to_server me (bodies.Verify r a text)
 asks_verify me r a text p h =
     packet_is me p (is_client p.from && is_server me p.to) (bodies.Verify r a text) (ToVerify r a text) refl h (λ e. cc) (verify_in_body p.body r a text)
 
-pub asks_hold : (me a : ℕ) (state : State) (p : PacketParts) → request_of me (events.Deliver p) ≡ ToHold a state → p ≡ to_server me (bodies.Saved a state)
+pub asks_hold : (me a : ℕ) (state : State) (p : PacketParts) → request_of me (inputs.Deliver p) ≡ ToHold a state → p ≡ to_server me (bodies.Saved a state)
 asks_hold me a state p h =
     packet_is me p (is_client p.from && is_server me p.to) (bodies.Saved a state) (ToHold a state) refl h (λ e. cc) (saved_in_body p.body a state)
 
-pub asks_mark : (me r j : ℕ) (p : PacketParts) → request_of me (events.Deliver p) ≡ ToMark r j → p ≡ to_server me (bodies.StateAck r j)
+pub asks_mark : (me r j : ℕ) (p : PacketParts) → request_of me (inputs.Deliver p) ≡ ToMark r j → p ≡ to_server me (bodies.StateAck r j)
 asks_mark me r j p h =
     packet_is me p (is_client p.from && is_server me p.to) (bodies.StateAck r j) (ToMark r j) refl h (λ e. cc) (ack_in_body p.body r j)
 
@@ -148,5 +148,5 @@ asked_if me a j p true e h =
     (b.0, same_packet p (to_server me (bodies.NoSaved b.0 a j)) (client_is p.from ends.0) (server_is me p.to ends.1) b.1)
 asked_if me a j p false e h = absurd cc
 
-pub asks_full : (me a j : ℕ) (p : PacketParts) → request_of me (events.Deliver p) ≡ ToPassFully a j → (r : ℕ) × (p ≡ to_server me (bodies.NoSaved r a j))
+pub asks_full : (me a j : ℕ) (p : PacketParts) → request_of me (inputs.Deliver p) ≡ ToPassFully a j → (r : ℕ) × (p ≡ to_server me (bodies.NoSaved r a j))
 asks_full me a j p h = asked_if me a j p (is_client p.from && is_server me p.to) refl h

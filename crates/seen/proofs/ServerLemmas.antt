@@ -16,8 +16,8 @@ use Rattle.messages.specs.declared.packet.PacketParts.{PacketParts}
 use Rattle.messages.specs.declared.refusal.Act.{Act}
 use Rattle.disk_model.specs.declared.left.Left.{Left}
 use Rattle.disk_model.specs.Left.{is_lost}
-use Rattle.server_core.specs.declared.event.Event.{Event}
-use Rattle.server_core.specs.declared.event.Event.TheVariants as events
+use Rattle.server_core.specs.Inputs.{PacketInput}
+use Rattle.server_core.specs.declared.input.Input.TheVariants as inputs
 use Rattle.server_core.specs.History.{Opening, Entry, Met}
 use Rattle.server_core.specs.Request.{Request, ToStage, ToStart, ToTrigger, ToMark, ToStop, ToVerify, ToHold, ToPassFully, ToIssue, ToEnd, ToReport, ToNobody, request_in, request_of}
 use Rattle.server_core.specs.Run.{Work, Halt, halt_of, origin_of, is_open}
@@ -118,17 +118,17 @@ packet_is me p true b x e h some f =
     same_packet p (to_server me b) (client_is p.from ends.0) (server_is me p.to ends.1) (f h)
 packet_is me p false b x e h some f = absurd (some (sym h))
 
-pub asks_start : (me r : ℕ) (p : PacketParts) → request_of me (events.Deliver p) ≡ ToStart r → p ≡ to_server me (bodies.Start r)
+pub asks_start : (me r : ℕ) (p : PacketParts) → request_of me (inputs.Deliver p) ≡ ToStart r → p ≡ to_server me (bodies.Start r)
 asks_start me r p h = packet_is me p (is_client p.from && is_server me p.to) (bodies.Start r) (ToStart r) refl h (λ e. cc) (start_in p.body r)
 
-pub asks_trigger : (me r : ℕ) (act : Act) (p : PacketParts) → request_of me (events.Deliver p) ≡ ToTrigger r act → p ≡ to_server me (bodies.Trigger r act)
+pub asks_trigger : (me r : ℕ) (act : Act) (p : PacketParts) → request_of me (inputs.Deliver p) ≡ ToTrigger r act → p ≡ to_server me (bodies.Trigger r act)
 asks_trigger me r act p h =
     packet_is me p (is_client p.from && is_server me p.to) (bodies.Trigger r act) (ToTrigger r act) refl h (λ e. cc) (trigger_in p.body r act)
 
 -- ---- what is sent
 
 -- What is replied to an event that isn't refused, and whose save hasn't failed, is sent.
-pub sends : (o : Opening) (past : List Entry) (e : Event) (left : Left) (b : Body) → refusal o past e ≡ None → is_lost left ≡ false
+pub sends : (o : Opening) (past : List Entry) (e : PacketInput) (left : Left) (b : Body) → refusal o past e ≡ None → is_lost left ≡ false
     → Contains (replies (now o past) (request_of o.me e)) b → Contains (packets o past (Met e left)) (from_server o.me b)
 sends o past e left b free kept h =
     let all = replies (now o past) (request_of o.me e) in
@@ -145,7 +145,7 @@ sent_reply me true (Some fault) all p h = absurd (none_in p h)
 sent_reply me false (Some fault) all p h = absurd (none_in p h)
 
 -- What an event sends is replied to it, which isn't refused, and whose save hasn't failed.
-pub was_replied : (o : Opening) (past : List Entry) (e : Event) (left : Left) (p : PacketParts) → Contains (packets o past (Met e left)) p
+pub was_replied : (o : Opening) (past : List Entry) (e : PacketInput) (left : Left) (p : PacketParts) → Contains (packets o past (Met e left)) p
     → (is_lost left ≡ false) × (refusal o past e ≡ None) × Contains (replies (now o past) (request_of o.me e)) p.body
 was_replied o past e left p h = sent_reply o.me (is_lost left) (refusal o past e) (replies (now o past) (request_of o.me e)) p h
 
@@ -161,7 +161,7 @@ start_replies n s None above staged none =
     rw (old, found, none) (first_of (bodies.Started s.run) [])
 
 -- A Start that is due is answered by Started.
-pub due_is_answered : DueIsStart → (o : Opening) (past : List Entry) (e : Event) (s : Staged) → due o past e ≡ Some s
+pub due_is_answered : DueIsStart → (o : Opening) (past : List Entry) (e : PacketInput) (s : Staged) → due o past e ≡ Some s
     → Contains (replies (now o past) (request_of o.me e)) (bodies.Started s.run)
 due_is_answered law o past e s h =
     let k = law o past e s h in
@@ -251,7 +251,7 @@ from_0 : (j : ℕ) → 0 + j ≡ j
 from_0 j = omega arith
 
 -- A taking is answered by the state.
-pub taking_is_answered : (o : Opening) (past : List Entry) (e : Event) (run j : ℕ) (state : State) → takes run j (request_of o.me e) (work o past) ≡ Some state
+pub taking_is_answered : (o : Opening) (past : List Entry) (e : PacketInput) (run j : ℕ) (state : State) → takes run j (request_of o.me e) (work o past) ≡ Some state
     → (jobs : ℕ) × Contains (replies (now o past) (request_of o.me e)) (bodies.State jobs state)
 taking_is_answered o past e run j state h =
     let k = taking_is_of run j (request_of o.me e) (work o past) state h in

@@ -9,7 +9,7 @@ use Rattle.verify_state.specs.State.{State}
 use Rattle.window.specs.History.{issued}
 use Rattle.engine.specs.Running.{Origin}
 use Rattle.disk_model.specs.declared.left.Left.TheVariants.{Saved}
-use Rattle.server_core.specs.declared.event.Event.{Event}
+use Rattle.server_core.specs.Inputs.{PacketInput}
 use Rattle.server_core.specs.History.{Opening, Entry, Met}
 use Rattle.server_core.specs.Request.{Request, request_of}
 use Rattle.server_core.specs.Run.{Work, origin_of, history}
@@ -64,7 +64,7 @@ unfolding job_state
 state_issued origin before state h = ap (λ (x : State). x.issued) h
 
 -- A run begins with no write.
-begun : (o : Opening) (list : List Entry) (start : Event) (staged : Staged) → due o list start ≡ Some staged
+begun : (o : Opening) (list : List Entry) (start : PacketInput) (staged : Staged) → due o list start ≡ Some staged
     → (u : Work) × (work o (Met start Saved ∷ list) ≡ Some u) × (u.since ≡ [])
 begun o list start staged h = (
   record { server = o.me; boot = boot o list; run = staged.run; jobs = staged.jobs; since = [] },
@@ -74,7 +74,7 @@ begun o list start staged h = (
 
 -- Exactly the writes that a state tells as issued are seen to be given since the Start of its run.
 pub issued_are_given : IssuedLaws → (w : Setup) (mid : List Happening) (f : Happening) (earlier : List Happening) (state : State) (x : Request)
-    (start : Event) (staged : Staged) → entry_now w state.key.server earlier f ≡ Some (Met start Saved)
+    (start : PacketInput) (staged : Staged) → entry_now w state.key.server earlier f ≡ Some (Met start Saved)
     → due (opening_of state.key.server) (list_at w state.key.server earlier) start ≡ Some staged
     → last_run (opening_of state.key.server) (list_at w state.key.server (f ∷ earlier)) ≡ state.key.run
     → last_run (opening_of state.key.server) (list_at w state.key.server (mid ++ f ∷ earlier)) ≡ state.key.run

@@ -11,7 +11,7 @@ use Rattle.disk_model.specs.declared.left.Left.TheVariants.{Saved}
 use Rattle.messages.specs.declared.body.Body.TheVariants as bodies
 use Rattle.messages.specs.declared.refusal.Act.{Act}
 use Rattle.messages.specs.Hearing.{Comes as ComesFrame}
-use Rattle.server_core.specs.declared.event.Event.{Event}
+use Rattle.server_core.specs.Inputs.{PacketInput}
 use Rattle.server_core.specs.History.{Opening, Entry, Met}
 use Rattle.server_core.specs.Request.{ToStart, ToTrigger, request_of}
 use Rattle.server_core.specs.Words.{Staged, last_run, last_run_after, due_by, is_on, staged_run, work, due}
@@ -41,13 +41,13 @@ use Rattle.seen.proofs.SettingLemmas.{is_set, issued_are_given}
 -- What is known of a taking: the events of its Start and of its Trigger, and what came with them.
 record Places (w : Setup) (later : List Happening) (e : Happening) (mid : List Happening) (f : Happening) (earlier : List Happening) (state : State)
     : Type 0 where
-  pub trigger : Event
+  pub trigger : PacketInput
   pub was : Left
   pub triggered : entry_now w state.key.server (mid ++ f ∷ earlier) e ≡ Some (Met trigger was)
   pub pulls :
       takes state.key.run state.key.job (request_of state.key.server trigger) (work (opening_of state.key.server) (list_at w state.key.server (mid ++ f ∷ earlier)))
       ≡ Some state
-  pub start : Event
+  pub start : PacketInput
   pub started : entry_now w state.key.server earlier f ≡ Some (Met start Saved)
   pub staged : Staged
   pub accepted : due (opening_of state.key.server) (list_at w state.key.server earlier) start ≡ Some staged
@@ -67,7 +67,7 @@ record Starts (w : Setup) (s run : ℕ) (f : Happening) (earlier : List Happenin
   pub first : IsAmong (frames_in (observations w earlier)) (from_server s (bodies.Started run)) → ⊥
   pub last : last_run (opening_of s) (list_at w s (f ∷ earlier)) ≡ run
 
-starts_so : TakingLaws → (w : Setup) (s run : ℕ) (f : Happening) (earlier : List Happening) (start : Event) (staged : Staged) → w.servers ≤ MAX_SERVERS
+starts_so : TakingLaws → (w : Setup) (s run : ℕ) (f : Happening) (earlier : List Happening) (start : PacketInput) (staged : Staged) → w.servers ≤ MAX_SERVERS
     → entry_now w s earlier f ≡ Some (Met start Saved) → due (opening_of s) (list_at w s earlier) start ≡ Some staged → staged.run ≡ run
     → Starts w s run f earlier
 starts_so laws w s run f earlier start staged few is accepted run_is =
@@ -92,7 +92,7 @@ two_are_too_many : (x y : State) → length (x ∷ y ∷ []) ≤ 1 → ⊥
 two_are_too_many x y h = absurd (omega (arith, h))
 
 -- Nothing of the key was seen before it was taken.
-none_before : TakingLaws → (w : Setup) (evs : List Happening) (trigger : Event) (was : Left) (state other : State) → w.servers ≤ MAX_SERVERS
+none_before : TakingLaws → (w : Setup) (evs : List Happening) (trigger : PacketInput) (was : Left) (state other : State) → w.servers ≤ MAX_SERVERS
     → takes state.key.run state.key.job (request_of state.key.server trigger) (work (opening_of state.key.server) (list_at w state.key.server evs)) ≡ Some state
     → other.key ≡ state.key → IsSeen (observations w evs) other → ⊥
 none_before laws w evs trigger was state other few pulls same seen =
@@ -112,12 +112,12 @@ record Triggers (w : Setup) (e : Happening) (evs : List Happening) (state : Stat
   pub says : IsAmong (observation w evs e).frames (from_server state.key.server (bodies.State jobs state))
   pub last : last_run (opening_of state.key.server) (list_at w state.key.server evs) ≡ state.key.run
 
-no_start_due : (o : Opening) (list : List Entry) (x : Event) (run : ℕ) (act : Act) (d : Staged) → request_of o.me x ≡ ToTrigger run act → due o list x ≡ Some d → ⊥
+no_start_due : (o : Opening) (list : List Entry) (x : PacketInput) (run : ℕ) (act : Act) (d : Staged) → request_of o.me x ≡ ToTrigger run act → due o list x ≡ Some d → ⊥
 no_start_due o list x run act d asks h =
     let no : None ≡ Some d = sym (ap (due_by (is_on list) (last_run o list) (staged_run o list) (work o list)) asks) ∙ h in
     absurd cc
 
-triggers_so : TakingLaws → (w : Setup) (e : Happening) (evs : List Happening) (state : State) (trigger : Event) (was : Left) → w.servers ≤ MAX_SERVERS
+triggers_so : TakingLaws → (w : Setup) (e : Happening) (evs : List Happening) (state : State) (trigger : PacketInput) (was : Left) → w.servers ≤ MAX_SERVERS
     → entry_now w state.key.server evs e ≡ Some (Met trigger was)
     → takes state.key.run state.key.job (request_of state.key.server trigger) (work (opening_of state.key.server) (list_at w state.key.server evs)) ≡ Some state
     → Triggers w e evs state

@@ -8,7 +8,7 @@ use Rattle.std.proofs.lemmas.List.Folds.{list_any-append, list_all-append}
 use Rattle.std.proofs.lemmas.List.Elements.{Contains-append_right}
 use Rattle.fc_base.specs.Counted.{has, numbers_below}
 use Rattle.messages.specs.declared.refusal.Act.TheVariants as acts
-use Rattle.server_core.specs.declared.event.Event.{Event}
+use Rattle.server_core.specs.Inputs.{PacketInput}
 use Rattle.server_core.specs.History.{Opening, Entry}
 use Rattle.server_core.specs.Request.{Request, ToStage, ToStart, ToTrigger, ToMark, ToStop, ToVerify}
 use Rattle.server_core.specs.Request.{ToHold, ToPassFully, ToIssue, ToEnd, ToReport, ToNobody, request_of}
@@ -76,7 +76,7 @@ cut_if : (t : Bool) → (if t then acts.Cut else acts.None) ≡ acts.Cut → t �
 cut_if true h = refl
 cut_if false h = cc
 
-cut_at : (o : Opening) (past : List Entry) (e : Event) (x : Option Work) → work o past ≡ x → WorkHeard o.me (heard_packets past) x
+cut_at : (o : Opening) (past : List Entry) (e : PacketInput) (x : Option Work) → work o past ≡ x → WorkHeard o.me (heard_packets past) x
     → act_of x (request_of o.me e) ≡ acts.Cut → AreStatesKept o past e
 cut_at o past e None is k h = cc
 cut_at o past e (Some w) is k h =
@@ -90,5 +90,5 @@ cut_at o past e (Some w) is k h =
           (marked_asked w.run (x ∷ w.since) j (all_below (has (marks w.run (x ∷ w.since))) (length w.jobs) c.1 j l));
     }
 
-pub cuts_when_kept : (o : Opening) (past : List Entry) (e : Event) → act o past e ≡ acts.Cut → AreStatesKept o past e
+pub cuts_when_kept : (o : Opening) (past : List Entry) (e : PacketInput) → act o past e ≡ acts.Cut → AreStatesKept o past e
 cuts_when_kept o past e h = cut_at o past e (work o past) refl (work_heard o past) h

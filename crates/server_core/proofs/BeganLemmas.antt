@@ -4,7 +4,7 @@ use Rattle.std.specs.Prelude.{is_some, slice_get}
 use Rattle.job_file.specs.declared.job.Job.{Job}
 use Rattle.window.specs.History as window
 use Rattle.engine.specs.Running.{Origin}
-use Rattle.server_core.specs.declared.event.Event.{Event}
+use Rattle.server_core.specs.Inputs.{PacketInput}
 use Rattle.disk_model.specs.declared.left.Left.{Left}
 use Rattle.disk_model.specs.declared.left.Left.TheVariants.{NoSave, Saved, LostNew, LostOld}
 use Rattle.server_core.specs.History.{Opening, Entry, Met, Cut, Restart}
@@ -70,7 +70,7 @@ done_back o before (Restart left ∷ between) w j job k s f d = absurd s
 -- Where the present run began.
 pub record Began (o : Opening) (past : List Entry) (w : Work) : Type 0 where
   pub between : List Entry
-  pub start : Event
+  pub start : PacketInput
   pub older : List Entry
   pub started : Staged
   pub split : past ≡ between ++ Met start Saved ∷ older
@@ -81,7 +81,7 @@ pub record Began (o : Opening) (past : List Entry) (w : Work) : Type 0 where
 same_work : (x y : Work) → Some x ≡ Some y → x ≡ y
 same_work x y h = cc
 
-went_on : (o : Opening) (past : List Entry) (e : Event) (left : Left) (x : Option Work) (w : Work) → ((v : Work) → x ≡ Some v → Began o past v)
+went_on : (o : Opening) (past : List Entry) (e : PacketInput) (left : Left) (x : Option Work) (w : Work) → ((v : Work) → x ≡ Some v → Began o past v)
     → work o (Met e left ∷ past) ≡ Some w → goes_on (request_of o.me e) x ≡ Some w → Began o (Met e left ∷ past) w
 went_on o past e left None w f all h = cc
 went_on o past e left (Some v) w f all h =
@@ -98,7 +98,7 @@ went_on o past e left (Some v) w f all h =
       since = (v, b.since, here, subst (λ l. work o (Met e left ∷ l) ≡ Some w) b.split all);
     }
 
-began_now : (o : Opening) (past : List Entry) (e : Event) (s : Staged) (w : Work) → due o past e ≡ Some s → work o (Met e Saved ∷ past) ≡ Some w
+began_now : (o : Opening) (past : List Entry) (e : PacketInput) (s : Staged) (w : Work) → due o past e ≡ Some s → work o (Met e Saved ∷ past) ≡ Some w
     → ◌≡◌ {A = Option Work} (Some (record { server = o.me; boot = boot o past; run = s.run; jobs = s.jobs; since = [] })) (Some w)
     → Began o (Met e Saved ∷ past) w
 began_now o past e s w is all h =
@@ -114,7 +114,7 @@ began_now o past e s w is all h =
       since = (all, sym (ap (λ (x : Work). x.since) here));
     }
 
-began_at : (o : Opening) (past : List Entry) (e : Event) (left : Left) (d : Option Staged) (w : Work) → due o past e ≡ d
+began_at : (o : Opening) (past : List Entry) (e : PacketInput) (left : Left) (d : Option Staged) (w : Work) → due o past e ≡ d
     → ((v : Work) → work o past ≡ Some v → Began o past v)
     → work o (Met e left ∷ past) ≡ Some w → work_after left d o.me (boot o past) (request_of o.me e) (work o past) ≡ Some w → Began o (Met e left ∷ past) w
 began_at o past e NoSave d w is f all h = went_on o past e NoSave (work o past) w f all h

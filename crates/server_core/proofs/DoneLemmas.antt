@@ -1,4 +1,4 @@
--- What one event adds to the history of a job was accepted.
+-- What one input adds to the history of a job was accepted.
 use Rattle.std.proofs.Common.{◌≡◌, refl, sym, ◌∙◌, ap, subst, ◌⊎◌, inl, inr, ℕ, Bool, true, false, ◌&&◌, ◌==◌, List, [], ◌∷◌, ◌++◌, Option, None, Some}
 use Rattle.std.specs.Prelude.{nat_lt, if◌then◌else◌, not, ◌||◌, slice_get, Result, Ok, Err}
 use Rattle.std.specs.List.{list_any}
@@ -19,10 +19,10 @@ use Rattle.fc_base.specs.Keys.{is_same_key}
 use Rattle.engine.specs.Answers.{answer_to, ticket_answer, names_one_of}
 use Rattle.messages.specs.declared.body.Body.{Body}
 use Rattle.messages.specs.declared.body.Body.TheVariants as bodies
-use Rattle.server_core.specs.declared.event.Event.{Event}
-use Rattle.server_core.specs.declared.event.Event.TheVariants.{Deliver, Issue, WriteDone, CheckDone}
-use Rattle.server_core.specs.declared.event.WriteEnd.{WriteEnd}
-use Rattle.server_core.specs.declared.event.WriteEnd.TheVariants.{Done, Failed}
+use Rattle.server_core.specs.Inputs.{PacketInput}
+use Rattle.server_core.specs.declared.input.Input.TheVariants.{Deliver, Issue, WriteDone, CheckDone}
+use Rattle.server_core.specs.declared.input.WriteEnd.{WriteEnd}
+use Rattle.server_core.specs.declared.input.WriteEnd.TheVariants.{Done, Failed}
 use Rattle.disk_model.specs.declared.left.Left.{Left}
 use Rattle.disk_model.specs.declared.left.Left.TheVariants.{NoSave, Saved, LostNew, LostOld}
 use Rattle.disk_model.specs.Left.{is_lost}
@@ -217,8 +217,8 @@ kept_one : (answer : Result (Unit {0}) Fault) (seq : ℕ) (h : List window.Event
 kept_one (Ok u) seq h k e = has_kept (window.completions h) seq k e
 kept_one (Err fault) seq h k e = e
 
--- One event: what its job's history has more was accepted.
-pub one_on : (o : Opening) (past : List Entry) (v : Work) (j : ℕ) (job : Job) (e : Event) (k : ℕ) (stopped : Bool) → IsAt o past v j job
+-- One input: what its job's history has more was accepted.
+pub one_on : (o : Opening) (past : List Entry) (v : Work) (j : ℕ) (job : Job) (e : PacketInput) (k : ℕ) (stopped : Bool) → IsAt o past v j job
     → window.is_done (with_request (origin_of v j job) stopped (request_of o.me e) (history (origin_of v j job) v.since)) k ≡ true
     → (window.is_done (history (origin_of v j job) v.since) k ≡ true) ⊎ IsDoneBy o past e (origin_of v j job).key k
 one_on o past v j job (Deliver p) k stopped at h =
@@ -232,7 +232,7 @@ one_on o past v j job (WriteDone ticket Failed) k stopped at h =
     inl (sym (failed_done (ticket_answer (origin_of v j job) (open_in v j job) ticket) ticket.seq (history (origin_of v j job) v.since) k) ∙ h)
 one_on o past v j job (CheckDone b a i report) k stopped at h = inl h
 
-pub one_back : (o : Opening) (past : List Entry) (v : Work) (j : ℕ) (job : Job) (e : Event) (k : ℕ) (stopped : Bool) → IsAt o past v j job
+pub one_back : (o : Opening) (past : List Entry) (v : Work) (j : ℕ) (job : Job) (e : PacketInput) (k : ℕ) (stopped : Bool) → IsAt o past v j job
     → IsDoneBy o past e (origin_of v j job).key k
     → window.is_done (with_request (origin_of v j job) stopped (request_of o.me e) (history (origin_of v j job) v.since)) k ≡ true
 one_back o past v j job (WriteDone ticket Done) k stopped at d = ended_back o past v j job ticket k at d
@@ -241,7 +241,7 @@ one_back o past v j job (Deliver p) k stopped at d = absurd d
 one_back o past v j job (Issue i) k stopped at d = absurd d
 one_back o past v j job (CheckDone b a i report) k stopped at d = absurd d
 
-pub one_kept : (o : Opening) (v : Work) (j : ℕ) (job : Job) (e : Event) (k : ℕ) (stopped : Bool) → window.is_done (history (origin_of v j job) v.since) k ≡ true
+pub one_kept : (o : Opening) (v : Work) (j : ℕ) (job : Job) (e : PacketInput) (k : ℕ) (stopped : Bool) → window.is_done (history (origin_of v j job) v.since) k ≡ true
     → window.is_done (with_request (origin_of v j job) stopped (request_of o.me e) (history (origin_of v j job) v.since)) k ≡ true
 one_kept o v j job (WriteDone ticket Done) k stopped h =
     kept_one (ticket_answer (origin_of v j job) (open_in v j job) ticket) ticket.seq (history (origin_of v j job) v.since) k h

@@ -9,7 +9,7 @@ use Rattle.server_core.specs.History.{Opening, Entry, Met, Cut, Restart}
 use Rattle.server_core.specs.Request.{Request, ToStage, ToStart, ToTrigger, ToMark, ToStop, ToVerify}
 use Rattle.server_core.specs.Request.{ToHold, ToPassFully, ToIssue, ToEnd, ToReport, ToNobody, request_of}
 use Rattle.server_core.specs.Run.{Work, is_open}
-use Rattle.server_core.specs.declared.event.Event.{Event}
+use Rattle.server_core.specs.Inputs.{PacketInput}
 use Rattle.server_core.specs.Words.{Staged, for_run, is_on, due_by, last_run_after, last_run, work, staged_run, due}
 
 -- What is due: a Start of the staged run, which is above the last one.
@@ -59,7 +59,7 @@ rests on last staged now (ToEnd ticket end) s h = cc
 rests on last staged now (ToReport b a j report) s h = cc
 rests on last staged now ToNobody s h = cc
 
-pub due_is_start : (o : Opening) (past : List Entry) (e : Event) (s : Staged) → due o past e ≡ Some s
+pub due_is_start : (o : Opening) (past : List Entry) (e : PacketInput) (s : Staged) → due o past e ≡ Some s
     → IsDueStart (is_on past) (last_run o past) (staged_run o past) (work o past) (request_of o.me e) s
 due_is_start o past e s h = rests (is_on past) (last_run o past) (staged_run o past) (work o past) (request_of o.me e) s h
 

@@ -10,8 +10,8 @@ use Rattle.window.specs.History as window
 use Rattle.engine.specs.declared.issue.Ticket.{Ticket}
 use Rattle.engine.specs.Running.{Origin, Running, running_of, StandsFor, EachHistory, after_done, after_fail}
 use Rattle.engine.specs.Answers.{ticket_answer, names_one_of}
-use Rattle.server_core.specs.declared.event.WriteEnd.{WriteEnd}
-use Rattle.server_core.specs.declared.event.WriteEnd.TheVariants.{Done, Failed}
+use Rattle.server_core.specs.declared.input.WriteEnd.{WriteEnd}
+use Rattle.server_core.specs.declared.input.WriteEnd.TheVariants.{Done, Failed}
 use Rattle.server_core.specs.declared.job_run.JobRun.{JobRun}
 use Rattle.server_core.specs.Request.{ToEnd}
 use Rattle.server_core.specs.Run.{Work, Halt, Triggered, Stopped, with_end, with_ticket, halt_of, is_halted, origin_of, history, goes_on}

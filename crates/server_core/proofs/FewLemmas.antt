@@ -1,4 +1,4 @@
--- A server sends at most 16 packets in answer to one event.
+-- A server sends at most 16 packets in answer to one input.
 use Rattle.std.proofs.Common.{◌≡◌, refl, sym, ap, subst, ℕ, suc, ◌+◌, arith, Bool, true, false, ◌==◌, List, [], ◌∷◌, length, Option, None, Some, ◌≤◌}
 use Rattle.std.specs.Prelude.{if◌then◌else◌, nat_lt, nat_le, slice_get, Result, Ok, Err, ◌||◌}
 use Rattle.fc_base.specs.declared.fault.Fault.{Fault}

@@ -1,9 +1,9 @@
--- The words behind one more event are read from the words before it.
+-- The words behind one more input are read from the words before it.
 use Rattle.std.proofs.Common.{◌≡◌, refl, ap, subst, ◌∙◌, ℕ, ◌≤◌, ◌<◌, arith, Bool, true, false, List, [], ◌∷◌, Option, None, Some}
 use Rattle.std.specs.Prelude.{if◌then◌else◌, nat_lt}
 use Rattle.std.proofs.lemmas.Bool.Decides.{nat_tests}
 use Rattle.disk_model.specs.declared.left.Left.TheVariants.{NoSave, Saved}
-use Rattle.server_core.specs.declared.event.Event.{Event}
+use Rattle.server_core.specs.Inputs.{PacketInput}
 use Rattle.server_core.specs.History.{Opening, Entry, Met}
 use Rattle.server_core.specs.Request.{Request, request_of}
 use Rattle.server_core.specs.Run.{Work}
@@ -27,8 +27,8 @@ more_staged : (last : ℕ) (new : Option Staged) (older : List Staged)
 more_staged last None older = refl
 more_staged last (Some s) older = refl
 
--- Behind an event that records no run.
-pub follows : (o : Opening) (past : List Entry) (e : Event) → is_on past ≡ true → due o past e ≡ None
+-- Behind an input that records no run.
+pub follows : (o : Opening) (past : List Entry) (e : PacketInput) → is_on past ≡ true → due o past e ≡ None
     → now o (Met e NoSave ∷ past) ≡ words_after (now o past) (request_of o.me e)
 follows o past e on none =
     let x = request_of o.me e in
@@ -103,7 +103,7 @@ due_stages_none : (on : Bool) (last : ℕ) (found : Option Staged) (w : Option W
     → due_by on last found w x ≡ Some s → stages b l v x ≡ None
 due_stages_none on last found w x s b l v e = ap (stages b l v) (rests on last found w x s e).start
 
-pub starts_follow : (o : Opening) (past : List Entry) (e : Event) (s : Staged) → due o past e ≡ Some s → now o (Met e Saved ∷ past) ≡ begun_by (now o past) s
+pub starts_follow : (o : Opening) (past : List Entry) (e : PacketInput) (s : Staged) → due o past e ≡ Some s → now o (Met e Saved ∷ past) ≡ begun_by (now o past) s
 starts_follow o past e s is =
     let x = request_of o.me e in
     let found : staged_run o past ≡ Some s = (due_is_start o past e s is).staged_is in

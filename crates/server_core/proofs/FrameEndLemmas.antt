@@ -12,8 +12,7 @@ use Rattle.messages.specs.Senses.{Sense, Hears, Keeps, Drops, Misses, Unframed, 
 use Rattle.hearing.specs.Hearers as hearers
 use Rattle.hearing.proofs.HearerLemmas.{with_core, unframed_ends}
 use Rattle.hearing.proofs.NodeLemmas.{answers, faults, sent}
-use Rattle.server_core.specs.declared.event.Event.{Event}
-use Rattle.server_core.specs.declared.input.Input.{Input}
+use Rattle.server_core.specs.Inputs.{PacketInput, FrameInput}
 use Rattle.server_core.specs.declared.outs.Outs.{Outs}
 use Rattle.server_core.specs.declared.packet_server.PacketServer.{PacketServer}
 use Rattle.server_core.specs.declared.server.Server.{Server}
@@ -26,7 +25,7 @@ use Rattle.server_core.specs.HearingKind.{hearing_kind, hearing_laws}
 use Rattle.server_core.specs.FrameEnds.{StandsFor, Sends, server_node, steps}
 
 -- What is answered and sent is what the list says.
-sends : {T : Type 0} (note : T → Note) (o : Opening) (past : List FrameEntry) (e : Input) (outs : Outs) (s : Sense Event) → sense o past e ≡ s
+sends : {T : Type 0} (note : T → Note) (o : Opening) (past : List FrameEntry) (e : FrameInput) (outs : Outs) (s : Sense PacketInput) → sense o past e ≡ s
     → hearers.Sends (hearing_kind note o) (packets_heard o past) s outs → Sends o past e outs
 sends note o past e outs (Hears x) is a =
     let list = packets_heard o past in
@@ -48,14 +47,14 @@ sends note o past e outs Drops is a = absurd a
 sends note o past e outs Misses is a = absurd a
 
 -- A server ends as what hears in it.
-pub hearer_ends : {T : Type 0} (note : T → Note) (o : Opening) (past : List FrameEntry) (e : Input) (old new : Server T) (result : Result Outs Fault)
+pub hearer_ends : {T : Type 0} (note : T → Note) (o : Opening) (past : List FrameEntry) (e : FrameInput) (old new : Server T) (result : Result Outs Fault)
     → Ends (hearers.steps (hearing_kind note o)) (map coming_of past) (arrival e) old.hearer new.hearer result → Ends (steps note o) past e old new result
 hearer_ends note o past e old new (Ok outs) h =
     answers (server_node note o) (λ e left. refl) past e old new outs (sends note o past e outs (sense o past e) refl h.sends) h
 hearer_ends note o past e old new (Err fault) h = faults (server_node note o) (λ e left. refl) past e old new (sort_of fault) fault h
 
 -- What isn't a frame is heard as it comes.
-pub whole_ends : {T : Type 0} (note : T → Note) (o : Opening) (past : List FrameEntry) (e : Input) (x : Event) (old : Server T) (core : PacketServer T)
+pub whole_ends : {T : Type 0} (note : T → Note) (o : Opening) (past : List FrameEntry) (e : FrameInput) (x : PacketInput) (old : Server T) (core : PacketServer T)
     (result : Result Outs Fault) → arrival e ≡ Unframed x → StandsFor note old o past
     → Ends (whole.steps note o) (packets_heard o past) x old.hearer.core core result
     → Ends (steps note o) past e old (record old { hearer = with_core old.hearer core }) result

@@ -21,7 +21,7 @@ use Rattle.messages.specs.declared.refusal.Asked.TheVariants as asks
 use Rattle.disk_model.specs.declared.left.Left.{Left}
 use Rattle.disk_model.specs.declared.left.Left.TheVariants.{NoSave, Saved, LostNew, LostOld}
 use Rattle.disk_model.specs.Left.{is_lost}
-use Rattle.server_core.specs.declared.event.Event.{Event}
+use Rattle.server_core.specs.Inputs.{PacketInput}
 use Rattle.server_core.specs.History.{Opening, Entry, Met, Cut, Restart}
 use Rattle.server_core.specs.Request.{Request, ToStage, ToStart, ToTrigger, ToMark, ToStop, ToVerify}
 use Rattle.server_core.specs.Request.{ToHold, ToPassFully, ToIssue, ToEnd, ToReport, ToNobody, request_of}
@@ -236,7 +236,7 @@ unsent Saved (Some t) me now_boot x w h f = let none = f refl in cc
 unsent LostNew d me now_boot x w h f = cc
 unsent LostOld d me now_boot x w h f = cc
 
-entry_frames : (o : Opening) (past : List Entry) (e : Event) (left : Left) (d : Option Staged) → due o past e ≡ d → is_lost left ≡ false
+entry_frames : (o : Opening) (past : List Entry) (e : PacketInput) (left : Left) (d : Option Staged) → due o past e ≡ d → is_lost left ≡ false
     → Each (IsSaid (work o (Met e left ∷ past))) (replies (now o past) (request_of o.me e))
 entry_frames o past e left None is h =
     subst (λ v. Each (IsSaid v) (replies (now o past) (request_of o.me e)))

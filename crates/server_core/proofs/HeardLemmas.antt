@@ -16,8 +16,8 @@ use Rattle.messages.specs.declared.node.Node.TheVariants as nodes
 use Rattle.messages.specs.declared.packet.PacketParts.{PacketParts}
 use Rattle.disk_model.specs.declared.left.Left.{Left}
 use Rattle.disk_model.specs.declared.left.Left.TheVariants.{NoSave, Saved, LostNew, LostOld}
-use Rattle.server_core.specs.declared.event.Event.{Event}
-use Rattle.server_core.specs.declared.event.Event.TheVariants.{Deliver, Issue, WriteDone, CheckDone}
+use Rattle.server_core.specs.Inputs.{PacketInput}
+use Rattle.server_core.specs.declared.input.Input.TheVariants.{Deliver, Issue, WriteDone, CheckDone}
 use Rattle.server_core.specs.History.{Opening, Entry, Met, Cut, Restart}
 use Rattle.messages.specs.Nodes.{is_client, is_server}
 use Rattle.server_core.specs.Request.{Request, ToStage, ToStart, ToTrigger, ToMark, ToStop, ToVerify, ToHold}
@@ -68,19 +68,19 @@ packet_said me p older true e =
     body_said me p older p.body (from_client p.from ends.0) (to_server me p.to ends.1) refl
 packet_said me p older false e = tt
 
-event_said : (me : ℕ) (e : Event) (older : List PacketParts) → IsSaid me (heard_with e older) (request_of me e)
+event_said : (me : ℕ) (e : PacketInput) (older : List PacketParts) → IsSaid me (heard_with e older) (request_of me e)
 event_said me (Deliver p) older = packet_said me p older (is_client p.from && is_server me p.to) refl
 event_said me (Issue j) older = tt
 event_said me (WriteDone ticket end) older = tt
 event_said me (CheckDone b a j report) older = tt
 
-heard_before : (e : Event) (older : List PacketParts) (p : PacketParts) → Contains older p → Contains (heard_with e older) p
+heard_before : (e : PacketInput) (older : List PacketParts) (p : PacketParts) → Contains older p → Contains (heard_with e older) p
 heard_before (Deliver q) older p h = Contains-append_right (q ∷ []) older p h
 heard_before (Issue j) older p h = h
 heard_before (WriteDone ticket end) older p h = h
 heard_before (CheckDone b x j report) older p h = h
 
-said_before : (me : ℕ) (e : Event) (older : List PacketParts) (x : Request) → IsSaid me older x → IsSaid me (heard_with e older) x
+said_before : (me : ℕ) (e : PacketInput) (older : List PacketParts) (x : Request) → IsSaid me older x → IsSaid me (heard_with e older) x
 said_before me e older (ToHold a s) h = heard_before e older _ h
 said_before me e older (ToMark r j) h = heard_before e older _ h
 said_before me e older (ToStage r text) h = tt
@@ -98,7 +98,7 @@ said_before me e older ToNobody h = tt
 abbrev pub Heard : ℕ → List PacketParts → List Request → Type 0
 Heard me older since = (x : Request) → Contains since x → IsSaid me older x
 
-pub one_heard : (me : ℕ) (e : Event) (older : List PacketParts) (since : List Request) → Heard me older since
+pub one_heard : (me : ℕ) (e : PacketInput) (older : List PacketParts) (since : List Request) → Heard me older since
     → Heard me (heard_with e older) (request_of me e ∷ since)
 one_heard me e older since f = λ x h.
     elim (Contains-append_cases (request_of me e ∷ []) since x h) [
@@ -115,12 +115,12 @@ abbrev pub WorkHeard : ℕ → List PacketParts → Option Work → Type 0
 WorkHeard me older None = Unit {0}
 WorkHeard me older (Some w) = Heard me older w.since
 
-work_on : (me : ℕ) (e : Event) (older : List PacketParts) (w : Option Work) → WorkHeard me older w
+work_on : (me : ℕ) (e : PacketInput) (older : List PacketParts) (w : Option Work) → WorkHeard me older w
     → WorkHeard me (heard_with e older) (goes_on (request_of me e) w)
 work_on me e older None h = tt
 work_on me e older (Some w) h = one_heard me e older w.since h
 
-work_after_heard : (me b : ℕ) (e : Event) (older : List PacketParts) (left : Left) (d : Option Staged) (w : Option Work) → WorkHeard me older w
+work_after_heard : (me b : ℕ) (e : PacketInput) (older : List PacketParts) (left : Left) (d : Option Staged) (w : Option Work) → WorkHeard me older w
     → WorkHeard me (heard_with e older) (work_after left d me b (request_of me e) w)
 work_after_heard me b e older NoSave d w h = work_on me e older w h
 work_after_heard me b e older Saved None w h = work_on me e older w h
@@ -169,13 +169,13 @@ abbrev CheckHeard : ℕ → List PacketParts → Option Check → Type 0
 CheckHeard me older None = Unit {0}
 CheckHeard me older (Some c) = Heard me older c.since
 
-check_on : (me : ℕ) (e : Event) (older : List PacketParts) (new old : Option Check) → Fresh new → CheckHeard me older old
+check_on : (me : ℕ) (e : PacketInput) (older : List PacketParts) (new old : Option Check) → Fresh new → CheckHeard me older old
     → CheckHeard me (heard_with e older) (or_opened new (check_goes_on (request_of me e) old))
 check_on me e older (Some c) old f h = none_heard me (heard_with e older) c.since f
 check_on me e older None None f h = tt
 check_on me e older None (Some c) f h = one_heard me e older c.since h
 
-check_after_heard : (me : ℕ) (e : Event) (older : List PacketParts) (left : Left) (d : Option Staged) (new old : Option Check) → Fresh new
+check_after_heard : (me : ℕ) (e : PacketInput) (older : List PacketParts) (left : Left) (d : Option Staged) (new old : Option Check) → Fresh new
     → CheckHeard me older old → CheckHeard me (heard_with e older) (check_after left d new (request_of me e) old)
 check_after_heard me e older NoSave d new old f h = check_on me e older new old f h
 check_after_heard me e older Saved None new old f h = check_on me e older new old f h

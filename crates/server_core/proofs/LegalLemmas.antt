@@ -14,8 +14,8 @@ use Rattle.engine.specs.Legal.{IsLegal}
 use Rattle.engine.specs.Running.{Origin}
 use Rattle.engine.specs.Answers.{answer_to, ticket_answer}
 use Rattle.engine.specs.Laws.{WritesAreLegal, EndsAreLegal}
-use Rattle.server_core.specs.declared.event.WriteEnd.{WriteEnd}
-use Rattle.server_core.specs.declared.event.WriteEnd.TheVariants.{Done, Failed}
+use Rattle.server_core.specs.declared.input.WriteEnd.{WriteEnd}
+use Rattle.server_core.specs.declared.input.WriteEnd.TheVariants.{Done, Failed}
 use Rattle.server_core.specs.Request.{Request, ToStage, ToStart, ToTrigger, ToMark, ToStop, ToVerify, ToHold, ToPassFully, ToIssue, ToEnd, ToReport, ToNobody}
 use Rattle.server_core.specs.Run.{halt_of, with_issue, with_ticket, with_request, history}
 

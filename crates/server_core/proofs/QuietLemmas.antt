@@ -6,7 +6,7 @@ use Rattle.std.proofs.lemmas.Bool.{eqb-true}
 use Rattle.job_file.specs.declared.job.Job.{Job}
 use Rattle.verify_state.specs.State.{State}
 use Rattle.engine.specs.Answers.{is_write}
-use Rattle.server_core.specs.declared.event.Event.{Event}
+use Rattle.server_core.specs.Inputs.{PacketInput}
 use Rattle.disk_model.specs.declared.left.Left.{Left}
 use Rattle.disk_model.specs.declared.left.Left.TheVariants.{NoSave, Saved, LostNew, LostOld}
 use Rattle.server_core.specs.History.{Opening, Entry, Met, Cut, Restart}
@@ -101,7 +101,7 @@ record IsBehind (o : Opening) (run : ℕ) (list : List Entry) : Type 0 where
   pub least : run ≤ last_run o list
   pub calm : Calm run (work o list)
 
-behind_at : (o : Opening) (run j : ℕ) (e : Event) (left : Left) (past : List Entry) (x : Option Work) (state : State) → work o past ≡ x
+behind_at : (o : Opening) (run j : ℕ) (e : PacketInput) (left : Left) (past : List Entry) (x : Option Work) (state : State) → work o past ≡ x
     → takes run j (request_of o.me e) x ≡ Some state → IsBehind o run (Met e left ∷ past)
 behind_at o run j e left past None state is h = cc
 behind_at o run j e left past (Some w) state is h =
@@ -153,14 +153,14 @@ no_write run (ToEnd ticket end) w c = refl
 no_write run (ToReport b a i report) w c = refl
 no_write run ToNobody w c = refl
 
-pub quiet_while_last : (o : Opening) (older between : List Entry) (trigger e : Event) (was : Left) (run j : ℕ) (state : State)
+pub quiet_while_last : (o : Opening) (older between : List Entry) (trigger e : PacketInput) (was : Left) (run j : ℕ) (state : State)
     → takes run j (request_of o.me trigger) (work o older) ≡ Some state
     → last_run o (between ++ Met trigger was ∷ older) ≡ run → gives_write (issue o (between ++ Met trigger was ∷ older) e) ≡ false
 quiet_while_last o older between trigger e was run j state h last =
     no_write run (request_of o.me e) (work o (between ++ Met trigger was ∷ older))
     (calm_behind o run between (Met trigger was ∷ older) (behind_at o run j trigger was older (work o older) state refl h) last)
 
-pub quiet_until_check : (o : Opening) (older between newer : List Entry) (trigger e : Event) (was left : Left) (run j i : ℕ) (state with_it : State)
+pub quiet_until_check : (o : Opening) (older between newer : List Entry) (trigger e : PacketInput) (was left : Left) (run j i : ℕ) (state with_it : State)
     → takes run j (request_of o.me trigger) (work o older) ≡ Some state
     → progress o (newer ++ Met e left ∷ (between ++ Met trigger was ∷ older)) i ≡ Some (With with_it) → with_it.key.run ≡ run
     → gives_write (issue o (between ++ Met trigger was ∷ older) e) ≡ false

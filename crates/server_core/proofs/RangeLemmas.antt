@@ -17,8 +17,8 @@ use Rattle.messages.specs.Nodes.{is_node}
 use Rattle.messages.specs.Ranges.{is_word, is_run, is_attempt, is_text, is_body}
 use Rattle.disk_model.specs.declared.left.Left.{Left}
 use Rattle.disk_model.specs.Left.{has_new}
-use Rattle.server_core.specs.declared.event.Event.{Event}
-use Rattle.server_core.specs.declared.event.Event.TheVariants.{Deliver, Issue, WriteDone, CheckDone}
+use Rattle.server_core.specs.Inputs.{PacketInput}
+use Rattle.server_core.specs.declared.input.Input.TheVariants.{Deliver, Issue, WriteDone, CheckDone}
 use Rattle.server_core.specs.History.{Opening, Entry, Met, Cut, Restart}
 use Rattle.messages.specs.Nodes.{is_client, is_server}
 use Rattle.server_core.specs.Request.{Request, ToStage, ToStart, ToTrigger, ToMark, ToStop, ToVerify, ToHold}
@@ -153,7 +153,7 @@ if_for_it : (b : Bool) (x : Request) → RequestFits x → RequestFits (if b the
 if_for_it true x h = h
 if_for_it false x h = tt
 
-pub asked_fits : (me : ℕ) (e : Event) → IsInRange e → RequestFits (request_of me e)
+pub asked_fits : (me : ℕ) (e : PacketInput) → IsInRange e → RequestFits (request_of me e)
 asked_fits me (Deliver p) h =
     if_for_it (is_client p.from && is_server me p.to) (request_in p.body)
     (body_asks p.body (and_parts (is_node p.from && is_node p.to) (is_body p.body) h.in_range).1)

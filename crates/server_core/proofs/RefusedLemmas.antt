@@ -9,7 +9,7 @@ use Rattle.job_file.specs.declared.job.Job.{Job}
 use Rattle.window.specs.History as window
 use Rattle.engine.specs.declared.issue.Ticket.{Ticket}
 use Rattle.engine.specs.Answers.{names_one_of}
-use Rattle.server_core.specs.declared.event.WriteEnd.{WriteEnd}
+use Rattle.server_core.specs.declared.input.WriteEnd.{WriteEnd}
 use Rattle.server_core.specs.declared.machine.Machine.{Machine}
 use Rattle.server_core.specs.Request.{Request, ToStage, ToStart, ToTrigger, ToMark, ToStop, ToVerify, ToHold, ToPassFully, ToIssue, ToEnd, ToReport, ToNobody}
 use Rattle.server_core.specs.Run.{Work, goes_on, halt_of, with_ticket, origin_of, history}

@@ -1,4 +1,4 @@
--- A server takes an event as its list does.
+-- A server takes an input as its list does.
 use Rattle.std.proofs.Common.{◌≡◌, ◌⊎◌, inl, inr, refl, sym, ap, subst, ◌∙◌, ℕ, Bool, true, false, ◌&&◌, List, ◌∷◌, Option, None, Some}
 use Rattle.std.specs.Prelude.{if◌then◌else◌, not, is_some, Result, Ok, Err}
 use Rattle.std.specs.List.{AllByRecursion, flat_map}
@@ -12,7 +12,7 @@ use Rattle.disk_model.specs.Notes.{Note}
 use Rattle.disk_model.specs.Steps.{LeavesNote, Faults, Ends}
 use Rattle.messages.specs.FramesOf.{spelled_frames}
 use Rattle.messages.specs.Laws.{IsPacket}
-use Rattle.server_core.specs.declared.event.Event.{Event}
+use Rattle.server_core.specs.Inputs.{PacketInput}
 use Rattle.server_core.specs.declared.machine.Machine.{Machine}
 use Rattle.server_core.specs.declared.outs.Outs.{Outs}
 use Rattle.server_core.specs.declared.packet_server.PacketServer.{PacketServer}
@@ -46,8 +46,8 @@ keeps_now note server o past up s =
     let on = is_up (is_on past) (sym up ∙ s.on) in
     (on, subst (λ p. MachineIs server.machine (now o p)) (looked_on past on) s.keeps)
 
--- It stands for the list with an event that made no save, where it keeps what is kept of the words behind it.
-pub stands_with : {T : Type 0} (note : T → Note) (server : PacketServer T) (m : Machine) (o : Opening) (past : List Entry) (e : Event) → server.durable.down ≡ false
+-- It stands for the list with an input that made no save, where it keeps what is kept of the words behind it.
+pub stands_with : {T : Type 0} (note : T → Note) (server : PacketServer T) (m : Machine) (o : Opening) (past : List Entry) (e : PacketInput) → server.durable.down ≡ false
     → StandsFor note server o past → is_on past ≡ true → due o past e ≡ None
     → MachineIs m (words_after (now o past) (request_of o.me e))
     → StandsFor note (record { durable = server.durable; machine = m }) o (Met e NoSave ∷ past)
@@ -91,20 +91,20 @@ refusal_sort words (ToIssue j) fault e = cc
 
 -- ---- what is sent
 
--- What is known of all that a server sends in answer to this event.
-pub record IsSendable (o : Opening) (past : List Entry) (e : Event) : Type 0 where
+-- What is known of all that a server sends in answer to this input.
+pub record IsSendable (o : Opening) (past : List Entry) (e : PacketInput) : Type 0 where
   pub short : OpensInRange o → CameInRange past → AreShort (flat_map spelled_frames (packets o past (answered_entry o past e)))
   pub ranges : OpensInRange o → CameInRange past → AllByRecursion IsPacket (packets o past (answered_entry o past e))
 
-pub sendable : FramesAreShort → PacketsAreInRange → (o : Opening) (past : List Entry) (e : Event) → IsInRange e → IsSendable o past e
+pub sendable : FramesAreShort → PacketsAreInRange → (o : Opening) (past : List Entry) (e : PacketInput) → IsInRange e → IsSendable o past e
 sendable frames ranges o past e h = record {
   short = λ i k. frames o past (answered_entry o past e) i (h, k);
   ranges = λ i k. ranges o past (answered_entry o past e) i (h, k);
 }
 
--- ---- an event that is not due to record a run
+-- ---- an input that is not due to record a run
 
-ends : {T : Type 0} (note : T → Note) (server : PacketServer T) (m : Machine) (o : Opening) (past : List Entry) (e : Event) (result : Result Outs Fault)
+ends : {T : Type 0} (note : T → Note) (server : PacketServer T) (m : Machine) (o : Opening) (past : List Entry) (e : PacketInput) (result : Result Outs Fault)
     → server.durable.down ≡ false → StandsFor note server o past → is_on past ≡ true → MachineIs server.machine (now o past)
     → due o past e ≡ None → IsSendable o past e → Handled (now o past) (request_of o.me e) server.machine m result
     → Ends (steps note o) past e server (record { durable = server.durable; machine = m }) result
@@ -146,7 +146,7 @@ ends note server m o past e (Err fault) up s on k none can u = by_why u.why
               (refused_stays m (now o past) (request_of o.me e) fault (subst (λ x. MachineIs x (now o past)) (sym u.same) k) w);
         })
 
-pub taken : {T : Type 0} (note : T → Note) (server : PacketServer T) (m : Machine) (o : Opening) (past : List Entry) (e : Event) (result : Result Outs Fault)
+pub taken : {T : Type 0} (note : T → Note) (server : PacketServer T) (m : Machine) (o : Opening) (past : List Entry) (e : PacketInput) (result : Result Outs Fault)
     → server.durable.down ≡ false → StandsFor note server o past
     → EachNow server.machine (λ words. IsDueFor words (request_of server.machine.me e) None)
     → EachUndue server.machine (request_of server.machine.me e) (λ words. Handled words (request_of server.machine.me e) server.machine m result)
@@ -167,7 +167,7 @@ is_due_at : (words : Now) (x : Request) (run : Option ℕ) → IsDueFor words x 
 is_due_at words x None d = ap is_some (sym d)
 is_due_at words x (Some r) d = sym d.1
 
-pub saves_where_due : {T : Type 0} (note : T → Note) (server : PacketServer T) (o : Opening) (past : List Entry) (e : Event) (run : Option ℕ)
+pub saves_where_due : {T : Type 0} (note : T → Note) (server : PacketServer T) (o : Opening) (past : List Entry) (e : PacketInput) (run : Option ℕ)
     → server.durable.down ≡ false → StandsFor note server o past
     → EachNow server.machine (λ words. IsDueFor words (request_of server.machine.me e) run) → is_some run ≡ is_some (due o past e)
 saves_where_due note server o past e run up s d =

@@ -11,7 +11,7 @@ use Rattle.job_file.specs.JobSet.{jobs_of, phase_in, refusal_of}
 use Rattle.job_file.specs.Laws.{JobsAreWithinLimits, JobsFit}
 use Rattle.disk_model.specs.declared.left.Left.{Left}
 use Rattle.disk_model.specs.declared.left.Left.TheVariants.{NoSave, Saved, LostNew, LostOld}
-use Rattle.server_core.specs.declared.event.Event.{Event}
+use Rattle.server_core.specs.Inputs.{PacketInput}
 use Rattle.server_core.specs.History.{Opening, Entry, Met, Cut, Restart}
 use Rattle.server_core.specs.Request.{Request, ToStage, ToStart, ToTrigger, ToMark, ToStop, ToVerify}
 use Rattle.server_core.specs.Request.{ToHold, ToPassFully, ToIssue, ToEnd, ToReport, ToNobody, request_of}
@@ -206,7 +206,7 @@ pub record Known (Q : Request → Type 0) (R A : ℕ → Type 0) (o : Opening) (
 pub staged_fits : (Q : Request → Type 0) (R A : ℕ → Type 0) (o : Opening) (past : List Entry) → Known Q R A o past → SomeStaged R (staged_run o past)
 staged_fits Q R A o past k = greatest_fits R (last_run o past) (stagings o past) k.all_staged
 
-pub due_known : (Q : Request → Type 0) (R A : ℕ → Type 0) (o : Opening) (past : List Entry) (e : Event) → Known Q R A o past → SomeStaged R (due o past e)
+pub due_known : (Q : Request → Type 0) (R A : ℕ → Type 0) (o : Opening) (past : List Entry) (e : PacketInput) → Known Q R A o past → SomeStaged R (due o past e)
 due_known Q R A o past e k = due_fits R (is_on past) (last_run o past) (staged_run o past) (work o past) (request_of o.me e) (staged_fits Q R A o past k)
 
 pub known : (Q : Request → Type 0) (R A : ℕ → Type 0) → Rules Q R A → (o : Opening) (past : List Entry) → AllAsked Q o.me past → Known Q R A o past

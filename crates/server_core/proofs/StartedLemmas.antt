@@ -15,7 +15,7 @@ use Rattle.disk_model.specs.Notes.{Note}
 use Rattle.disk_model.specs.Steps.{LeavesNote, Answers, Fails, Faults, Ends}
 use Rattle.messages.specs.FramesOf.{spelled_frames}
 use Rattle.messages.specs.Ranges.{is_run, is_word}
-use Rattle.server_core.specs.declared.event.Event.{Event}
+use Rattle.server_core.specs.Inputs.{PacketInput}
 use Rattle.server_core.specs.declared.outs.Outs.{Outs}
 use Rattle.server_core.specs.declared.packet_server.PacketServer.{PacketServer}
 use Rattle.server_core.specs.History.{Opening, Entry, Met}
@@ -45,14 +45,14 @@ there None e = cc
 there (Some s) e = (s, refl)
 
 -- All that is known of a Start that is due.
-record IsStart (o : Opening) (past : List Entry) (e : Event) (run : ℕ) (s : Staged) : Type 0 where
+record IsStart (o : Opening) (past : List Entry) (e : PacketInput) (run : ℕ) (s : Staged) : Type 0 where
   on : is_on past ≡ true
   asks : request_of o.me e ≡ ToStart run
   is : due o past e ≡ Some s
   words : due_by true (now o past).last (now o past).staged (now o past).run (ToStart run) ≡ Some s
   run_is : s.run ≡ run
 
-free_of : (o : Opening) (past : List Entry) (e : Event) (run : ℕ) (s : Staged) → IsStart o past e run s → refusal o past e ≡ None
+free_of : (o : Opening) (past : List Entry) (e : PacketInput) (run : ℕ) (s : Staged) → IsStart o past e run s → refusal o past e ≡ None
 free_of o past e run s d = ap (λ b. if b then refusal_of (now o past) (request_of o.me e) else Some Down) d.on ∙ ap (refusal_of (now o past)) d.asks
 
 abbrev noted_as : ℕ → ℕ → ServerNote
@@ -65,7 +65,7 @@ new_says bytes b mine last run s same fits new is =
     record { boot_range = s.boot_range; last_range = fits; spelled = inl (is ∙ ap (λ n. spelling (record { boot = n; last_run = run })) same) }
 
 -- A boot and a run that was recorded are what is noted then.
-to_note : (o : Opening) (past : List Entry) (e : Event) (run : ℕ) (s : Staged) (mine : ℕ) (left : Left) → has_new left ≡ true → mine ≡ boot o past
+to_note : (o : Opening) (past : List Entry) (e : PacketInput) (run : ℕ) (s : Staged) (mine : ℕ) (left : Left) → has_new left ≡ true → mine ≡ boot o past
     → IsStart o past e run s
     → noted_as mine run ≡ words_noted o (Met e left ∷ past)
 to_note o past e run s mine left new same d =
@@ -78,7 +78,7 @@ to_note o past e run s mine left new same d =
     by_left LostOld h = cc
     by_left NoSave h = cc
 
-begun : {T : Type 0} (note : T → Note) (old new : PacketServer T) (o : Opening) (past : List Entry) (e : Event) (run : ℕ) (s : Staged) (outs : Outs)
+begun : {T : Type 0} (note : T → Note) (old new : PacketServer T) (o : Opening) (past : List Entry) (e : PacketInput) (run : ℕ) (s : Staged) (outs : Outs)
     → old.durable.down ≡ false → StandsFor note old o past → MachineIs old.machine (now o past) → run < 2 ^ 64 → IsStart o past e run s
     → IsSendable o past e → Starts note run old new (Ok outs) → Answers (steps note o) past e old new outs
 begun note old new o past e run s outs up stands k fits d can p =
@@ -112,7 +112,7 @@ begun note old new o past e run s outs up stands k fits d can p =
           });
     }
 
-unbegun : {T : Type 0} (note : T → Note) (old new : PacketServer T) (o : Opening) (past : List Entry) (e : Event) (run : ℕ) (s : Staged) (t : FaultSort)
+unbegun : {T : Type 0} (note : T → Note) (old new : PacketServer T) (o : Opening) (past : List Entry) (e : PacketInput) (run : ℕ) (s : Staged) (t : FaultSort)
     (fault : Fault) → old.durable.down ≡ false → StandsFor note old o past → MachineIs old.machine (now o past) → run < 2 ^ 64 → IsStart o past e run s
     → Unstarted note run t fault old new → Faults (steps note o) past e t fault old new
 unbegun note old new o past e run s sorts.Memory fault up stands k fits d u = record {
@@ -165,13 +165,13 @@ unbegun note old new o past e run s sorts.Save fault up stands k fits d u = by_b
       };
     }
 
-ends : {T : Type 0} (note : T → Note) (old new : PacketServer T) (o : Opening) (past : List Entry) (e : Event) (run : ℕ) (s : Staged)
+ends : {T : Type 0} (note : T → Note) (old new : PacketServer T) (o : Opening) (past : List Entry) (e : PacketInput) (run : ℕ) (s : Staged)
     (result : Result Outs Fault) → old.durable.down ≡ false → StandsFor note old o past → MachineIs old.machine (now o past) → run < 2 ^ 64 → IsStart o past e run s
     → IsSendable o past e → Starts note run old new result → Ends (steps note o) past e old new result
 ends note old new o past e run s (Ok outs) up stands k fits d can p = begun note old new o past e run s outs up stands k fits d can p
 ends note old new o past e run s (Err fault) up stands k fits d can u = unbegun note old new o past e run s (sort_of fault) fault up stands k fits d u
 
-pub started : {T : Type 0} (note : T → Note) (old new : PacketServer T) (o : Opening) (past : List Entry) (e : Event) (run : ℕ) (result : Result Outs Fault)
+pub started : {T : Type 0} (note : T → Note) (old new : PacketServer T) (o : Opening) (past : List Entry) (e : PacketInput) (run : ℕ) (result : Result Outs Fault)
     → old.durable.down ≡ false → StandsFor note old o past → is_run run ≡ true
     → EachNow old.machine (λ words. IsDueFor words (request_of old.machine.me e) (Some run)) → Starts note run old new result → IsSendable o past e
     → Ends (steps note o) past e old new result

@@ -117,7 +117,7 @@ no_taking : (r j q : ℕ) (w : Option Work) → takes r j (ToStart q) w ≡ None
 no_taking r j q None = refl
 no_taking r j q (Some w) = no_taking_at (w.run == r) w j (halt_of w.run w.since)
 
--- An event with nothing due.
+-- An input with nothing due.
 not_begun : (r j last : ℕ) (states : List State) (left : Left) (me now_boot : ℕ) (x : Request) (w : Option Work) → Known r j last states w
     → Known r j last (and_those (takes r j x w) states) (work_after left None me now_boot x w)
 not_begun r j last states NoSave me now_boot x w k = kept_on r j last states x w k
@@ -148,7 +148,7 @@ met r j last states left (Some s) me now_boot x w f k =
     (sym (no_taking r j s.run w))
     (to_begin r j last states left s me now_boot w i.above k))
 
--- What is known of each run's job after each list of events.
+-- What is known of each run's job after each list of inputs.
 pub known : (o : Opening) (r j : ℕ) (past : List Entry) → Known r j (last_run o past) (takings o r j past) (work o past)
 known o r j [] = untaken refl
 known o r j (Met e left ∷ past) =

@@ -18,7 +18,7 @@ use Rattle.messages.specs.PieceRanges.{is_long_kind, is_tag_in_range, is_piece}
 use Rattle.messages.specs.Assemblies.{Row, Gives, NoPacket, packet_of, of_tag, look_by_body, look_at_piece, completed_body}
 use Rattle.messages.specs.Hearing.{Strays, said_by}
 use Rattle.messages.specs.Senses.{sense_of, heard_or}
-use Rattle.server_core.specs.declared.event.Event.TheVariants as events
+use Rattle.server_core.specs.declared.input.Input.TheVariants as inputs
 use Rattle.server_core.specs.History as history
 use Rattle.server_core.specs.History.{Opening}
 use Rattle.server_core.specs.Request.{request_in, ToNobody}
@@ -54,12 +54,12 @@ undue_packet on last s w b false h = refl
 
 undue_tag : (o : Opening) (past : List history.Entry) (q : PieceParts) (b : Body) (same : Bool)
     → (same ≡ true → due_by (is_on past) (last_run o past) (staged_run o past) (work o past) (request_in b) ≡ None)
-    → heard_or None (due o past) (sense_of events.Deliver (said_by (if same then Gives (packet_of q b) else NoPacket))) ≡ None
+    → heard_or None (due o past) (sense_of inputs.Deliver (said_by (if same then Gives (packet_of q b) else NoPacket))) ≡ None
 undue_tag o past q b true h = undue_packet (is_on past) (last_run o past) (staged_run o past) (work o past) b (is_client q.from && is_server o.me q.to) (h refl)
 undue_tag o past q b false h = refl
 
 undue_read : (o : Opening) (past : List history.Entry) (q : PieceParts) (b : Option Body) → is_long_kind q.tag.whole ≡ true
-    → heard_or None (due o past) (sense_of events.Deliver (said_by (of_tag q b))) ≡ None
+    → heard_or None (due o past) (sense_of inputs.Deliver (said_by (of_tag q b))) ≡ None
 undue_read o past q None l = refl
 undue_read o past q (Some b) l =
     let t = tag_in b q.tag.length in
@@ -67,12 +67,12 @@ undue_read o past q (Some b) l =
     (kinds_are t q.tag same))
 
 undue_look : (o : Opening) (past : List history.Entry) (q : PieceParts) (bytes : Option (List ℕ)) → is_long_kind q.tag.whole ≡ true
-    → heard_or None (due o past) (sense_of events.Deliver (said_by (look_by_body q bytes))) ≡ None
+    → heard_or None (due o past) (sense_of inputs.Deliver (said_by (look_by_body q bytes))) ≡ None
 undue_look o past q None l = refl
 undue_look o past q (Some bytes) l = undue_read o past q (body_at q.tag.whole bytes) l
 
 undue_meaning : (o : Opening) (past : List history.Entry) (q : PieceParts) (rows : List Row) (takes : Bool) → is_long_kind q.tag.whole ≡ true
-    → heard_or None (due o past) (sense_of events.Deliver (if takes then said_by (look_at_piece rows q) else Strays)) ≡ None
+    → heard_or None (due o past) (sense_of inputs.Deliver (if takes then said_by (look_at_piece rows q) else Strays)) ≡ None
 undue_meaning o past q rows true l = undue_look o past q (completed_body rows q) l
 undue_meaning o past q rows false l = refl
 

@@ -4,9 +4,9 @@ use Rattle.std.specs.Prelude.{◌≡◌, ◌⊎◌, ℕ, true, List, [], ◌∷�
 use Rattle.fc_base.specs.Counted.{has}
 use Rattle.fc_base.specs.declared.numbers.Key.{Key}
 use Rattle.verify_state.specs.State.{State}
-use Rattle.server_core.specs.declared.event.Event.{Event}
-use Rattle.server_core.specs.declared.event.Event.TheVariants.{Deliver, Issue, WriteDone, CheckDone}
-use Rattle.server_core.specs.declared.event.WriteEnd.TheVariants.{Done, Failed}
+use Rattle.server_core.specs.Inputs.{PacketInput}
+use Rattle.server_core.specs.declared.input.Input.TheVariants.{Deliver, Issue, WriteDone, CheckDone}
+use Rattle.server_core.specs.declared.input.WriteEnd.TheVariants.{Done, Failed}
 use Rattle.disk_model.specs.declared.left.Left.{Left}
 use Rattle.disk_model.specs.declared.left.Left.TheVariants.{Saved}
 use Rattle.server_core.specs.History.{Opening, Entry, Met, Cut, Restart}
@@ -15,8 +15,8 @@ use Rattle.server_core.specs.Words.{Staged, due, work}
 use Rattle.server_core.specs.Taken.{takes}
 use Rattle.server_core.specs.Answers.{refusal}
 
--- The event completes write k of this key, and isn't refused.
-abbrev pub IsDoneBy : Opening → List Entry → Event → Key → ℕ → Type 0
+-- The input completes write k of this key, and isn't refused.
+abbrev pub IsDoneBy : Opening → List Entry → PacketInput → Key → ℕ → Type 0
 IsDoneBy opening past (WriteDone ticket Done) key k =
     (ticket.key ≡ key) × (ticket.seq ≡ k) × (refusal opening past (WriteDone ticket Done) ≡ None)
 IsDoneBy opening past (WriteDone ticket Failed) key k = ⊥
@@ -37,10 +37,10 @@ IsDoneIn opening before (Restart left ∷ between) key k = IsDoneIn opening befo
 pub record IsTaking (opening : Opening) (run j : ℕ) (list : List Entry)
     (state : State) : Type 0 where
   pub newer : List Entry
-  pub trigger : Event
+  pub trigger : PacketInput
   pub left : Left
   pub between : List Entry
-  pub start : Event
+  pub start : PacketInput
   pub older : List Entry
   pub split : list ≡ newer ++ Met trigger left ∷ (between ++ Met start Saved ∷ older)
   pub started : Staged

@@ -1,4 +1,4 @@
--- What a server answers to an event, sends and shows, read from the list.
+-- What a server answers to an input, sends and shows, read from the list.
 use Rattle.std.specs.Prelude.{ℕ, Bool, true, false, not, ◌&&◌, ◌==◌, List, [], ◌∷◌, ◌++◌, length, map, Option, Some, None, is_some, slice_get, if◌then◌else◌}
 use Rattle.std.specs.List.{list_all}
 use Rattle.fc_base.specs.declared.fault.Fault.{Fault}
@@ -15,7 +15,7 @@ use Rattle.messages.specs.declared.node.Node.TheVariants.{Server, Client}
 use Rattle.messages.specs.declared.packet.PacketParts.{PacketParts}
 use Rattle.messages.specs.declared.refusal.Act.{Act}
 use Rattle.messages.specs.declared.refusal.Act.TheVariants as acts
-use Rattle.server_core.specs.declared.event.Event.{Event}
+use Rattle.server_core.specs.Inputs.{PacketInput}
 use Rattle.server_core.specs.declared.status.Stage.{Stage}
 use Rattle.server_core.specs.declared.status.Stage.TheVariants as stages
 use Rattle.server_core.specs.declared.status.Status.{Status}
@@ -77,8 +77,8 @@ refusal_of now (ToReport b a j report) =
     refused_by (b == now.boot) (is_open_attempt a now.check && is_ready (progress_in now.check j))
 refusal_of now _ = None
 
--- Why an event is refused: the server is down, or the request is refused.
-abbrev pub refusal : Opening → List Entry → Event → Option Fault
+-- Why an input is refused: the server is down, or the request is refused.
+abbrev pub refusal : Opening → List Entry → PacketInput → Option Fault
 refusal opening past e =
     if is_on past then refusal_of (now opening past) (request_of opening.me e) else Some Down
 
@@ -115,8 +115,8 @@ abbrev pub issue_for : Option Work → Request → Option Issue
 issue_for now (ToIssue j) = Some (issue_of j now)
 issue_for now _ = None
 
--- What an event answers of writes.
-abbrev pub issue : Opening → List Entry → Event → Option Issue
+-- What an input answers of writes.
+abbrev pub issue : Opening → List Entry → PacketInput → Option Issue
 issue opening past e = issue_for (work opening past) (request_of opening.me e)
 
 -- The job that this request marks: the client tells that its state is kept, behind the Trigger of
@@ -156,12 +156,12 @@ abbrev pub act_of : Option Work → Request → Act
 act_of None x = acts.None
 act_of (Some w) x = if completes w x then acts.Cut else acts.None
 
--- What an event makes the server ask of its caller.
-abbrev pub act : Opening → List Entry → Event → Act
+-- What an input makes the server ask of its caller.
+abbrev pub act : Opening → List Entry → PacketInput → Act
 act opening past e = act_of (work opening past) (request_of opening.me e)
 
--- An event makes a save where it is due to record a run.
-abbrev pub would_save : Opening → List Entry → Event → Bool
+-- An input makes a save where it is due to record a run.
+abbrev pub would_save : Opening → List Entry → PacketInput → Bool
 would_save opening past e = is_some (due opening past e)
 
 -- What the calls that only look answer from: all that came, but for what came from a failed save

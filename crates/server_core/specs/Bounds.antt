@@ -1,4 +1,4 @@
--- How much a server sends in answer to one event.
+-- How much a server sends in answer to one input.
 use Rattle.std.specs.Prelude.{ℕ, ◌≤◌, List, ◌∷◌, length, All}
 use Rattle.std.specs.List.{flat_map}
 use Rattle.fc_base.specs.declared.limits.TheConstants.{MAX_JOBS}
@@ -13,7 +13,7 @@ pub record AreShort (frames : List (List ℕ)) : Type 0 where
   pub few : length frames ≤ MAX_JOBS
   pub short : All (λ frame. length frame ≤ MAX_FRAME) frames
 
--- A server sends at most 16 frames of at most 1,073 bytes in answer to one event, where what came
+-- A server sends at most 16 frames of at most 1,073 bytes in answer to one input, where what came
 -- is within its ranges.
 abbrev pub FramesAreShort : Type 0
 FramesAreShort =

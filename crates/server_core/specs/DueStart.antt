@@ -1,6 +1,6 @@
 -- What a Start that is due rests on.
 use Rattle.std.specs.Prelude.{◌≡◌, ℕ, ◌<◌, Bool, true, false, List, Option, Some}
-use Rattle.server_core.specs.declared.event.Event.{Event}
+use Rattle.server_core.specs.Inputs.{PacketInput}
 use Rattle.server_core.specs.History.{Opening, Entry}
 use Rattle.server_core.specs.Request.{Request, ToStart, request_of}
 use Rattle.server_core.specs.Run.{Work, is_open}
@@ -16,10 +16,10 @@ pub record IsDueStart (on : Bool) (last : ℕ) (found : Option Staged) (now : Op
   pub above : last < s.run
   pub none_open : is_open now ≡ false
 
--- So it is where an event is due to record a run.
+-- So it is where an input is due to record a run.
 abbrev pub DueIsStart : Type 0
 DueIsStart =
-    (opening : Opening) (past : List Entry) (e : Event) (s : Staged) →
+    (opening : Opening) (past : List Entry) (e : PacketInput) (s : Staged) →
     due opening past e ≡ Some s
     → IsDueStart (is_on past) (last_run opening past) (staged_run opening past) (work opening past)
     (request_of opening.me e) s

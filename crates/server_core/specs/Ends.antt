@@ -13,7 +13,7 @@ use Rattle.disk_model.specs.Notes.{Note}
 use Rattle.disk_model.specs.Steps.{Steps}
 use Rattle.messages.specs.FramesOf.{spelled_frames}
 use Rattle.messages.specs.Laws.{IsPacket}
-use Rattle.server_core.specs.declared.event.Event.{Event}
+use Rattle.server_core.specs.Inputs.{PacketInput}
 use Rattle.server_core.specs.declared.outs.Outs.{Outs}
 use Rattle.server_core.specs.declared.packet_server.PacketServer.{PacketServer}
 use Rattle.server_core.specs.History.{Opening, Entry, Met, Restart}
@@ -66,13 +66,13 @@ Starts note run old new (Ok outs) =
     × MachineIs new.machine (begun_by words s))
 Starts note run old new (Err fault) = Unstarted note run (sort_of fault) fault old new
 
--- What an answered event leaves in the list: a Start that is due was saved.
-abbrev pub answered_entry : Opening → List Entry → Event → Entry
+-- What an answered input leaves in the list: a Start that is due was saved.
+abbrev pub answered_entry : Opening → List Entry → PacketInput → Entry
 answered_entry opening past e = Met e (saved_for (due opening past e))
 
 -- What is answered and sent is what the list says; and where what came before keeps its ranges, the
 -- packets that are sent keep theirs, and their frames are few and short.
-pub record Sends (opening : Opening) (past : List Entry) (e : Event) (outs : Outs) : Type 0 where
+pub record Sends (opening : Opening) (past : List Entry) (e : PacketInput) (outs : Outs) : Type 0 where
   pub frames_are : outs.frames
       ≡ flat_map spelled_frames (packets opening past (answered_entry opening past e))
   pub issue_is : outs.issue ≡ issue opening past e
@@ -81,10 +81,10 @@ pub record Sends (opening : Opening) (past : List Entry) (e : Event) (outs : Out
   pub ranges : OpensInRange opening → CameInRange past
       → AllByRecursion IsPacket (packets opening past (answered_entry opening past e))
 
--- The steps of a server that takes packets: its note, what its list says of an event, and what is
--- answered and sent. A refused event leaves it as it was.
+-- The steps of a server that takes packets: its note, what its list says of an input, and what is
+-- answered and sent. A refused input leaves it as it was.
 abbrev pub steps : {T : Type 0} → (T → Note) → Opening →
-    Steps (PacketServer T) Event Entry Staged Outs
+    Steps (PacketServer T) PacketInput Entry Staged Outs
 steps note opening = record {
   note = λ server. note server.durable.notes;
   StandsFor = λ past server. StandsFor note server opening past;

@@ -13,9 +13,9 @@ use Rattle.messages.specs.declared.refusal.Asked.TheVariants as asks
 use Rattle.messages.specs.declared.refusal.Reason.TheVariants as reasons
 use Rattle.disk_model.specs.declared.left.Left.{Left}
 use Rattle.disk_model.specs.declared.left.Left.TheVariants.{NoSave, Saved, LostNew, LostOld}
-use Rattle.server_core.specs.declared.event.Event.{Event}
-use Rattle.server_core.specs.declared.event.Event.TheVariants.{Deliver, Issue, WriteDone}
-use Rattle.server_core.specs.declared.event.WriteEnd.TheVariants.{Done, Failed}
+use Rattle.server_core.specs.Inputs.{PacketInput}
+use Rattle.server_core.specs.declared.input.Input.TheVariants.{Deliver, Issue, WriteDone}
+use Rattle.server_core.specs.declared.input.WriteEnd.TheVariants.{Done, Failed}
 use Rattle.server_core.specs.History.{Opening, Entry, Met, Cut, Restart}
 use Rattle.server_core.specs.Words.{due}
 use Rattle.server_core.specs.Taken.{state_taken}
@@ -35,37 +35,37 @@ abbrev pub reading_text : List ℕ
 reading_text = codes "[a]\nrw=read\nbs=512\nsize=1k\niodepth=2\nverify_state_load=1\n"
 
 -- The client says this to server 0.
-abbrev pub client_says : Body → Event
+abbrev pub client_says : Body → PacketInput
 client_says b = Deliver (record { from = Client; to = Server 0; body = b })
 
--- An event that is answered: it saves where it has something to save.
-abbrev pub answered_entry : List Entry → Event → Entry
+-- An input that is answered: it saves where it has something to save.
+abbrev pub answered_entry : List Entry → PacketInput → Entry
 answered_entry past e = Met e (if is_some (due blank past e) then Saved else NoSave)
 
--- The list of these events, the newest first, behind these entries.
-abbrev pub with_events : List Entry → List Event → List Entry
-with_events past [] = past
-with_events past (e ∷ events) = answered_entry (with_events past events) e ∷ with_events past events
+-- The list of these inputs, the newest first, behind these entries.
+abbrev pub with_inputs : List Entry → List PacketInput → List Entry
+with_inputs past [] = past
+with_inputs past (e ∷ es) = answered_entry (with_inputs past es) e ∷ with_inputs past es
 
--- What is sent in answer to an event.
-abbrev pub sent_bodies : List Entry → Event → List Body
+-- What is sent in answer to an input.
+abbrev pub sent_bodies : List Entry → PacketInput → List Body
 sent_bodies past e = map (λ p. p.body) (packets blank past (answered_entry past e))
 
 -- The client asks to stage run 1.
-abbrev pub stage : Event
+abbrev pub stage : PacketInput
 stage = client_says (bodies.Jobs 1 writing_text)
 
 -- It asks to start it.
-abbrev pub start : Event
+abbrev pub start : PacketInput
 start = client_says (bodies.Start 1)
 
 -- It asks to check it, in attempt 1.
-abbrev pub verify : Event
+abbrev pub verify : PacketInput
 verify = client_says (bodies.Verify 1 1 reading_text)
 
 -- The server was restarted, and run 1 was staged.
 abbrev pub after_stage : List Entry
-after_stage = with_events (Restart Saved ∷ []) (stage ∷ [])
+after_stage = with_inputs (Restart Saved ∷ []) (stage ∷ [])
 
 -- The save of its Start failed, and the server was restarted.
 abbrev pub after_lost_start : Left → List Entry
@@ -73,7 +73,7 @@ after_lost_start left = Restart Saved ∷ (Met start left ∷ after_stage)
 
 -- Or it was started.
 abbrev pub after_start : List Entry
-after_start = with_events after_stage (start ∷ [])
+after_start = with_inputs after_stage (start ∷ [])
 
 -- The ticket of write k of run 1, in boot 1.
 abbrev pub ticket : ℕ → Ticket
@@ -81,18 +81,18 @@ ticket k = record { boot = 1; key = record { run = 1; server = 0; job = 0 }; seq
 
 -- Both writes were issued, and the first is done.
 abbrev pub after_writes : List Entry
-after_writes = with_events after_start (WriteDone (ticket 0) Done ∷ Issue 0 ∷ Issue 0 ∷ [])
+after_writes = with_inputs after_start (WriteDone (ticket 0) Done ∷ Issue 0 ∷ Issue 0 ∷ [])
 
 -- The server was then cut off and restarted.
 abbrev pub after_cut : List Entry
 after_cut = Restart Saved ∷ (Cut ∷ after_writes)
 
 -- A Trigger that asks for the cut.
-abbrev pub trigger : Event
+abbrev pub trigger : PacketInput
 trigger = client_says (bodies.Trigger 1 acts.Cut)
 
 -- The client tells that the state is kept.
-abbrev pub mark : Event
+abbrev pub mark : PacketInput
 mark = client_says (bodies.StateAck 1 0)
 
 -- Run 1 is staged and started, and its writes are issued in turn.
@@ -108,13 +108,13 @@ pub record StartsAndIssues : Type 0 where
 pub record TakesOnce : Type 0 where
   pub counts :
       option_map (λ (s : SavedState). s.counted)
-      (state_taken blank (with_events after_writes (trigger ∷ [])) 0)
+      (state_taken blank (with_inputs after_writes (trigger ∷ [])) 0)
       ≡ Some (0 ∷ [])
   pub stays :
-      sent_bodies (with_events after_writes (WriteDone (ticket 1) Done ∷ trigger ∷ [])) trigger
+      sent_bodies (with_inputs after_writes (WriteDone (ticket 1) Done ∷ trigger ∷ [])) trigger
       ≡ sent_bodies after_writes trigger
-  pub cut : act blank (with_events after_writes (trigger ∷ [])) mark ≡ acts.Cut
-  pub once : act blank (with_events after_writes (mark ∷ trigger ∷ [])) mark ≡ acts.None
+  pub cut : act blank (with_inputs after_writes (trigger ∷ [])) mark ≡ acts.Cut
+  pub once : act blank (with_inputs after_writes (mark ∷ trigger ∷ [])) mark ≡ acts.None
 
 -- Behind a cut and a restart the run is gone, its Start is old, and its tickets are of an older
 -- boot.
@@ -128,7 +128,7 @@ pub record ForgetsByACut : Type 0 where
 pub record SavesBeforeItStarts : Type 0 where
   pub unsaved : sent_bodies (after_lost_start LostOld) start
       ≡ refuse asks.Start reasons.NoJobs 1 0 0
-  pub staged_again : sent_bodies (with_events (after_lost_start LostOld) (stage ∷ [])) start
+  pub staged_again : sent_bodies (with_inputs (after_lost_start LostOld) (stage ∷ [])) start
       ≡ bodies.Started 1 ∷ []
   pub saved : sent_bodies (after_lost_start LostNew) start ≡ refuse asks.Start reasons.Old 1 0 1
 
@@ -136,19 +136,19 @@ pub record SavesBeforeItStarts : Type 0 where
 pub record StopsForGood : Type 0 where
   pub stopped : sent_bodies after_start (client_says (bodies.Stop 1)) ≡ bodies.Stopped 1 ∷ []
   pub gone :
-      sent_bodies (with_events after_start (client_says (bodies.Stop 1) ∷ [])) trigger
+      sent_bodies (with_inputs after_start (client_says (bodies.Stop 1) ∷ [])) trigger
       ≡ refuse asks.Trigger reasons.Gone 1 0 1
   pub issues_none :
-      issue blank (with_events after_start (client_says (bodies.Stop 1) ∷ [])) (Issue 0)
+      issue blank (with_inputs after_start (client_says (bodies.Stop 1) ∷ [])) (Issue 0)
       ≡ Some issues.Stopped
 
 -- A Verify waits for the open writes, of which a failed one is none; it wants a state where the job
 -- loads one; a run above the last is unknown; writing jobs are of the wrong phase.
 pub record ChecksTheLastRun : Type 0 where
-  pub busy : sent_bodies (with_events after_start (Issue 0 ∷ [])) verify
+  pub busy : sent_bodies (with_inputs after_start (Issue 0 ∷ [])) verify
       ≡ refuse asks.Verify reasons.Busy 1 1 0
   pub wants :
-      sent_bodies (with_events after_start (WriteDone (ticket 0) Failed ∷ Issue 0 ∷ [])) verify
+      sent_bodies (with_inputs after_start (WriteDone (ticket 0) Failed ∷ Issue 0 ∷ [])) verify
       ≡ bodies.WantState 1 1 0 ∷ []
   pub unknown :
       sent_bodies after_start (client_says (bodies.Verify 2 1 reading_text))
@@ -164,15 +164,15 @@ other = codes "[a]\nrw=read\nbs=1k\nsize=1k\nverify_state_load=1\n"
 -- Run 1 was taken, the server was cut and restarted, and a check by these jobs is open.
 abbrev pub after_verify : List ℕ → List Entry
 after_verify text =
-    with_events (Restart Saved ∷ (Cut ∷ with_events after_writes (trigger ∷ [])))
+    with_inputs (Restart Saved ∷ (Cut ∷ with_inputs after_writes (trigger ∷ [])))
     (client_says (bodies.Verify 1 1 text) ∷ [])
 
 -- The state that was taken.
 abbrev pub taken_state : Option SavedState
-taken_state = state_taken blank (with_events after_writes (trigger ∷ [])) 0
+taken_state = state_taken blank (with_inputs after_writes (trigger ∷ [])) 0
 
 -- The client sends a state for attempt 1.
-abbrev pub sent_state : SavedState → Event
+abbrev pub sent_state : SavedState → PacketInput
 sent_state state = client_says (bodies.Saved 1 state)
 
 -- A state of another job's blocks is refused, with the misfit's number.
@@ -190,5 +190,5 @@ pub record RefusesAMisfit : Type 0 where
       })
       ∷ [])
   pub once :
-      option_map (λ s. sent_bodies (with_events (after_verify other) (sent_state s ∷ []))
+      option_map (λ s. sent_bodies (with_inputs (after_verify other) (sent_state s ∷ []))
       (sent_state s)) taken_state ≡ Some []

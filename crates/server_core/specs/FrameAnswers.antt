@@ -9,8 +9,7 @@ use Rattle.messages.specs.declared.frame.Frame.{Frame}
 use Rattle.messages.specs.Hearing.{entry_of, frames_by}
 use Rattle.messages.specs.Senses as senses
 use Rattle.messages.specs.Senses.{Sense, refusal_of_sense, heard_or}
-use Rattle.server_core.specs.declared.event.Event.{Event}
-use Rattle.server_core.specs.declared.input.Input.{Input}
+use Rattle.server_core.specs.Inputs.{PacketInput, FrameInput}
 use Rattle.server_core.specs.declared.input.Input.TheVariants.{Deliver}
 use Rattle.server_core.specs.History as history
 use Rattle.server_core.specs.History.{Opening}
@@ -20,16 +19,16 @@ use Rattle.server_core.specs.Answers as answers
 use Rattle.server_core.specs.Hearing.{FrameEntry, Met, rules, arrival, coming_of, heard_at, packets_heard}
 
 -- What comes is to a server that has heard this list.
-abbrev pub sense : Opening → List FrameEntry → Input → Sense Event
+abbrev pub sense : Opening → List FrameEntry → FrameInput → Sense PacketInput
 sense opening past e = senses.sense (rules opening) (heard_at opening past) (arrival e)
 
 -- Why what comes is refused, if it is.
-abbrev pub refusal : Opening → List FrameEntry → Input → Option Fault
+abbrev pub refusal : Opening → List FrameEntry → FrameInput → Option Fault
 refusal opening past e =
     refusal_of_sense (rules opening) (packets_heard opening past) (sense opening past e)
 
 -- The run that what comes is due to record: only what is heard is.
-abbrev pub due : Opening → List FrameEntry → Input → Option Staged
+abbrev pub due : Opening → List FrameEntry → FrameInput → Option Staged
 due opening past e = heard_or None (words.due opening (packets_heard opening past))
     (sense opening past e)
 
@@ -38,17 +37,17 @@ abbrev pub would_save : Opening → List FrameEntry → Frame → Bool
 would_save opening past f = is_some (due opening past (Deliver f))
 
 -- What is answered of writes: only what is heard is answered so.
-abbrev pub issue : Opening → List FrameEntry → Input → Option Answer
+abbrev pub issue : Opening → List FrameEntry → FrameInput → Option Answer
 issue opening past e = heard_or None (answers.issue opening (packets_heard opening past))
     (sense opening past e)
 
 -- What the caller is asked to do: only what is heard asks anything.
-abbrev pub act : Opening → List FrameEntry → Input → Act
+abbrev pub act : Opening → List FrameEntry → FrameInput → Act
 act opening past e = heard_or acts.None (answers.act opening (packets_heard opening past))
     (sense opening past e)
 
 -- What an answered input leaves in the list: a Start that is due was saved.
-abbrev pub answered_entry : Opening → List FrameEntry → Input → FrameEntry
+abbrev pub answered_entry : Opening → List FrameEntry → FrameInput → FrameEntry
 answered_entry opening past e = Met e (saved_for (due opening past e))
 
 -- The entry that is heard of what happens.

@@ -8,8 +8,7 @@ use Rattle.messages.specs.FrameBytes.{frame_spelling}
 use Rattle.hearing.specs.Hearers as hearers
 use Rattle.hearing.specs.Nodes as nodes
 use Rattle.hearing.specs.Nodes.{Node}
-use Rattle.server_core.specs.declared.event.Event.{Event}
-use Rattle.server_core.specs.declared.input.Input.{Input}
+use Rattle.server_core.specs.Inputs.{PacketInput, FrameInput}
 use Rattle.server_core.specs.declared.outs.Outs.{Outs}
 use Rattle.server_core.specs.declared.packet_server.PacketServer.{PacketServer}
 use Rattle.server_core.specs.declared.server.Server.{Server}
@@ -37,7 +36,7 @@ StandsFor note server opening past =
 
 -- What is answered and sent is what the list says; and where the packets that were heard keep their
 -- ranges, the frames are few and short.
-pub record Sends (opening : Opening) (past : List FrameEntry) (e : Input)
+pub record Sends (opening : Opening) (past : List FrameEntry) (e : FrameInput)
     (outs : Outs) : Type 0 where
   pub frames_are : outs.frames
       ≡ map frame_spelling (frames opening past (answered_entry opening past e))
@@ -47,7 +46,7 @@ pub record Sends (opening : Opening) (past : List FrameEntry) (e : Input)
 
 -- A server as a node whose core hears frames.
 abbrev pub server_node : {T : Type 0} → (T → Note) → Opening →
-    Node (Server T) Input FrameEntry (PacketServer T) Event Entry Staged Outs
+    Node (Server T) FrameInput FrameEntry (PacketServer T) PacketInput Entry Staged Outs
 server_node note opening = record {
   kind = hearing_kind note opening;
   hearer = λ server. server.hearer;
@@ -60,7 +59,7 @@ server_node note opening = record {
 -- The steps of a server: its note, what its list says of what comes, and what is answered and sent.
 -- What is refused leaves it as it was, but where it drops a tag: that alone changes.
 abbrev pub steps : {T : Type 0} → (T → Note) → Opening →
-    Steps (Server T) Input FrameEntry Staged Outs
+    Steps (Server T) FrameInput FrameEntry Staged Outs
 steps note opening = nodes.steps (server_node note opening)
 
 -- For each list whose words the note said, the server stands for it with the restart. The note said

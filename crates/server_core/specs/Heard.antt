@@ -4,8 +4,8 @@ use Rattle.verify_state.specs.State.{State}
 use Rattle.messages.specs.declared.body.Body.TheVariants.{Saved, StateAck}
 use Rattle.messages.specs.declared.node.Node.TheVariants.{Server, Client}
 use Rattle.messages.specs.declared.packet.PacketParts.{PacketParts}
-use Rattle.server_core.specs.declared.event.Event.{Event}
-use Rattle.server_core.specs.declared.event.Event.TheVariants.{Deliver, Issue, WriteDone, CheckDone}
+use Rattle.server_core.specs.Inputs.{PacketInput}
+use Rattle.server_core.specs.declared.input.Input.TheVariants.{Deliver, Issue, WriteDone, CheckDone}
 use Rattle.server_core.specs.History.{Opening, Entry, Met, Cut, Restart}
 use Rattle.server_core.specs.Words.{last_run, work}
 use Rattle.server_core.specs.Run.{Work, halt_of}
@@ -13,8 +13,8 @@ use Rattle.server_core.specs.Answers.{wants_cut, check_job}
 use Rattle.job_file.specs.declared.job.Job.{Job}
 use Rattle.verify_state.specs.Misfit.{misfit}
 
--- The packet of an event that delivers one, before older ones.
-abbrev pub heard_with : Event → List PacketParts → List PacketParts
+-- The packet of an input that delivers one, before older ones.
+abbrev pub heard_with : PacketInput → List PacketParts → List PacketParts
 heard_with (Deliver p) older = p ∷ older
 heard_with (Issue j) older = older
 heard_with (WriteDone ticket end) older = older
@@ -39,9 +39,9 @@ pub record IsHeard (opening : Opening) (past : List Entry) (j : ℕ) (state : St
       Contains (heard_packets past)
       (record { from = Client; to = Server opening.me; body = Saved attempt state })
 
--- The present run was taken by a Trigger that asks for the cut, and with this event the client has
+-- The present run was taken by a Trigger that asks for the cut, and with this input the client has
 -- told of each of its jobs that its state is kept, or needn't be.
-pub record AreStatesKept (opening : Opening) (past : List Entry) (e : Event) : Type 0 where
+pub record AreStatesKept (opening : Opening) (past : List Entry) (e : PacketInput) : Type 0 where
   pub now : Work
   pub works : work opening past ≡ Some now
   pub wants : wants_cut (halt_of now.run now.since) ≡ true

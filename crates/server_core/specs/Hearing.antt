@@ -7,9 +7,8 @@ use Rattle.messages.specs.Assemblies.{Row}
 use Rattle.messages.specs.Hearing.{Rules, Heard, Coming, Happens, heard}
 use Rattle.messages.specs.Senses.{Arrival, Framed, Unframed, coming}
 use Rattle.disk_model.specs.declared.left.Left.{Left}
-use Rattle.server_core.specs.declared.event.Event.{Event}
-use Rattle.server_core.specs.declared.event.Event.TheVariants as events
-use Rattle.server_core.specs.declared.input.Input.{Input}
+use Rattle.server_core.specs.Inputs.{PacketInput, FrameInput}
+use Rattle.server_core.specs.declared.input.Input.TheVariants as inputs
 use Rattle.server_core.specs.declared.input.Input.TheVariants.{Deliver, Issue, WriteDone, CheckDone}
 use Rattle.server_core.specs.History as history
 use Rattle.server_core.specs.History.{Opening}
@@ -18,7 +17,7 @@ use Rattle.server_core.specs.Answers.{refusal}
 
 -- What came to a server, with what its save left; a cut; a restart with what its save left.
 pub data FrameEntry : Type 0 where
-  Met : Input → Left → FrameEntry
+  Met : FrameInput → Left → FrameEntry
   Cut : FrameEntry
   Restart : Left → FrameEntry
 
@@ -33,9 +32,9 @@ is_end history.Cut = true
 is_end (history.Restart left) = true
 
 -- How a server hears.
-abbrev pub rules : Opening → Rules Event history.Entry Left
+abbrev pub rules : Opening → Rules PacketInput history.Entry Left
 rules opening = record {
-  delivers = events.Deliver;
+  delivers = inputs.Deliver;
   met = history.Met;
   refusal = refusal opening;
   is_on = is_on;
@@ -43,12 +42,12 @@ rules opening = record {
   ends = is_end;
 }
 
--- What comes to a server is a frame, or an event past the network.
-abbrev pub arrival : Input → Arrival Event
+-- What comes to a server is a frame, or an input past the network.
+abbrev pub arrival : FrameInput → Arrival PacketInput
 arrival (Deliver f) = Framed f
-arrival (Issue j) = Unframed (events.Issue j)
-arrival (WriteDone ticket end) = Unframed (events.WriteDone ticket end)
-arrival (CheckDone boot a j report) = Unframed (events.CheckDone boot a j report)
+arrival (Issue j) = Unframed (inputs.Issue j)
+arrival (WriteDone ticket end) = Unframed (inputs.WriteDone ticket end)
+arrival (CheckDone boot a j report) = Unframed (inputs.CheckDone boot a j report)
 
 -- What happens to a server, in the terms of hearing.
 abbrev pub coming_of : FrameEntry → Coming history.Entry Left

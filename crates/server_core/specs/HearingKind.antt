@@ -2,8 +2,8 @@
 use Rattle.std.specs.Prelude.{refl, []}
 use Rattle.disk_model.specs.Notes.{Note}
 use Rattle.hearing.specs.Hearers.{Kind, Laws}
-use Rattle.server_core.specs.declared.event.Event.{Event}
-use Rattle.server_core.specs.declared.event.Event.TheVariants.{Deliver}
+use Rattle.server_core.specs.Inputs.{PacketInput}
+use Rattle.server_core.specs.declared.input.Input.TheVariants.{Deliver}
 use Rattle.server_core.specs.declared.outs.Outs.{Outs}
 use Rattle.server_core.specs.declared.packet_server.PacketServer.{PacketServer}
 use Rattle.server_core.specs.History.{Opening, Entry}
@@ -15,7 +15,7 @@ use Rattle.server_core.specs.Ranges.{IsInRange}
 
 -- The kind of the core of a server that was opened so.
 abbrev pub hearing_kind : {T : Type 0} → (T → Note) → Opening →
-    Kind (PacketServer T) Event Entry Staged Outs
+    Kind (PacketServer T) PacketInput Entry Staged Outs
 hearing_kind note opening = record {
   core = steps note opening;
   delivers = Deliver;

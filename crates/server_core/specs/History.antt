@@ -1,7 +1,7 @@
 -- What a server is opened with, and the list of what came to it since, the newest first.
 use Rattle.std.specs.Prelude.{ℕ}
 use Rattle.disk_model.specs.declared.left.Left.{Left}
-use Rattle.server_core.specs.declared.event.Event.{Event}
+use Rattle.server_core.specs.Inputs.{PacketInput}
 
 -- A server's number, and what its note says at the opening: the boot and the last run.
 pub record Opening : Type 0 where
@@ -9,8 +9,8 @@ pub record Opening : Type 0 where
   pub boot : ℕ
   pub last : ℕ
 
--- An event with what its save left in the note; a cut; a restart with what its save left.
+-- An input with what its save left in the note; a cut; a restart with what its save left.
 pub data Entry : Type 0 where
-  Met : Event → Left → Entry
+  Met : PacketInput → Left → Entry
   Cut : Entry
   Restart : Left → Entry

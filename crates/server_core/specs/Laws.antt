@@ -17,7 +17,7 @@ use Rattle.messages.specs.declared.body.Body.TheVariants as bodies
 use Rattle.messages.specs.declared.packet.PacketParts.{PacketParts}
 use Rattle.messages.specs.Laws.{IsPacket}
 use Rattle.messages.specs.declared.refusal.Act.TheVariants as acts
-use Rattle.server_core.specs.declared.event.Event.{Event}
+use Rattle.server_core.specs.Inputs.{PacketInput}
 use Rattle.server_core.specs.History.{Opening, Entry, Met}
 use Rattle.server_core.specs.Request.{Request, request_of}
 use Rattle.server_core.specs.Texts.{jobs_for}
@@ -41,7 +41,7 @@ NumbersGrow =
 -- once.
 abbrev pub StartsOnce : Type 0
 StartsOnce =
-    (opening : Opening) (older between : List Entry) (e f : Event) (left : Left) (s t : Staged) →
+    (opening : Opening) (older between : List Entry) (e f : PacketInput) (left : Left) (s t : Staged) →
     has_new left ≡ true → due opening older e ≡ Some s
     → due opening (between ++ Met e left ∷ older) f ≡ Some t → s.run < t.run
 
@@ -176,7 +176,7 @@ gives_write (Some answer) = is_write answer
 -- that one.
 abbrev pub QuietWhileLast : Type 0
 QuietWhileLast =
-    (opening : Opening) (older between : List Entry) (trigger e : Event) (was : Left) (run j : ℕ)
+    (opening : Opening) (older between : List Entry) (trigger e : PacketInput) (was : Left) (run j : ℕ)
     (state : State) →
     takes run j (request_of opening.me trigger) (work opening older) ≡ Some state
     → last_run opening (between ++ Met trigger was ∷ older) ≡ run
@@ -186,7 +186,7 @@ QuietWhileLast =
 -- write is issued, of any job or run.
 abbrev pub QuietUntilChecked : Type 0
 QuietUntilChecked =
-    (opening : Opening) (older between newer : List Entry) (trigger e : Event) (was left : Left)
+    (opening : Opening) (older between newer : List Entry) (trigger e : PacketInput) (was left : Left)
     (run j i : ℕ) (state with_it : State) →
     takes run j (request_of opening.me trigger) (work opening older) ≡ Some state
     → progress opening (newer ++ Met e left ∷ (between ++ Met trigger was ∷ older)) i
@@ -204,10 +204,10 @@ WithWasHeard =
 -- A server asks for the cut only once the client has told of each job of the run that its state is
 -- kept.
 abbrev pub CutsWhenKept : Type 0
-CutsWhenKept = (opening : Opening) (past : List Entry) (e : Event) → act opening past e ≡ acts.Cut
+CutsWhenKept = (opening : Opening) (past : List Entry) (e : PacketInput) → act opening past e ≡ acts.Cut
     → AreStatesKept opening past e
 
--- A server sends at most 16 packets in answer to one event.
+-- A server sends at most 16 packets in answer to one input.
 abbrev pub PacketsAreFew : Type 0
 PacketsAreFew = (opening : Opening) (past : List Entry) (e : Entry) →
     length (packets opening past e) ≤ MAX_JOBS

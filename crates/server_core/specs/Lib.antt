@@ -1,5 +1,6 @@
 -- What came, and what it asks.
 pub mod History
+pub mod Inputs
 pub mod Request
 pub mod Texts
 -- The words of a server.

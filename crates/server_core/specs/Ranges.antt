@@ -3,12 +3,12 @@ use Rattle.std.specs.Prelude.{◌<◌, ◌^◌, List, [], ◌∷◌, IsTrue}
 use Rattle.fc_base.specs.declared.limits.TheConstants.{MAX_SERVERS}
 use Rattle.fc_base.specs.Report.{is_report}
 use Rattle.messages.specs.Laws.{IsPacket}
-use Rattle.server_core.specs.declared.event.Event.{Event}
-use Rattle.server_core.specs.declared.event.Event.TheVariants.{Deliver, Issue, WriteDone, CheckDone}
+use Rattle.server_core.specs.Inputs.{PacketInput}
+use Rattle.server_core.specs.declared.input.Input.TheVariants.{Deliver, Issue, WriteDone, CheckDone}
 use Rattle.server_core.specs.History.{Opening, Entry, Met, Cut, Restart}
 
 -- A packet that comes is within its ranges, and so is the report of a check.
-abbrev pub IsInRange : Event → Type 0
+abbrev pub IsInRange : PacketInput → Type 0
 IsInRange (Deliver p) = IsPacket p
 IsInRange (Issue j) = Unit {0}
 IsInRange (WriteDone ticket end) = Unit {0}

@@ -1,4 +1,4 @@
--- What an event asks of a server.
+-- What an input asks of a server.
 use Rattle.std.specs.Prelude.{ℕ, ◌&&◌, List, if◌then◌else◌}
 use Rattle.fc_base.specs.declared.report.ReportParts.{ReportParts}
 use Rattle.verify_state.specs.State.{State}
@@ -7,11 +7,11 @@ use Rattle.messages.specs.Nodes.{is_client, is_server}
 use Rattle.messages.specs.declared.body.Body.{Body}
 use Rattle.messages.specs.declared.body.Body.TheVariants as bodies
 use Rattle.messages.specs.declared.refusal.Act.{Act}
-use Rattle.server_core.specs.declared.event.Event.{Event}
-use Rattle.server_core.specs.declared.event.Event.TheVariants.{Deliver, Issue, WriteDone, CheckDone}
-use Rattle.server_core.specs.declared.event.WriteEnd.{WriteEnd}
+use Rattle.server_core.specs.Inputs.{PacketInput}
+use Rattle.server_core.specs.declared.input.Input.TheVariants.{Deliver, Issue, WriteDone, CheckDone}
+use Rattle.server_core.specs.declared.input.WriteEnd.{WriteEnd}
 
--- What an event asks of a server, where it is for it.
+-- What an input asks of a server, where it is for it.
 pub data Request : Type 0 where
   ToStage : ℕ → List ℕ → Request  -- this text for this run
   ToStart : ℕ → Request  -- this run
@@ -39,9 +39,9 @@ request_in (bodies.Saved attempt state) = ToHold attempt state
 request_in (bodies.NoSaved run attempt job) = ToPassFully attempt job
 request_in _ = ToNobody
 
--- What an event asks of the server with this number. A packet that isn't for it, or isn't from the
+-- What an input asks of the server with this number. A packet that isn't for it, or isn't from the
 -- client, asks nothing.
-abbrev pub request_of : ℕ → Event → Request
+abbrev pub request_of : ℕ → PacketInput → Request
 request_of me (Deliver p) =
     if is_client p.from && is_server me p.to then request_in p.body else ToNobody
 request_of me (Issue job) = ToIssue job

@@ -10,8 +10,8 @@ use Rattle.engine.specs.declared.issue.Issue.{Issue}
 use Rattle.engine.specs.declared.issue.Issue.TheVariants as issues
 use Rattle.engine.specs.Running.{Origin}
 use Rattle.engine.specs.Answers.{answer_to, ticket_answer, has_ended}
-use Rattle.server_core.specs.declared.event.WriteEnd.{WriteEnd}
-use Rattle.server_core.specs.declared.event.WriteEnd.TheVariants.{Done, Failed}
+use Rattle.server_core.specs.declared.input.WriteEnd.{WriteEnd}
+use Rattle.server_core.specs.declared.input.WriteEnd.TheVariants.{Done, Failed}
 use Rattle.server_core.specs.Request.{Request, ToTrigger, ToStop, ToIssue, ToEnd}
 
 -- A run at work: the server and its boot, the run and its jobs, and what was asked since its Start

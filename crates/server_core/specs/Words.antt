@@ -3,7 +3,7 @@
 use Rattle.std.specs.Prelude.{ℕ, ◌+◌, ◌^◌, Bool, false, not, ◌&&◌, ◌==◌, nat_lt, List, [], ◌∷◌, Option, Some, None, Result, Ok, Err, if◌then◌else◌}
 use Rattle.job_file.specs.declared.job.Job.{Job}
 use Rattle.job_file.specs.declared.job.Phase.TheVariants.{Write}
-use Rattle.server_core.specs.declared.event.Event.{Event}
+use Rattle.server_core.specs.Inputs.{PacketInput}
 use Rattle.server_core.specs.declared.note.ServerNote.{ServerNote}
 use Rattle.disk_model.specs.declared.left.Left.{Left}
 use Rattle.disk_model.specs.declared.left.Left.TheVariants.{NoSave, Saved, LostNew, LostOld}
@@ -140,8 +140,8 @@ words_noted opening past = record { boot = boot opening past; last_run = last_ru
 abbrev pub staged_run : Opening → List Entry → Option Staged
 staged_run opening past = greatest (last_run opening past) (stagings opening past)
 
--- The run that an event is due to record.
-abbrev pub due : Opening → List Entry → Event → Option Staged
+-- The run that an input is due to record.
+abbrev pub due : Opening → List Entry → PacketInput → Option Staged
 due opening past e =
     due_by (is_on past) (last_run opening past) (staged_run opening past) (work opening past)
     (request_of opening.me e)

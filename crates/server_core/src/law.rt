@@ -95,7 +95,7 @@ pub fn cuts_when_kept()
     ensures { CutsWhenKept }
 {}
 
-/// A server sends at most 16 packets in answer to one event.
+/// A server sends at most 16 packets in answer to one input.
 pub fn few_packets()
     ensures { PacketsAreFew }
 {
@@ -110,7 +110,7 @@ pub fn packets_are_in_range()
     counting_law();
 }
 
-/// What a server sends in answer to one event is at most 16 frames of at most 1,073 bytes, where what came is within its
+/// What a server sends in answer to one input is at most 16 frames of at most 1,073 bytes, where what came is within its
 /// ranges.
 pub fn frames_are_short()
     ensures { FramesAreShort }
@@ -122,7 +122,7 @@ pub fn frames_are_short()
     messages::lengths_are_bounded();
 }
 
-/// Lists of events that can be followed by hand, and what a server answers in them.
+/// Lists of inputs that can be followed by hand, and what a server answers in them.
 pub fn examples()
     ensures starts { StartsAndIssues }
     ensures takes { TakesOnce }
@@ -133,7 +133,7 @@ pub fn examples()
     ensures misfits { RefusesAMisfit }
 {}
 
-/// The words behind one more event are read from the words before it: those behind a request that
+/// The words behind one more input are read from the words before it: those behind a request that
 /// records no run, and those behind a Start that has recorded one.
 pub fn words_follow()
     ensures requests { WordsFollow }

@@ -14,7 +14,6 @@
 #![tactic(auto)]
 
 mod check_law;
-mod event;
 mod input;
 mod job_run;
 mod law;
@@ -34,8 +33,7 @@ mod status;
 mod texts;
 
 pub use check_law::open_check_is_last;
-pub use event::{Event, WriteEnd};
-pub use input::Input;
+pub use input::{Input, WriteEnd};
 pub use law::{
     counts_the_done, cuts_when_kept, due_starts, examples, few_packets, frames_are_short,
     legal_histories, looks_at_all, numbers_grow, one_taking, packets_are_in_range, quiet,

@@ -12,7 +12,7 @@ mod start;
 mod take;
 mod verify;
 
-use crate::event::WriteEnd;
+use crate::input::WriteEnd;
 use crate::job_run::End;
 use crate::open_check::OpenCheck;
 use crate::replies::only;

@@ -2,13 +2,13 @@
 
 ghost use Rattle.std.specs.Prelude.{◌≡◌, ◌<◌, IsTrue, List, is_some};
 ghost use Rattle.fc_base.specs.declared.limits.TheConstants.{MAX_SERVERS};
-ghost use Rattle.server_core.specs.declared.event.Event.TheVariants.{Deliver};
+ghost use Rattle.server_core.specs.declared.input.Input.TheVariants.{Deliver};
 ghost use Rattle.server_core.specs.Ends.{IsRead};
 ghost use Rattle.messages.specs.Ranges.{is_run};
 
 mod packet_core;
 
-use crate::event::Event;
+use crate::input::Input;
 use crate::law::{frames_are_short, packets_are_in_range};
 use crate::machine::Machine;
 use crate::note::{ServerNote, one_note};
@@ -71,24 +71,24 @@ impl<N: Notes> PacketServer<N> {
         !self.durable.is_down() && self.machine.due_by(packet).is_some()
     }
 
-    /// Takes one event. A Start that is due is recorded before it is answered.
+    /// Takes what comes. A Start that is due is recorded before it is answered.
     ///
     /// `Down`: a save has failed, and nothing changes until the server is restarted. `NoMemory`:
     /// nothing changes. `SaveFault`: the device failed, and the server is down. Any other fault is a
     /// refusal, which changes nothing.
-    pub(crate) fn step(&mut self, event: Event) -> Result<Outs, Fault>
+    pub(crate) fn step(&mut self, input: Input<Packet>) -> Result<Outs, Fault>
         ensures { (opening : Opening) (past : List Entry) → StandsFor N.note self.old opening past →
-            Ends (steps N.note opening) past event self.old self.new result }
+            Ends (steps N.note opening) past input self.old self.new result }
     {
         if self.durable.is_down() {
             return Err(Fault::Down);
         }
-        event.keeps_its_ranges();
+        input.keeps_its_ranges();
         frames_are_short();
         packets_are_in_range();
-        match self.machine.due(&event) {
+        match self.machine.due(&input) {
             Some(run) => self.start(run),
-            None => self.machine.take(event),
+            None => self.machine.take(input),
         }
     }
 

@@ -10,7 +10,7 @@ ghost use Rattle.server_core.specs.Kept.{taken_kept, stopped_kept, act_of_end};
 
 mod replies;
 
-use crate::event::WriteEnd;
+use crate::input::WriteEnd;
 use crate::job_run::{End, JobRun, index_in, index_of};
 use engine::{Issue, Ticket};
 use fc_base::{Fault, JobNo, RunNo, Seq};

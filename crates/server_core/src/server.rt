@@ -6,8 +6,7 @@ ghost use Rattle.server_core.specs.declared.input.Input.TheVariants.{Deliver, Is
 
 mod look;
 
-use crate::event::{Event, WriteEnd};
-use crate::input::Input;
+use crate::input::{Input, WriteEnd};
 use crate::law::{frames_are_short, packets_are_in_range};
 use crate::outs::Outs;
 use crate::packet_server::PacketServer;
@@ -105,7 +104,7 @@ impl<N: Notes> Server<N> {
     /// which changes nothing.
     // Inlined with the way of writes alone, so that their caller makes no room for packets and frames.
     #[inline(always)]
-    pub fn step(&mut self, input: Input) -> Result<Outs, Fault>
+    pub fn step(&mut self, input: Input<Frame>) -> Result<Outs, Fault>
         ensures ends { (opening : Opening) (past : List FrameEntry) →
             StandsFor N.note self.old opening past →
             Ends (steps N.note opening) past input self.old self.new result }
@@ -185,7 +184,7 @@ impl<N: Notes> Server<N> {
             HearsInRange IsInRange (sense opening past (ToReport boot attempt job report)) result }
     {
         let _in_range = report.parts();
-        self.hearer.core.step(Event::CheckDone {
+        self.hearer.core.step(Input::CheckDone {
             boot,
             attempt,
             job,

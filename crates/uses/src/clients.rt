@@ -9,7 +9,7 @@ ghost use Rattle.client_core.specs.Hearing.{Restart, packets_heard};
 ghost use Rattle.client_core.specs.History.{Opening};
 ghost use Rattle.client_core.specs.Note.{Says, blank};
 ghost use Rattle.client_core.specs.Words.{words_noted};
-ghost use Rattle.client_core.specs.declared.input.Input.TheVariants.{Begin};
+ghost use Rattle.client_core.specs.Inputs.{Begin};
 
 use client_core::Client;
 use disk_model::MemNotes;

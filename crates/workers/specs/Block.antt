@@ -5,8 +5,8 @@ use Rattle.engine.specs.declared.issue.Ticket.{Ticket}
 use Rattle.disk_model.specs.File.{File}
 use Rattle.disk_model.specs.Disk.{IsWritten}
 use Rattle.write_order.specs.Stamps.{written_bytes}
-use Rattle.server_core.specs.declared.event.WriteEnd.{WriteEnd}
-use Rattle.server_core.specs.declared.event.WriteEnd.TheVariants.{Done, Failed}
+use Rattle.server_core.specs.declared.input.WriteEnd.{WriteEnd}
+use Rattle.server_core.specs.declared.input.WriteEnd.TheVariants.{Done, Failed}
 
 -- A write has ended so: it is done only where its block was written, in the epoch of the boot that
 -- issued it, with the bytes of that write.

@@ -2,7 +2,7 @@
 
 ghost use Rattle.std.specs.Prelude.{◌≡◌, length, IsSome};
 ghost use Rattle.fc_base.specs.declared.limits.TheConstants.{MAX_BLOCK_SIZE as BLOCK_SIZE};
-ghost use Rattle.server_core.specs.declared.event.WriteEnd.TheVariants.{Done};
+ghost use Rattle.server_core.specs.declared.input.WriteEnd.TheVariants.{Done};
 
 use crate::ended::Ended;
 use crate::lock::lock_file;

@@ -3,7 +3,7 @@
 ghost use Rattle.std.specs.Prelude.{◌≡◌, length};
 ghost use Rattle.disk_model.specs.File.{IsBlock};
 ghost use Rattle.write_order.specs.Stamps.{written_bytes};
-ghost use Rattle.server_core.specs.declared.event.WriteEnd.TheVariants.{Failed};
+ghost use Rattle.server_core.specs.declared.input.WriteEnd.TheVariants.{Failed};
 ghost use Rattle.workers.specs.Block.{Lands};
 
 use disk_model::Disk;

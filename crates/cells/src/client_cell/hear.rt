@@ -3,7 +3,7 @@
 ghost use Rattle.std.specs.Prelude.{◌≡◌, ◌<◌, false, List, length, None, IfErr};
 ghost use Rattle.std.specs.Option.{ForSome};
 ghost use Rattle.messages.specs.declared.node.Node.TheVariants.{Client};
-ghost use Rattle.client_core.specs.declared.input.Input.TheVariants.{Tick};
+ghost use Rattle.client_core.specs.Inputs.{Tick};
 ghost use Rattle.client_core.specs.Hearing.{FrameEntry};
 ghost use Rattle.cells.specs.Rules.{Meets};
 ghost use Rattle.cells.specs.declared.input.NodeInput.TheVariants as kinds;

@@ -3,7 +3,7 @@
 ghost use Rattle.messages.specs.declared.node.Node.TheVariants.{Client};
 ghost use Rattle.client_core.specs.History.{Opening as ClientOpening};
 ghost use Rattle.client_core.specs.Hearing.{FrameEntry};
-ghost use Rattle.client_core.specs.declared.input.Input.{Input as ClientInput};
+ghost use Rattle.client_core.specs.Inputs.{FrameInput as ClientInput};
 ghost use Rattle.cells.specs.ClientRules.{rules as client_rules};
 ghost use Rattle.cells.specs.ClientAsks.{asks_of};
 

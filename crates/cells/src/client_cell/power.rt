@@ -1,7 +1,7 @@
 //! What a client takes that has power, or none.
 
 ghost use Rattle.std.specs.Prelude.{◌≡◌, ◌≤◌, true, false, List};
-ghost use Rattle.client_core.specs.declared.input.Input.TheVariants as inputs;
+ghost use Rattle.client_core.specs.Inputs as inputs;
 ghost use Rattle.client_core.specs.History.{Opening};
 ghost use Rattle.client_core.specs.FrameEnds.{StandsFor, note_in};
 ghost use Rattle.client_core.specs.Hearing.{FrameEntry, is_up};

@@ -21,7 +21,7 @@ use crate::input::NodeInput;
 use disk_model::Notes;
 use fc_base::{Fault, MAX_JOBS};
 use hub::{Hub, frames_are_spelled};
-use messages::{Frames, MAX_FRAME, Node};
+use messages::{Frame, Frames, MAX_FRAME, Node};
 use server_core::{Input, Outs, packets_are_in_range};
 use std::alloc::Global;
 
@@ -46,7 +46,7 @@ impl<N: Notes + Drop> ServerCell<N> {
         hub: &mut Hub,
         came: NodeInput,
         taken: Option<u64>,
-        input: Input,
+        input: Input<Frame>,
     ) -> Result<CallerAnswer, Fault>
         requires taken { ForSome taken (λ i. i < length hub.old.net.frames) }
         requires asks { ask_of came ≡ Meets input }

@@ -3,7 +3,7 @@
 ghost use Rattle.messages.specs.declared.node.Node.TheVariants.{Server};
 ghost use Rattle.server_core.specs.History.{Opening as ServerOpening};
 ghost use Rattle.server_core.specs.Hearing.{FrameEntry};
-ghost use Rattle.server_core.specs.declared.input.Input.{Input as ServerInput};
+ghost use Rattle.server_core.specs.Inputs.{FrameInput as ServerInput};
 ghost use Rattle.cells.specs.ServerRules.{rules as server_rules};
 ghost use Rattle.cells.specs.ServerAsks.{asks_of};
 

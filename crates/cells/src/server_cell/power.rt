@@ -17,7 +17,7 @@ use crate::answer::{Answer, Reply};
 use disk_model::Notes;
 use engine::{Issue, Ticket};
 use fc_base::{Fault, JobNo, MAX_SERVERS, ServerNo};
-use messages::Act;
+use messages::{Act, Frame};
 use node_power::Power;
 use server_core::{Input, Outs, Server, WriteEnd, one_note};
 use std::alloc::Global;
@@ -25,7 +25,7 @@ use std::alloc::Global;
 /// Takes what comes. `NodeOff`: it isn't on, and nothing changes. Any other fault is the server's.
 pub(crate) fn step<N: Notes + Drop>(
     power: &mut Power<Server<N>, N>,
-    input: Input,
+    input: Input<Frame>,
 ) -> Result<Outs, Fault>
     ensures ends { (opening : Opening) (past : List FrameEntry) →
         Stands N.note opening past power.old →

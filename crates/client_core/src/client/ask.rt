@@ -2,7 +2,7 @@
 
 ghost use Rattle.std.specs.Prelude.{◌≡◌, List, is_some};
 ghost use Rattle.disk_model.specs.Steps.{Ends, EndsWithNumber};
-ghost use Rattle.client_core.specs.declared.input.Input.TheVariants as inputs;
+ghost use Rattle.client_core.specs.Inputs as inputs;
 ghost use Rattle.client_core.specs.History.{Opening};
 ghost use Rattle.client_core.specs.Words.{words_noted};
 ghost use Rattle.client_core.specs.Hearing.{FrameEntry, packets_heard};

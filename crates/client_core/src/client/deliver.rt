@@ -4,7 +4,7 @@ ghost use Rattle.std.specs.Prelude.{◌≡◌, List, IfOk, OnErr};
 ghost use Rattle.disk_model.specs.Steps.{Ends};
 ghost use Rattle.messages.specs.Senses.{HearsInRange};
 ghost use Rattle.messages.specs.declared.frame.Frame.TheVariants.{Piece as OfPiece};
-ghost use Rattle.client_core.specs.declared.input.Input.TheVariants.{Deliver};
+ghost use Rattle.client_core.specs.Inputs.{Deliver};
 ghost use Rattle.client_core.specs.History.{Opening};
 ghost use Rattle.client_core.specs.Hearing.{FrameEntry};
 ghost use Rattle.client_core.specs.FrameAnswers.{sense, would_save, IsPiece};

@@ -8,7 +8,7 @@ ghost use Rattle.messages.specs.Nodes.{node_number, is_client, is_mirror};
 ghost use Rattle.messages.specs.Ranges.{is_body, KeepsState};
 ghost use Rattle.messages.specs.Bodies.{kind_of};
 ghost use Rattle.messages.specs.Kinds.{is_of_mirror};
-ghost use Rattle.client_core.specs.declared.call.Call.TheVariants.{Deliver};
+ghost use Rattle.client_core.specs.Inputs.{Deliver};
 ghost use Rattle.client_core.specs.Ends.{steps};
 ghost use Rattle.client_core.specs.History.{Opening, Entry};
 ghost use Rattle.client_core.specs.Refusals.{refusal_by, faults_of_body};

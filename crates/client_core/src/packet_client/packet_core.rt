@@ -1,7 +1,7 @@
 //! A client to which packets come is a core over packets: with it, frames are heard.
 
 ghost use Rattle.std.specs.Prelude.{◌≡◌};
-ghost use Rattle.client_core.specs.declared.call.Call.{Call};
+ghost use Rattle.client_core.specs.Inputs.{PacketInput};
 ghost use Rattle.client_core.specs.History.{Opening as ClientOpening, Entry as ClientEntry};
 ghost use Rattle.client_core.specs.Saves.{Addition as ClientAddition};
 ghost use Rattle.client_core.specs.Hearing.{is_piece_for};
@@ -19,7 +19,7 @@ impl<N: Notes> PacketCore for PacketClient<N> {
 
     ghost Opening = { ClientOpening };
 
-    ghost Event = { Call };
+    ghost Input = { PacketInput };
 
     ghost Entry = { ClientEntry };
 

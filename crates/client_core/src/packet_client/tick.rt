@@ -2,7 +2,7 @@
 
 ghost use Rattle.std.specs.Prelude.{List};
 ghost use Rattle.disk_model.specs.Steps.{Ends};
-ghost use Rattle.client_core.specs.declared.call.Call.TheVariants.{Tick};
+ghost use Rattle.client_core.specs.Inputs.{Tick};
 ghost use Rattle.client_core.specs.Ends.{steps};
 ghost use Rattle.client_core.specs.History.{Opening, Entry};
 ghost use Rattle.client_core.specs.Stands.{StandsFor};

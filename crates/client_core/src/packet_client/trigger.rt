@@ -2,7 +2,7 @@
 
 ghost use Rattle.std.specs.Prelude.{◌≡◌, not, List, None, IsTrue};
 ghost use Rattle.disk_model.specs.Steps.{Ends};
-ghost use Rattle.client_core.specs.declared.call.Call.TheVariants.{Trigger, Stop};
+ghost use Rattle.client_core.specs.Inputs.{Trigger, Stop};
 ghost use Rattle.client_core.specs.Ends.{steps};
 ghost use Rattle.messages.specs.Ranges.{is_run};
 ghost use Rattle.client_core.specs.History.{Opening, Entry};

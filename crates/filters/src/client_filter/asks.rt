@@ -1,7 +1,7 @@
 //! What a record asks of the client, and what it answers.
 
 ghost use Rattle.std.specs.Prelude.{◌≡◌, List};
-ghost use Rattle.client_core.specs.declared.input.Input.TheVariants as inputs;
+ghost use Rattle.client_core.specs.Inputs as inputs;
 ghost use Rattle.client_core.specs.History.{Opening};
 ghost use Rattle.client_core.specs.Hearing.{FrameEntry};
 ghost use Rattle.client_core.specs.FrameEnds.{StandsFor};

@@ -2,7 +2,7 @@
 //! `NoMemory`: nothing changes.
 
 ghost use Rattle.std.specs.Prelude.{◌≡◌, Bool, List, Err, true, is_some, OnOk, IfErr};
-ghost use Rattle.client_core.specs.declared.input.Input.TheVariants as inputs;
+ghost use Rattle.client_core.specs.Inputs as inputs;
 ghost use Rattle.client_core.specs.History.{Opening};
 ghost use Rattle.client_core.specs.Hearing.{FrameEntry};
 ghost use Rattle.client_core.specs.FrameAnswers.{due};

@@ -1,6 +1,7 @@
 //! What comes to a server of a world.
 
 ghost use Rattle.std.specs.Prelude.{List};
+ghost use Rattle.server_core.specs.declared.input.Input.TheVariants.{WriteDone};
 ghost use Rattle.net_world.specs.Setup.{Setup};
 ghost use Rattle.net_world.specs.Changes.{Change};
 ghost use Rattle.net_world.specs.Stands.{StandsFor};
@@ -8,8 +9,10 @@ ghost use Rattle.net_world.specs.Serving.{ServerEnds};
 
 use super::World;
 use crate::served::Served;
+use engine::Ticket;
 use fc_base::{Fault, ServerNo};
-use server_core::{Input, Outs};
+use messages::{Act, Frame};
+use server_core::{Input, Outs, WriteEnd};
 
 impl World {
     /// Something comes to a server, whose frames are sent.
@@ -17,7 +20,7 @@ impl World {
     /// `NoServer`, `NodeOff`, `NoMemory`, or the server's own refusal.
     // Inlined with the way of writes, so that their caller makes no room for packets and frames.
     #[inline(always)]
-    pub(super) fn serve(&mut self, server: ServerNo, input: Input) -> Result<Served, Fault>
+    pub(super) fn serve(&mut self, server: ServerNo, input: Input<Frame>) -> Result<Served, Fault>
         ensures { (w : Setup) (past : List Change) → StandsFor w past self.old →
             ServerEnds w past server input self.new result }
     {
@@ -36,6 +39,34 @@ impl World {
             sent,
             issue,
             act,
+        })
+    }
+
+    /// The end of a write comes to a server, which sends nothing then. It ends as by `serve`.
+    #[inline(always)]
+    pub(super) fn serve_end(
+        &mut self,
+        server: ServerNo,
+        ticket: Ticket,
+        end: WriteEnd,
+    ) -> Result<Served, Fault>
+        ensures { (w : Setup) (past : List Change) → StandsFor w past self.old →
+            ServerEnds w past server (WriteDone ticket end) self.new result }
+    {
+        if !self.has_server(server) {
+            return Err(Fault::NoServer);
+        }
+        let Ok(first) = self.sent.settle() else {
+            return Err(Fault::NoMemory);
+        };
+        self.servers[server.0 as usize]
+            .on()?
+            .end_write(ticket, end)?;
+        Ok(Served {
+            first: first as u64,
+            sent: 0,
+            issue: None,
+            act: Act::None,
         })
     }
 }

@@ -41,7 +41,7 @@ impl World {
             Ends w past (happening_of_end end server job write) self.new result }
     {
         let found = self.open_write(server, job, write)?;
-        match self.serve(server, Input::WriteDone(found.0, end)) {
+        match self.serve_end(server, found.0, end) {
             Ok(served) => Ok(served.told(WorldAnswer::Plain)),
             Err(fault) => Err(fault),
         }

@@ -1,28 +1,28 @@
-//! One event, but a Start that is due to record a run.
+//! What comes, but for a Start that is due to record a run.
 
 ghost use Rattle.std.specs.Prelude.{◌≡◌, true};
 ghost use Rattle.messages.specs.Ranges.{is_body};
-ghost use Rattle.server_core.specs.declared.event.Event.TheVariants.{Deliver};
+ghost use Rattle.server_core.specs.declared.input.Input.TheVariants.{Deliver};
 ghost use Rattle.server_core.specs.Request.{request_of, request_in};
 ghost use Rattle.server_core.specs.Handles.{Handled, EachUndue};
 
 use super::Machine;
-use crate::event::Event;
+use crate::input::Input;
 use crate::outs::Outs;
 use fc_base::Fault;
 use messages::{Body, Packet, PacketParts};
 
 impl Machine {
-    /// Takes one event. A Start has to be one that isn't due to record a run.
-    pub(crate) fn take(&mut self, event: Event) -> Result<Outs, Fault>
-        ensures { EachUndue self.old (request_of self.old.me event)
-            (λ now. Handled now (request_of self.old.me event) self.old self.new result) }
+    /// Takes what comes. A Start has to be one that isn't due to record a run.
+    pub(crate) fn take(&mut self, input: Input<Packet>) -> Result<Outs, Fault>
+        ensures { EachUndue self.old (request_of self.old.me input)
+            (λ now. Handled now (request_of self.old.me input) self.old self.new result) }
     {
-        match event {
-            Event::Deliver(packet) => self.deliver(packet),
-            Event::Issue(job) => Outs::issued(self.alloc, Ok(self.issue(job))),
-            Event::WriteDone(ticket, end) => Outs::ended(self.alloc, self.end_write(ticket, end)),
-            Event::CheckDone {
+        match input {
+            Input::Deliver(packet) => self.deliver(packet),
+            Input::Issue(job) => Outs::issued(self.alloc, Ok(self.issue(job))),
+            Input::WriteDone(ticket, end) => Outs::ended(self.alloc, self.end_write(ticket, end)),
+            Input::CheckDone {
                 boot,
                 attempt,
                 job,

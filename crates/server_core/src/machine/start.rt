@@ -3,7 +3,7 @@
 ghost use Rattle.std.specs.Prelude.{◌≡◌, IsTrue, IfOk, OnErr, MatchOption, Err, Some, is_some, true};
 ghost use Rattle.fc_base.specs.declared.fault.Fault.TheVariants.{NoMemory};
 ghost use Rattle.messages.specs.Ranges.{is_run};
-ghost use Rattle.server_core.specs.declared.event.Event.TheVariants.{Deliver};
+ghost use Rattle.server_core.specs.declared.input.Input.TheVariants.{Deliver};
 ghost use Rattle.server_core.specs.Request.{ToStart, request_of};
 ghost use Rattle.server_core.specs.Words.{Staged, due_by};
 ghost use Rattle.server_core.specs.Replies.{present, replies};
@@ -14,7 +14,7 @@ ghost use Rattle.server_core.specs.WordsAfter.{IsDueFor, begun_by};
 ghost use Rattle.server_core.specs.InnerCalls.{lacks};
 
 use super::Machine;
-use crate::event::Event;
+use crate::input::Input;
 use crate::job_run::JobRun;
 use crate::replies::only;
 use fc_base::{Fault, RunNo};
@@ -22,14 +22,14 @@ use messages::{Asked, Body, Frames, Packet, Reason};
 use std::alloc::AllocError;
 
 impl Machine {
-    /// The run that an event is due to record, if there is one.
-    pub(crate) fn due(&self, event: &Event) -> Option<RunNo>
+    /// The run that what comes is due to record, if there is one.
+    pub(crate) fn due(&self, input: &Input<Packet>) -> Option<RunNo>
         ensures due { EachNow self.now
-            (λ now. IsDueFor now (request_of self.now.me event.now) result) }
+            (λ now. IsDueFor now (request_of self.now.me input.now) result) }
         ensures range { MatchOption result (Unit {0}) (λ run. IsTrue (is_run run)) }
     {
-        match event {
-            Event::Deliver(packet) => self.due_by(packet),
+        match input {
+            Input::Deliver(packet) => self.due_by(packet),
             _ => None,
         }
     }

@@ -1,14 +1,14 @@
 //! A server to which packets come is a core over packets: with it, frames are heard.
 
 ghost use Rattle.std.specs.Prelude.{◌≡◌};
-ghost use Rattle.server_core.specs.declared.event.Event.{Event as ServerEvent};
+ghost use Rattle.server_core.specs.Inputs.{PacketInput};
 ghost use Rattle.server_core.specs.History.{Opening as ServerOpening, Entry as ServerEntry};
 ghost use Rattle.server_core.specs.Words.{Staged};
 ghost use Rattle.server_core.specs.Hearing.{is_piece_for};
 ghost use Rattle.server_core.specs.HearingKind.{hearing_kind, hearing_laws};
 
 use super::PacketServer;
-use crate::event::Event;
+use crate::input::Input;
 use crate::outs::Outs;
 use disk_model::Notes;
 use fc_base::{Fault, ServerNo};
@@ -20,7 +20,7 @@ impl<N: Notes> PacketCore for PacketServer<N> {
 
     ghost Opening = { ServerOpening };
 
-    ghost Event = { ServerEvent };
+    ghost Input = { PacketInput };
 
     ghost Entry = { ServerEntry };
 
@@ -37,7 +37,7 @@ impl<N: Notes> PacketCore for PacketServer<N> {
     }
 
     fn take(&mut self, packet: Packet) -> Result<Outs, Fault> {
-        self.step(Event::Deliver(packet))
+        self.step(Input::Deliver(packet))
     }
 
     fn nothing(&self) -> Outs {

@@ -4,11 +4,11 @@ use super::words::{issue_in, report_in, ticket_in};
 use crate::tests::shared::{Trouble, is_frame, next_u32, next_u64};
 use engine::Issue;
 use fc_base::{Attempt, JobNo};
-use messages::Act;
+use messages::{Act, Frame};
 use server_core::{Input, Outs, WriteEnd};
 
 /// What a worker asks, or tells.
-pub fn asked_in(word: &str, words: &str) -> Option<Input> {
+pub fn asked_in(word: &str, words: &str) -> Option<Input<Frame>> {
     match word {
         "issue" => Some(Input::Issue(JobNo(words.parse::<u32>().ok()?))),
         "done" => end_in(words, WriteEnd::Done),
@@ -17,12 +17,12 @@ pub fn asked_in(word: &str, words: &str) -> Option<Input> {
     }
 }
 
-fn end_in(words: &str, end: WriteEnd) -> Option<Input> {
+fn end_in(words: &str, end: WriteEnd) -> Option<Input<Frame>> {
     let ticket = ticket_in(&mut words.split_whitespace())?;
     Some(Input::WriteDone(ticket, end))
 }
 
-fn check_in(words: &str) -> Option<Input> {
+fn check_in(words: &str) -> Option<Input<Frame>> {
     let mut words = words.split_whitespace();
     Some(Input::CheckDone {
         boot: next_u64(&mut words)?,

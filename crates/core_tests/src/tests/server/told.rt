@@ -18,7 +18,7 @@ pub struct Told {
 
 impl Told {
     /// Hands what comes to the server: why it refuses, if it does. That has to leave what it shows.
-    fn hand(&mut self, input: Input) -> Result<Option<Fault>, Trouble> {
+    fn hand(&mut self, input: Input<Frame>) -> Result<Option<Fault>, Trouble> {
         let before = self.server.status();
         match self.server.step(input) {
             Ok(outs) => {

@@ -1,6 +1,6 @@
 use Rattle.std.proofs.Common.{◌≡◌, List, [], ◌∷◌, false, refl, inr, ap, ◌∙◌, arith}
 use Rattle.disk_model.specs.MemNotes.{Saved}
-use Rattle.client_core.specs.declared.input.Input.TheVariants.{Begin}
+use Rattle.client_core.specs.Inputs.{Begin}
 use Rattle.client_core.specs.History.{Opening}
 use Rattle.client_core.specs.Hearing.{FrameEntry, Restart}
 use Rattle.client_core.specs.FrameAnswers.{answered_entry}

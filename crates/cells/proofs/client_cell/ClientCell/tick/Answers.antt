@@ -3,7 +3,7 @@ use Rattle.std.proofs.lemmas.Result.{err_from_is_err_and}
 use Rattle.std.specs.Prelude.{All, Result}
 use Rattle.fc_base.specs.declared.fault.Fault.{Fault}
 use Rattle.hub.specs.Network.{IsSpelled}
-use Rattle.client_core.specs.declared.input.Input.TheVariants as inputs
+use Rattle.client_core.specs.Inputs as inputs
 use Rattle.cells.specs.declared.input.NodeInput.TheVariants as came
 use Rattle.cells.specs.declared.answer.Reply.{Reply}
 use Rattle.fc_base.specs.declared.fault.Fault.TheVariants.{NoMemory, NodeOff}

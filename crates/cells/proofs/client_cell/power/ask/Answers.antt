@@ -1,6 +1,6 @@
 use Rattle.std.proofs.Common.{refl, ap}
 use Rattle.std.proofs.lemmas.Result.{err_from_is_err_and}
-use Rattle.client_core.specs.declared.input.Input.TheVariants as inputs
+use Rattle.client_core.specs.Inputs as inputs
 use Rattle.cells.specs.declared.answer.Answer.TheVariants.{Run, Attempt}
 use Rattle.cells.proofs.ClientPowerLemmas.{unasked, heard, answered, unanswered, sent_ends}
 use Rattle.cells.proofs.client_cell.power.ask.Goals as goal

@@ -1,6 +1,6 @@
 use Rattle.std.proofs.Common.{refl}
 use Rattle.std.proofs.lemmas.Result.{err_from_is_err_and}
-use Rattle.client_core.specs.declared.input.Input.TheVariants as inputs
+use Rattle.client_core.specs.Inputs as inputs
 use Rattle.cells.specs.ClientKind.{client_kind}
 use Rattle.cells.proofs.StepLemmas.{off_ends}
 use Rattle.cells.proofs.ClientPowerLemmas.{sent_ends, sent_counts}

@@ -1,5 +1,5 @@
 use Rattle.std.proofs.Common.{refl}
-use Rattle.client_core.specs.declared.input.Input.TheVariants as inputs
+use Rattle.client_core.specs.Inputs as inputs
 use Rattle.cells.specs.ClientKind.{client_kind}
 use Rattle.cells.proofs.StepLemmas.{off_ends}
 use Rattle.cells.proofs.ClientPowerLemmas.{heard, sent_ends, sent_counts}

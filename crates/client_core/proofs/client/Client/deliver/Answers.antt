@@ -1,6 +1,6 @@
 -- A frame is taken by what hears in the client.
 use Rattle.std.specs.Prelude.{map}
-use Rattle.client_core.specs.declared.input.Input.TheVariants.{Deliver}
+use Rattle.client_core.specs.Inputs.{Deliver}
 use Rattle.client_core.specs.Hearing.{coming_of}
 use Rattle.client_core.proofs.FrameEndLemmas.{hearer_ends}
 use Rattle.client_core.proofs.client.Client.deliver.Goals as goal

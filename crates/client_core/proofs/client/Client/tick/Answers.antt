@@ -1,11 +1,10 @@
 use Rattle.std.proofs.Common.{refl}
-use Rattle.client_core.specs.declared.call.Call.TheVariants as calls
-use Rattle.client_core.specs.declared.input.Input.TheVariants as inputs
+use Rattle.client_core.specs.Inputs as inputs
 use Rattle.client_core.specs.Hearing.{packets_heard}
 use Rattle.client_core.proofs.FrameEndLemmas.{whole_ends}
 use Rattle.client_core.proofs.client.Client.tick.Goals as goal
 
 pub returns : goal.returns
 returns g c o past s =
-    whole_ends g.N.Notes.note o past (inputs.Tick) (calls.Tick) c.args.self.now c.args.self.now.hearer.core c.tick.result c.frames_are_short.ensures tt refl s
+    whole_ends g.N.Notes.note o past (inputs.Tick) (inputs.Tick) c.args.self.now c.args.self.now.hearer.core c.tick.result c.frames_are_short.ensures tt refl s
     (c.tick.ensures o (packets_heard o past) s.core)

@@ -1,6 +1,6 @@
 use Rattle.std.proofs.Common.{refl, sym, subst, ◌∙◌, ap, ◌+◌, ◌∷◌, true, arith}
 use Rattle.std.proofs.lemmas.Result.{err_from_is_err_and}
-use Rattle.client_core.specs.declared.call.Call.TheVariants.{Begin}
+use Rattle.client_core.specs.Inputs.{Begin}
 use Rattle.client_core.specs.declared.packet_client.PacketClient.{PacketClient}
 use Rattle.client_core.specs.declared.note.ClientNote.{ClientNote}
 use Rattle.messages.specs.declared.body.Body.TheVariants.{Jobs}

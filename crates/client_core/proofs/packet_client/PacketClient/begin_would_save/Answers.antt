@@ -1,6 +1,6 @@
 use Rattle.std.proofs.Common.{refl, sym, ◌∙◌, ap}
 use Rattle.std.specs.Prelude.{is_none}
-use Rattle.client_core.specs.declared.call.Call.TheVariants.{Begin}
+use Rattle.client_core.specs.Inputs.{Begin}
 use Rattle.client_core.specs.Saves.{NextRun}
 use Rattle.client_core.proofs.ClientLemmas.{not_some, call_would}
 use Rattle.client_core.proofs.packet_client.PacketClient.begin_would_save.Goals as goal

@@ -3,7 +3,7 @@ use Rattle.messages.specs.declared.packet.PacketParts.{PacketParts}
 use Rattle.messages.specs.Bodies.{kind_of}
 use Rattle.messages.specs.Kinds.{is_of_mirror}
 use Rattle.messages.specs.Nodes.{node_number, is_mirror}
-use Rattle.client_core.specs.declared.call.Call.TheVariants.{Deliver}
+use Rattle.client_core.specs.Inputs.{Deliver}
 use Rattle.client_core.proofs.EndLemmas.{refuses}
 use Rattle.client_core.proofs.DeliverLemmas.{deliver_free, from_a_server, from_the_mirror, body_of_packet}
 use Rattle.client_core.proofs.packet_client.PacketClient.deliver.Goals as goal

@@ -1,6 +1,6 @@
 use Rattle.std.proofs.Common.{sym, subst, ◌∙◌, ap, ◌∷◌, true}
 use Rattle.messages.specs.Nodes.{node_number}
-use Rattle.client_core.specs.declared.call.Call.TheVariants.{Deliver}
+use Rattle.client_core.specs.Inputs.{Deliver}
 use Rattle.client_core.specs.declared.packet_client.PacketClient.{PacketClient}
 use Rattle.client_core.specs.Ends.{Stores}
 use Rattle.client_core.specs.Framed.{frame_bytes}

@@ -3,7 +3,7 @@ use Rattle.messages.specs.declared.limits.TheConstants.{MIRROR_NUMBER}
 use Rattle.messages.specs.Nodes.{node_number}
 use Rattle.messages.specs.Bodies.{kind_of}
 use Rattle.messages.specs.Kinds.{is_of_mirror}
-use Rattle.client_core.specs.declared.call.Call.TheVariants.{Deliver}
+use Rattle.client_core.specs.Inputs.{Deliver}
 use Rattle.client_core.specs.declared.packet_client.PacketClient.{PacketClient}
 use Rattle.client_core.specs.Ends.{Stores}
 use Rattle.client_core.specs.Framed.{frame_bytes}

@@ -1,6 +1,6 @@
 use Rattle.std.proofs.Common.{refl, sym, ◌∙◌, ap}
 use Rattle.messages.specs.declared.body.Body.TheVariants as bodies
-use Rattle.client_core.specs.declared.call.Call.TheVariants.{Stop}
+use Rattle.client_core.specs.Inputs.{Stop}
 use Rattle.client_core.specs.Framed.{frame_bytes}
 use Rattle.client_core.specs.Packets.{to_all}
 use Rattle.client_core.proofs.CallLemmas.{answers_plain}

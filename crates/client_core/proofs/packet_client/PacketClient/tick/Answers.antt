@@ -1,7 +1,7 @@
 use Rattle.std.proofs.Common.{refl, sym, ap, ◌∙◌}
 use Rattle.std.specs.Prelude.{not}
 use Rattle.fc_base.specs.declared.fault.Fault.TheVariants.{Down}
-use Rattle.client_core.specs.declared.call.Call.TheVariants.{Tick}
+use Rattle.client_core.specs.Inputs.{Tick}
 use Rattle.client_core.specs.Refusals.{refusal_by}
 use Rattle.client_core.proofs.CallLemmas.{answers_plain}
 use Rattle.client_core.proofs.EndLemmas.{refuses, lacks}

@@ -1,7 +1,7 @@
 use Rattle.std.proofs.Common.{refl, sym, subst, ◌∙◌, ap, ◌+◌, ◌∷◌, true, arith}
 use Rattle.std.proofs.lemmas.Result.{err_from_is_err_and}
 use Rattle.messages.specs.declared.body.Body.TheVariants.{Verify}
-use Rattle.client_core.specs.declared.call.Call.TheVariants.{Verify as Verifying}
+use Rattle.client_core.specs.Inputs.{Verify as Verifying}
 use Rattle.client_core.specs.declared.packet_client.PacketClient.{PacketClient}
 use Rattle.client_core.specs.declared.note.ClientNote.{ClientNote}
 use Rattle.client_core.specs.Framed.{frame_bytes}

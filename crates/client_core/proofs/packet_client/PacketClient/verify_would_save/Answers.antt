@@ -1,6 +1,6 @@
 use Rattle.std.proofs.Common.{refl, sym, ◌∙◌, ap}
 use Rattle.std.specs.Prelude.{is_none}
-use Rattle.client_core.specs.declared.call.Call.TheVariants.{Verify}
+use Rattle.client_core.specs.Inputs.{Verify}
 use Rattle.client_core.specs.Saves.{NextAttempt}
 use Rattle.client_core.proofs.ClientLemmas.{not_some, call_would}
 use Rattle.client_core.proofs.packet_client.PacketClient.verify_would_save.Goals as goal

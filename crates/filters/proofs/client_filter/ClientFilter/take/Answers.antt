@@ -1,7 +1,7 @@
 use Rattle.std.proofs.Common.{sym, subst, refl, inl, inr, Err}
 use Rattle.fc_base.specs.Fault.{sort_of}
 use Rattle.fc_base.specs.declared.fault.Fault.{Fault}
-use Rattle.client_core.specs.declared.input.Input.TheVariants.{Deliver}
+use Rattle.client_core.specs.Inputs.{Deliver}
 use Rattle.filters.specs.Kept.{note_kept}
 use Rattle.filters.specs.ClientSteps.{BodyEnds, NotAnswered}
 use Rattle.filters.proofs.FrameLemmas.{unread}

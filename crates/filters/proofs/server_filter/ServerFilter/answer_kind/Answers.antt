@@ -1,6 +1,6 @@
 use Rattle.std.proofs.Common.{Some, sym, subst}
 use Rattle.messages.specs.FrameBytes.{frame_at, frame_faults}
-use Rattle.server_core.specs.declared.event.WriteEnd.TheVariants as ends
+use Rattle.server_core.specs.declared.input.WriteEnd.TheVariants as ends
 use Rattle.filters.specs.CheckRuns.{IsHere}
 use Rattle.filters.specs.ServerLives.{TakesBody, TakesKind, end_in, frame_in}
 use Rattle.filters.specs.Steps.{AnswersBy}

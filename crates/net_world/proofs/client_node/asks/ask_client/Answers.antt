@@ -1,6 +1,6 @@
 use Rattle.std.proofs.Common.{refl, ap}
 use Rattle.std.proofs.lemmas.Result.{err_from_is_err_and}
-use Rattle.client_core.specs.declared.input.Input.TheVariants as inputs
+use Rattle.client_core.specs.Inputs as inputs
 use Rattle.net_world.specs.declared.told.WorldAnswer.TheVariants as told
 use Rattle.net_world.proofs.ClientNodeLemmas.{answers, fails}
 use Rattle.net_world.proofs.client_node.asks.ask_client.Goals as goal

@@ -1,6 +1,6 @@
 use Rattle.std.proofs.Common.{true, ◌∷◌}
 use Rattle.disk_model.specs.Steps.{answered}
-use Rattle.client_core.specs.declared.input.Input.TheVariants as inputs
+use Rattle.client_core.specs.Inputs as inputs
 use Rattle.client_core.specs.Hearing.{Cut}
 use Rattle.net_world.specs.ClientNodes.{client_nodes}
 use Rattle.net_world.proofs.NodeLemmas.{cut_new, cut_fails}

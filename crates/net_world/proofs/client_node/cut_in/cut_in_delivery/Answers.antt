@@ -1,5 +1,5 @@
 use Rattle.std.proofs.Common.{sym, subst, Ok}
-use Rattle.client_core.specs.declared.input.Input.TheVariants as inputs
+use Rattle.client_core.specs.Inputs as inputs
 use Rattle.client_core.specs.Hearing.{Cut}
 use Rattle.net_world.specs.Nodes.{CutsIn}
 use Rattle.net_world.specs.ClientNodes.{client_nodes}

@@ -1,6 +1,6 @@
 use Rattle.std.proofs.Common.{refl, sym, ◌∙◌, ap, length, append-nil, List, ℕ}
 use Rattle.std.proofs.lemmas.Result.{err_from_is_err_and}
-use Rattle.client_core.specs.declared.input.Input.TheVariants as inputs
+use Rattle.client_core.specs.Inputs as inputs
 use Rattle.net_world.specs.Trace.{client_opening}
 use Rattle.net_world.specs.Happenings.{Verify, CutIn}
 use Rattle.net_world.specs.Sending.{sent_in}

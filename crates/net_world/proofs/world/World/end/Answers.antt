@@ -10,10 +10,10 @@ returns-in_err-found c w past stands =
 
 pub returns-in-Ok : goal.returns-in-Ok
 returns-in-Ok c w past stands =
-    end_ends w past c.args.server c.args.job c.args.write c.args.end c.in_ok-found.found.0 c.in_ok-found.found.1 c.in-Ok.served c.told.result c.serve.new.self
+    end_ends w past c.args.server c.args.job c.args.write c.args.end c.in_ok-found.found.0 c.in_ok-found.found.1 c.in-Ok.served c.told.result c.serve_end.new.self
     (c.in_ok-found.ensures w past stands) (c.in-Ok.ensures w past stands) c.told.ensures
 
 pub returns-in-Err : goal.returns-in-Err
 returns-in-Err c w past stands =
-    end_fails w past c.args.server c.args.job c.args.write c.args.end c.in_ok-found.found.0 c.in_ok-found.found.1 c.in-Err.fault c.serve.new.self
+    end_fails w past c.args.server c.args.job c.args.write c.args.end c.in_ok-found.found.0 c.in_ok-found.found.1 c.in-Err.fault c.serve_end.new.self
     (c.in_ok-found.ensures w past stands) (c.in-Err.ensures w past stands)

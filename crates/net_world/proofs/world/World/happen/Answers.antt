@@ -1,5 +1,5 @@
 use Rattle.std.proofs.Common.{subst}
-use Rattle.client_core.specs.declared.input.Input.TheVariants as inputs
+use Rattle.client_core.specs.Inputs as inputs
 use Rattle.net_world.specs.Asking.{ClientEnds}
 use Rattle.net_world.specs.Happenings as happenings
 use Rattle.net_world.specs.World.{world}

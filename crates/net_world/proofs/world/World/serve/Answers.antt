@@ -6,6 +6,7 @@ use Rattle.net_world.specs.Sending.{sent_in}
 use Rattle.net_world.specs.ServerNodes.{server_nodes}
 use Rattle.net_world.proofs.NodeLemmas.{lent_ends, none_lent}
 use Rattle.net_world.proofs.ServerNodeLemmas.{laws}
+use Rattle.net_world.proofs.MetLemmas.{in_place}
 use Rattle.net_world.proofs.ServeLemmas.{serve_ends, serve_fails, none_serves, lacks, node_at}
 use Rattle.net_world.proofs.world.World.serve.Goals as goal
 
@@ -29,16 +30,7 @@ returns-in_err-self c w past stands =
       node = was;
       was_is = node_at c.args.self.now.servers.items c.args.server c.server.inside.0 was c.server.view_is l c.index_mut.ensures.value;
       stepped = λ o es h. none_lent (server_nodes o) es c.args.input fault was h (c.in_err-self.ensures.lent o es);
-      moved = record {
-        there = l;
-        place = c.server.inside.0;
-        place_is = c.server.view_is;
-        set_is = refl;
-        sent_is = c.settle.ensures.same ∙ sym (append-nil (sent_in c.args.self.now.sent));
-        client_is = refl;
-        files_are = refl;
-        mirror_is = refl;
-      };
+      moved = in_place l c.server.view_is refl (c.settle.ensures.same ∙ sym (append-nil (sent_in c.args.self.now.sent))) refl refl refl;
     }))
 
 pub returns-in_err-outs : goal.returns-in_err-outs
@@ -54,16 +46,7 @@ returns-in_err-outs c w past stands =
       was_is = node_at c.args.self.now.servers.items c.args.server c.server.inside.0 was c.server.view_is l c.index_mut.ensures.value;
       stepped = λ o es h. lent_ends (server_nodes o) (laws o) es c.args.input was c.in_ok-self.field-0.now c.step.new.self (Err fault) h
           (c.in_ok-self.ensures.lent o es) (c.in_err-outs.ensures.ends o es);
-      moved = record {
-        there = l;
-        place = c.server.inside.0;
-        place_is = c.server.view_is;
-        set_is = refl;
-        sent_is = c.settle.ensures.same ∙ sym (append-nil (sent_in c.args.self.now.sent));
-        client_is = refl;
-        files_are = refl;
-        mirror_is = refl;
-      };
+      moved = in_place l c.server.view_is refl (c.settle.ensures.same ∙ sym (append-nil (sent_in c.args.self.now.sent))) refl refl refl;
     }))
 
 pub returns : goal.returns
@@ -78,16 +61,7 @@ returns c w past stands =
       was_is = node_at c.args.self.now.servers.items c.args.server c.server.inside.0 was c.server.view_is l c.index_mut.ensures.value;
       stepped = λ o es h. lent_ends (server_nodes o) (laws o) es c.args.input was c.in_ok-self.field-0.now c.step.new.self (Ok outs) h
           (c.in_ok-self.ensures.lent o es) (c.in_ok-outs.ensures.ends o es);
-      moved = record {
-        there = l;
-        place = c.server.inside.0;
-        place_is = c.server.view_is;
-        set_is = refl;
-        sent_is = c.add.ensures ∙ ap (λ fs. fs ++ outs.frames) c.settle.ensures.same;
-        client_is = refl;
-        files_are = refl;
-        mirror_is = refl;
-      };
+      moved = in_place l c.server.view_is refl (c.add.ensures ∙ ap (λ fs. fs ++ outs.frames) c.settle.ensures.same) refl refl refl;
     })
     (record {
       first = c.in-Ok.ensures.first ∙ ap (λ (fs : List (List ℕ)). length fs) c.settle.ensures.same;

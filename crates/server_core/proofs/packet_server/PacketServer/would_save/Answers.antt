@@ -1,5 +1,5 @@
 use Rattle.std.proofs.Common.{sym, ◌∙◌}
-use Rattle.server_core.specs.declared.event.Event.TheVariants.{Deliver}
+use Rattle.server_core.specs.declared.input.Input.TheVariants.{Deliver}
 use Rattle.server_core.proofs.ServeLemmas.{saves_where_due}
 use Rattle.server_core.proofs.packet_server.PacketServer.would_save.Goals as goal
 

@@ -2,7 +2,7 @@ use Rattle.std.proofs.Common.{◌≡◌, ◌≤◌, ap, sym, subst, arith, lengt
 use Rattle.std.specs.Prelude.{set, slice_get}
 use Rattle.std.proofs.Math.Logic.{∥∥₁_map}
 use Rattle.std.proofs.lemmas.Option.{slice_get_read}
-use Rattle.server_core.specs.declared.event.WriteEnd.TheVariants.{Done, Failed}
+use Rattle.server_core.specs.declared.input.WriteEnd.TheVariants.{Done, Failed}
 use Rattle.server_core.specs.Request.{ToEnd}
 use Rattle.server_core.specs.Run.{Work}
 use Rattle.server_core.specs.Answers.{names_open_of}

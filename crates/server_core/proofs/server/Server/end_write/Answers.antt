@@ -1,6 +1,6 @@
 -- What isn't a frame is heard as it comes.
 use Rattle.std.proofs.Common.{refl, sym, ◌∙◌}
-use Rattle.server_core.specs.declared.event.Event.TheVariants as events
+use Rattle.server_core.specs.declared.input.Input.TheVariants as inputs
 use Rattle.server_core.specs.declared.input.Input.TheVariants.{WriteDone}
 use Rattle.server_core.specs.Handles.{outs_of_end}
 use Rattle.server_core.specs.Hearing.{packets_heard}
@@ -15,7 +15,7 @@ returns-clause-ends g c o past s =
     let old = c.args.self.now in
     let new = c.end_write.new.self in
     let told = c.end_write in
-    let e = events.WriteDone c.args.ticket c.args.end in
+    let e = inputs.WriteDone c.args.ticket c.args.end in
     whole_ends note o past (WriteDone c.args.ticket c.args.end) e old (record old.hearer.core { machine = new }) (outs_of_end told.result) refl s
     (taken note old.hearer.core new o (packets_heard o past) e (outs_of_end told.result) (sym c.is_down.ensures ∙ c.if-is_down.false) s.core
     (λ words k. refl)

@@ -1,6 +1,6 @@
 -- What isn't a frame is heard as it comes.
 use Rattle.std.proofs.Common.{refl, sym, ◌∙◌, Ok}
-use Rattle.server_core.specs.declared.event.Event.TheVariants as events
+use Rattle.server_core.specs.declared.input.Input.TheVariants as inputs
 use Rattle.server_core.specs.declared.input.Input.TheVariants.{Issue}
 use Rattle.server_core.specs.Handles.{outs_of_issue}
 use Rattle.server_core.specs.Hearing.{packets_heard}
@@ -15,7 +15,7 @@ returns-clause-ends g c o past s =
     let old = c.args.self.now in
     let new = c.issue.new.self in
     let answer = c.issue.result in
-    let e = events.Issue c.args.job in
+    let e = inputs.Issue c.args.job in
     whole_ends note o past (Issue c.args.job) e old (record old.hearer.core { machine = new }) (outs_of_issue (Ok answer)) refl s
     (taken note old.hearer.core new o (packets_heard o past) e (outs_of_issue (Ok answer)) (sym c.is_down.ensures ∙ c.if-is_down.false) s.core
     (λ words k. refl)
