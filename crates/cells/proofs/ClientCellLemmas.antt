@@ -19,8 +19,8 @@ use Rattle.cells.specs.AtHub.{lacks_memory, told_by}
 use Rattle.cells.specs.Failures.{Counts}
 use Rattle.cells.specs.Moves.{Moves}
 use Rattle.cells.proofs.HubLemmas.{same_kept, entered as kept_more}
-use Rattle.node_power.specs.declared.power.Power.{Power}
-use Rattle.node_power.specs.declared.power.Power.TheVariants.{On}
+use Rattle.node.specs.declared.power.Power.{Power}
+use Rattle.node.specs.declared.power.Power.TheVariants.{On}
 use Rattle.cells.specs.declared.client_cell.task.ClientTask.{ClientTask}
 use Rattle.cells.specs.ClientStands.{Stands}
 use Rattle.cells.specs.ClientCells.{ClientLog, opening_of, IsReplay, IsCell}

@@ -39,7 +39,7 @@ use Rattle.cells.proofs.CallLemmas.{why_not_there}
 use Rattle.cells.proofs.HubLemmas as hub
 use Rattle.cells.proofs.MoveLemmas.{off_where}
 use Rattle.cells.specs.declared.client_cell.outs.ClientOuts.{ClientOuts}
-use Rattle.node_power.specs.declared.power.Power.{Power}
+use Rattle.node.specs.declared.power.Power.{Power}
 use Rattle.cells.specs.declared.client_cell.incoming.Incoming.{Incoming}
 use Rattle.cells.specs.declared.client_cell.incoming.Incoming.TheVariants as incoming
 use Rattle.cells.specs.declared.client_cell.request.ClientRequest.TheVariants as requests

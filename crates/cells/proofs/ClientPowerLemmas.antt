@@ -7,7 +7,7 @@ use Rattle.fc_base.specs.declared.fault.FaultSort.TheVariants as sorts
 use Rattle.fc_base.specs.Fault.{sort_of}
 use Rattle.disk_model.specs.declared.left.Left.{Left}
 use Rattle.disk_model.specs.Notes.{Note}
-use Rattle.disk_model.specs.Steps as steps
+use Rattle.node.specs.Steps as steps
 use Rattle.messages.specs.Hearing.{Meaning, Says as Speaks, Waits, Spoils, Strays, meaning, heard_by, with_entry}
 use Rattle.messages.specs.Senses.{Sense, Hears, Keeps, Drops, Misses, sense_of, is_drop, refusal_of_sense, SenseInRange, UnlessMemory, HearsInRange}
 use Rattle.client_core.specs.declared.client.Client.{Client}
@@ -21,7 +21,7 @@ use Rattle.client_core.specs.FrameAnswers.{sense}
 use Rattle.client_core.specs.FrameEnds as ends
 use Rattle.client_core.specs.FrameEnds.{note_in}
 use Rattle.cells.specs.declared.answer.Answer.TheVariants.{Plain}
-use Rattle.node_power.specs.declared.power.Power.TheVariants.{On}
+use Rattle.node.specs.declared.power.Power.TheVariants.{On}
 use Rattle.cells.specs.ClientKind.{client_kind}
 use Rattle.cells.specs.ClientRules.{answer_to}
 use Rattle.cells.specs.Failures.{Counts}

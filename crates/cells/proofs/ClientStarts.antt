@@ -14,13 +14,13 @@ use Rattle.client_core.specs.Hearing.{FrameEntry, Restart, packets_heard, is_up}
 use Rattle.client_core.specs.FrameEnds as ends
 use Rattle.client_core.specs.FrameEnds.{note_in}
 use Rattle.cells.specs.declared.answer.Reply.{Reply}
-use Rattle.node_power.specs.declared.power.Power.TheVariants.{Off}
+use Rattle.node.specs.declared.power.Power.TheVariants.{Off}
 use Rattle.cells.specs.ClientKind.{client_kind, client_is_cut}
 use Rattle.cells.specs.Failures.{Counts}
 use Rattle.cells.specs.Moves.{TaskEnds}
-use Rattle.node_power.specs.declared.power.Power.{Power}
-use Rattle.node_power.specs.Kinds.{left_by, note_by}
-use Rattle.node_power.specs.Kinds as nodes
+use Rattle.node.specs.declared.power.Power.{Power}
+use Rattle.node.specs.Kinds.{left_by, note_by}
+use Rattle.node.specs.Kinds as nodes
 use Rattle.cells.specs.Powers.{told_of}
 use Rattle.cells.proofs.PowerLemmas.{was_on, was_on_counts}
 use Rattle.cells.specs.Rules.{Restarts}

@@ -27,8 +27,8 @@ use Rattle.cells.specs.Kinds.{Kind}
 use Rattle.cells.specs.Moves.{Moves, StepEnds, IsKept, outcome_of}
 use Rattle.cells.specs.Powers.{IsReady}
 use Rattle.cells.specs.Rules.{Ask, Meets}
-use Rattle.node_power.specs.declared.power.Power.{Power}
-use Rattle.node_power.specs.Kinds.{Stands}
+use Rattle.node.specs.declared.power.Power.{Power}
+use Rattle.node.specs.Kinds.{Stands}
 use Rattle.cells.proofs.CallLemmas.{left_out_posts, why_off, why_on}
 use Rattle.cells.proofs.MoveLemmas.{off_where, unmoved, moved, refused_for}
 

@@ -18,8 +18,8 @@ use Rattle.cells.specs.Moves.{Moves, Refuses, Faults, StepEnds, Fails, TaskEnds,
 use Rattle.cells.specs.Replay.{Stops}
 use Rattle.cells.specs.Rules.{Ask, Meets}
 use Rattle.cells.specs.CoreRules.{CoreRules, left_by, rules_of}
-use Rattle.node_power.specs.declared.power.Power.{Power}
-use Rattle.node_power.specs.Kinds.{Stands}
+use Rattle.node.specs.declared.power.Power.{Power}
+use Rattle.node.specs.Kinds.{Stands}
 
 clash : true ≡ false → ⊥
 clash h = cc

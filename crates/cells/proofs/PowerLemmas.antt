@@ -4,9 +4,9 @@ use Rattle.std.specs.Prelude.{if◌then◌else◌, map}
 use Rattle.fc_base.specs.declared.fault.Fault.{Fault}
 use Rattle.fc_base.specs.declared.fault.Fault.TheVariants.{NodeOff, NodeOn}
 use Rattle.messages.specs.FrameBytes.{frame_spelling}
-use Rattle.node_power.specs.declared.power.Power.{Power}
-use Rattle.node_power.specs.declared.power.Power.TheVariants.{Off}
-use Rattle.node_power.specs.Kinds.{Stands, Cuts, WasOn, note_of}
+use Rattle.node.specs.declared.power.Power.{Power}
+use Rattle.node.specs.declared.power.Power.TheVariants.{Off}
+use Rattle.node.specs.Kinds.{Stands, Cuts, WasOn, note_of}
 use Rattle.cells.specs.Failures.{Counts}
 use Rattle.cells.specs.Moves.{TaskEnds}
 use Rattle.cells.specs.Kinds.{Kind}
@@ -17,7 +17,7 @@ use Rattle.cells.proofs.MoveLemmas.{up, refused}
 
 -- ---- a cut
 
-gives_up : {C N E X D O : Type 0} (k : Kind C N E X D O) (past : List X) (notes : N) → IsCut k past → k.node.is_up past ≡ true → k.node.Says past notes
+gives_up : {C N E X D O : Type 0} (k : Kind C N E X D O) (past : List X) (notes : N) → IsCut k past → k.node.core.is_up past ≡ true → k.node.Says past notes
     → TaskEnds k past rules.Cuts (Off notes) (Ok plain_reply)
 gives_up k past notes h on says = record {
   after = k.core.cut ∷ past;

@@ -10,7 +10,7 @@ use Rattle.messages.proofs.Sending.{frames_sent}
 use Rattle.disk_model.specs.declared.notes.Notes.{Ghosts}
 use Rattle.server_core.proofs.Sending.{server_sent as server_core_sent}
 use Rattle.client_core.proofs.Sending.{client_sent as client_core_sent}
-use Rattle.node_power.proofs.Sending.{power_sent}
+use Rattle.node.proofs.Sending.{power_sent}
 use Rattle.cells.specs.contracts.entry.HistoryEntry as entry
 use Rattle.cells.specs.contracts.client_cell.ClientCell as client
 use Rattle.cells.specs.contracts.server_cell.ServerCell as server

@@ -28,8 +28,8 @@ use Rattle.cells.specs.Seats.{times, with_turn}
 use Rattle.fc_base.specs.declared.fault.Fault.{Fault}
 use Rattle.fc_base.specs.declared.fault.Fault.TheVariants.{NoMemory}
 use Rattle.cells.proofs.HubLemmas.{same_kept, entered as kept_more}
-use Rattle.node_power.specs.declared.power.Power.{Power}
-use Rattle.node_power.specs.declared.power.Power.TheVariants.{On}
+use Rattle.node.specs.declared.power.Power.{Power}
+use Rattle.node.specs.declared.power.Power.TheVariants.{On}
 use Rattle.cells.specs.declared.server_cell.task.ServerTask.{ServerTask}
 use Rattle.cells.specs.ServerTasks.{came_by, loads_note}
 use Rattle.cells.specs.ServerStands.{Stands}

@@ -29,7 +29,7 @@ use Rattle.cells.specs.Moves.{IsKept, StepEnds, outcome_of}
 use Rattle.cells.specs.Rules.{Meets}
 use Rattle.cells.specs.ServerRules.{ask_of}
 use Rattle.cells.proofs.HubLemmas.{heard, packets_spelled, sent_spelled as spelled_by}
-use Rattle.node_power.specs.declared.power.Power.{Power}
+use Rattle.node.specs.declared.power.Power.{Power}
 use Rattle.cells.specs.ServerCells.{Replays, IsCell}
 use Rattle.cells.specs.ServerStands.{reply_and_frames}
 use Rattle.messages.specs.declared.node.Node.{Node}

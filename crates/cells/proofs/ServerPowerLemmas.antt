@@ -5,7 +5,7 @@ use Rattle.fc_base.specs.declared.fault.Fault.TheVariants.{FrameBadField}
 use Rattle.fc_base.specs.Fault.{sort_of}
 use Rattle.disk_model.specs.declared.left.Left.{Left}
 use Rattle.disk_model.specs.Notes.{Note}
-use Rattle.disk_model.specs.Steps as steps
+use Rattle.node.specs.Steps as steps
 use Rattle.messages.specs.Hearing.{Meaning, Says as Speaks, Waits, Spoils, Strays, meaning, heard_by, with_entry}
 use Rattle.messages.specs.Senses.{Sense, Hears, Keeps, Drops, Misses, sense_of, is_drop, refusal_of_sense, SenseInRange, UnlessMemory, HearsInRange}
 use Rattle.server_core.specs.Inputs.{PacketInput, FrameInput}
@@ -19,7 +19,7 @@ use Rattle.server_core.specs.Hearing.{FrameEntry, Met, packets_heard, heard_at, 
 use Rattle.server_core.specs.FrameAnswers.{sense}
 use Rattle.server_core.specs.FrameEnds as ends
 use Rattle.server_core.specs.FrameEnds.{note_in}
-use Rattle.node_power.specs.declared.power.Power.TheVariants.{On}
+use Rattle.node.specs.declared.power.Power.TheVariants.{On}
 use Rattle.cells.specs.Failures.{Counts}
 use Rattle.cells.specs.Moves.{StepEnds}
 use Rattle.cells.specs.ServerKind.{server_kind}

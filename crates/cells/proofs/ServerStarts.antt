@@ -16,12 +16,12 @@ use Rattle.server_core.specs.Hearing.{FrameEntry, Restart, packets_heard, is_up}
 use Rattle.server_core.specs.FrameEnds as ends
 use Rattle.server_core.specs.FrameEnds.{note_in}
 use Rattle.cells.specs.declared.answer.Reply.{Reply}
-use Rattle.node_power.specs.declared.power.Power.TheVariants.{Off}
+use Rattle.node.specs.declared.power.Power.TheVariants.{Off}
 use Rattle.cells.specs.Failures.{Counts}
 use Rattle.cells.specs.Moves.{TaskEnds}
-use Rattle.node_power.specs.declared.power.Power.{Power}
-use Rattle.node_power.specs.Kinds.{left_by, note_by}
-use Rattle.node_power.specs.Kinds as nodes
+use Rattle.node.specs.declared.power.Power.{Power}
+use Rattle.node.specs.Kinds.{left_by, note_by}
+use Rattle.node.specs.Kinds as nodes
 use Rattle.cells.specs.Powers.{told_of}
 use Rattle.cells.proofs.PowerLemmas.{was_on, was_on_counts}
 use Rattle.cells.specs.Rules.{Restarts}

@@ -10,17 +10,17 @@ use Rattle.fc_base.specs.Fault.{sort_of}
 use Rattle.disk_model.specs.declared.left.Left.{Left}
 use Rattle.disk_model.specs.declared.left.Left.TheVariants.{NoSave}
 use Rattle.disk_model.specs.Notes.{Note}
-use Rattle.disk_model.specs.Steps as steps
-use Rattle.disk_model.specs.Steps.{Steps, answered}
+use Rattle.node.specs.Steps as steps
+use Rattle.node.specs.Steps.{Steps, answered}
 use Rattle.messages.specs.FrameBytes.{frame_spelling}
 use Rattle.cells.specs.declared.answer.Reply.{Reply}
-use Rattle.node_power.specs.declared.power.Power.{Power}
-use Rattle.node_power.specs.declared.power.Power.TheVariants.{On}
+use Rattle.node.specs.declared.power.Power.{Power}
+use Rattle.node.specs.declared.power.Power.TheVariants.{On}
 use Rattle.cells.specs.AtHub.{is_drop, is_save}
 use Rattle.cells.specs.CoreRules.{left_by}
 use Rattle.cells.specs.Failures.{is_load, Counts, CountsBy}
 use Rattle.cells.specs.Moves.{Faults, StepEnds}
-use Rattle.node_power.specs.Kinds.{Stands}
+use Rattle.node.specs.Kinds.{Stands}
 use Rattle.cells.specs.Kinds.{Kind}
 use Rattle.cells.specs.Rules.{Meets}
 use Rattle.cells.proofs.MoveLemmas as moves
@@ -29,7 +29,7 @@ use Rattle.cells.proofs.MoveLemmas.{up, refused_step, lost, left_is, no_load}
 -- What an input is to a core by its steps is what it is by the rules of its kind; and where it was heard, which
 -- the sort of a fault tells, the list behind it is within its ranges.
 pub record Fits {C N E X D O : Type 0} (k : Kind C N E X D O) (past : List X) (e : E) (Heard : FaultSort → Type 0) : Type 0 where
-  pub same_up : k.core.is_up past ≡ k.node.is_up past
+  pub same_up : k.core.is_up past ≡ k.node.core.is_up past
   pub refusal_is : k.node.core.refusal past e ≡ k.core.refusal past e
   pub answered_is : answered k.node.core past e ≡ k.core.answered past e
   pub dropped_is : k.node.core.met e NoSave ≡ k.core.dropped e
@@ -46,7 +46,7 @@ off_ends k past e power fault off s =
     rw off.0 (moves.off_ends k past e power (ap (λ b. if b then k.core.refusal past e else Some NodeOff) off.1) refl s)
 
 module _ {C N E X D O : Type 0} {Heard : FaultSort → Type 0} (k : Kind C N E X D O) (past : List X) (e : E) (fits : Fits k past e Heard)
-    (on : k.node.is_up past ≡ true) (old new : C) where
+    (on : k.node.core.is_up past ≡ true) (old new : C) where
   -- By one that is on, it is answered,
   pub answered_ends : (outs : O) (said : Reply) (sent : List (List ℕ)) → steps.Answers k.node.core past e old new outs → Heard sorts.Save → said ≡ k.core.said past e
       → sent ≡ map frame_spelling (k.core.frames past (k.core.answered past e)) → k.SendsFew past e sent

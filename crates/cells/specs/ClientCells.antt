@@ -7,7 +7,7 @@ use Rattle.client_core.specs.Ranges.{OpensInRange}
 use Rattle.client_core.specs.Hearing.{FrameEntry}
 use Rattle.cells.specs.ClientKind.{client_kind}
 use Rattle.cells.specs.declared.entry.HistoryEntry.{HistoryEntry}
-use Rattle.node_power.specs.declared.power.Power.{Power}
+use Rattle.node.specs.declared.power.Power.{Power}
 use Rattle.cells.specs.Moves.{IsKept}
 use Rattle.cells.specs.Replay.{Makes}
 use Rattle.cells.specs.ClientRules.{rules}

@@ -9,7 +9,7 @@ use Rattle.client_core.specs.Ranges.{OpensInRange, CameInRange}
 use Rattle.client_core.specs.Saves.{Addition}
 use Rattle.client_core.specs.Hearing.{FrameEntry, packets_heard}
 use Rattle.client_core.specs.FrameEnds.{most_packets}
-use Rattle.node_power.specs.ClientKind as nodes
+use Rattle.client_core.specs.NodeKind as nodes
 use Rattle.cells.specs.Kinds.{Kind}
 use Rattle.cells.specs.Powers.{IsCut}
 use Rattle.cells.specs.ClientRules.{core}

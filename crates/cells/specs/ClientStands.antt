@@ -9,10 +9,10 @@ use Rattle.client_core.specs.FrameEnds.{note_in}
 use Rattle.messages.specs.declared.refusal.Act.TheVariants as acts
 use Rattle.cells.specs.declared.answer.Answer.TheVariants.{Plain}
 use Rattle.cells.specs.declared.answer.Reply.{Reply}
-use Rattle.node_power.specs.declared.power.Power.{Power}
+use Rattle.node.specs.declared.power.Power.{Power}
 use Rattle.cells.specs.ClientKind.{client_kind}
-use Rattle.node_power.specs.Kinds.{note_by}
-use Rattle.node_power.specs.Kinds as nodes
+use Rattle.node.specs.Kinds.{note_by}
+use Rattle.node.specs.Kinds as nodes
 use Rattle.cells.specs.declared.client_cell.outs.ClientOuts.{ClientOuts}
 
 -- A client that has power stands for the list; of one that has none, which the list says, the note

@@ -1,6 +1,6 @@
 -- What has to be known of a node under its lock, which may have no power.
 use Rattle.std.specs.Prelude.{ℕ, List}
-use Rattle.node_power.specs.Kinds as nodes
+use Rattle.node.specs.Kinds as nodes
 use Rattle.cells.specs.CoreRules.{CoreRules}
 
 -- A kind of node, of cores C over notes N, whose core meets inputs E, whose lists have entries X,

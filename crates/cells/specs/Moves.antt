@@ -8,8 +8,8 @@ use Rattle.fc_base.specs.declared.fault.FaultSort.TheVariants as sorts
 use Rattle.fc_base.specs.Fault.{sort_of}
 use Rattle.cells.specs.declared.answer.Reply.{Reply}
 use Rattle.cells.specs.declared.entry.HistoryEntry.{HistoryEntry}
-use Rattle.node_power.specs.declared.power.Power.{Power}
-use Rattle.node_power.specs.Kinds.{Stands}
+use Rattle.node.specs.declared.power.Power.{Power}
+use Rattle.node.specs.Kinds.{Stands}
 use Rattle.cells.specs.CoreRules.{rules_of}
 use Rattle.cells.specs.Kinds.{Kind}
 use Rattle.cells.specs.Rules.{Ask, Meets}

@@ -8,7 +8,7 @@ use Rattle.server_core.specs.Ranges.{OpensInRange}
 use Rattle.server_core.specs.Hearing.{FrameEntry}
 use Rattle.cells.specs.ServerKind.{server_kind}
 use Rattle.cells.specs.declared.entry.HistoryEntry.{HistoryEntry}
-use Rattle.node_power.specs.declared.power.Power.{Power}
+use Rattle.node.specs.declared.power.Power.{Power}
 use Rattle.cells.specs.Moves.{IsKept}
 use Rattle.cells.specs.Replay.{Makes}
 use Rattle.cells.specs.Seats.{times, IsNumbered}

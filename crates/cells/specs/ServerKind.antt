@@ -9,7 +9,7 @@ use Rattle.server_core.specs.History.{Opening}
 use Rattle.server_core.specs.Ranges.{OpensInRange, CameInRange}
 use Rattle.server_core.specs.Words.{Staged}
 use Rattle.server_core.specs.Hearing.{FrameEntry, packets_heard}
-use Rattle.node_power.specs.ServerKind as nodes
+use Rattle.server_core.specs.NodeKind as nodes
 use Rattle.cells.specs.Kinds.{Kind}
 use Rattle.cells.specs.Powers.{IsCut}
 use Rattle.cells.specs.ServerRules.{core}

@@ -8,9 +8,9 @@ use Rattle.server_core.specs.History.{Opening}
 use Rattle.server_core.specs.Hearing.{FrameEntry}
 use Rattle.server_core.specs.FrameEnds.{note_in}
 use Rattle.cells.specs.declared.answer.Reply.{Reply}
-use Rattle.node_power.specs.declared.power.Power.{Power}
-use Rattle.node_power.specs.Kinds.{note_by}
-use Rattle.node_power.specs.Kinds as nodes
+use Rattle.node.specs.declared.power.Power.{Power}
+use Rattle.node.specs.Kinds.{note_by}
+use Rattle.node.specs.Kinds as nodes
 use Rattle.cells.specs.ServerKind.{server_kind}
 use Rattle.cells.specs.ServerRules.{answer_of}
 

@@ -4,10 +4,10 @@ ghost use Rattle.std.specs.Prelude.{◌≡◌, ◌≤◌, [], true, false, List,
 ghost use Rattle.client_core.specs.Hearing.{FrameEntry, is_up};
 
 mod apply;
+mod calls;
 mod command;
 mod hear;
 mod incoming;
-mod node;
 mod outs;
 mod power;
 mod request;
@@ -19,7 +19,7 @@ use client_core::Client;
 pub use command::ClientCommand;
 use disk_model::Notes;
 use fc_base::{Fault, MAX_SERVERS};
-use node_power::Power;
+use node::Power;
 pub use request::ClientRequest;
 use std::alloc::Global;
 use std::marker::Model;

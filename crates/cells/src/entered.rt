@@ -4,7 +4,7 @@ ghost use Rattle.std.specs.Prelude.{◌≡◌, ◌<◌, ◌≤◌, List, length,
 ghost use Rattle.std.specs.Option.{ForSome};
 ghost use Rattle.hub.specs.Network.{HasRoom, IsSpelled};
 ghost use Rattle.cells.specs.AtHub.{is_left_out, told_at, Hears};
-ghost use Rattle.node_power.specs.Kinds.{Stands};
+ghost use Rattle.node.specs.Kinds.{Stands};
 ghost use Rattle.cells.specs.Powers.{IsReady};
 
 use crate::answer::{CallerAnswer, Reply};
@@ -15,7 +15,7 @@ use crate::input::NodeInput;
 use fc_base::Fault;
 use hub::Hub;
 use messages::{Frames, Node};
-use node_power::{NodeCore, Power};
+use node::{NodeCore, Power};
 use std::alloc::AllocError;
 
 /// Makes room for what comes to a node that is on: for one more entry of its history, and at the hub for so
@@ -31,7 +31,7 @@ pub fn make_room<N: Drop, C: NodeCore<N>>(
 ) -> Result<(), Fault>
     ensures ready { (opening : C.Opening) (past : List C.Entry) →
         Stands (C.kind opening) past power.now →
-        IsReady ((C.kind opening).is_up past) result }
+        IsReady ((C.kind opening).core.is_up past) result }
     ensures place { OnOk result (1 ≤ history.new.room) }
     ensures room { OnOk result (HasRoom hub.new.room frames bytes) }
     ensures items { history.new.items ≡ history.old.items }

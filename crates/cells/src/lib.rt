@@ -16,27 +16,27 @@
 //! }
 //! ```
 //!
-//! Begin with `server_cell`, and with `node` for what both cells do; in `specs/`, `ServerCells` and
+//! Begin with `server_cell`, and with `cell` for what both of them do; in `specs/`, `ServerCells` and
 //! `ClientCells` say what a cell shows, `Replay` what a history makes, and `Calls` what the calls of a node
 //! do.
 #![tactic(auto)]
 
 mod answer;
 mod at_hub;
+mod cell;
 mod client_cell;
 mod entered;
 mod entry;
 mod history;
 mod input;
-mod node;
 mod server_cell;
 mod short;
 
 pub use answer::{Answer, CallerAnswer, Reply};
 pub use at_hub::is_left_out;
+pub use cell::Node;
 pub use client_cell::{ClientCell, ClientCommand, ClientRequest, ClientTask};
 pub use entry::{HistoryEntry, Turn};
 pub use history::{History, LentEntry};
 pub use input::{FrameBytes, NodeInput};
-pub use node::Node;
 pub use server_cell::{Report, Seat, ServerCell, ServerTask};

@@ -5,8 +5,8 @@ ghost use Rattle.server_core.specs.Hearing.{FrameEntry, is_up};
 ghost use Rattle.cells.specs.Seated.{new_seats};
 
 mod apply;
+mod calls;
 mod hear;
-mod node;
 mod power;
 mod report;
 mod seat;
@@ -16,7 +16,7 @@ mod task;
 use crate::history::History;
 use disk_model::Notes;
 use fc_base::{Fault, MAX_SEATS, MAX_SERVERS, RunNo, ServerNo};
-use node_power::Power;
+use node::Power;
 pub use report::Report;
 pub use seat::Seat;
 use seats::{SEATS, new_seats};

@@ -5,7 +5,7 @@ use Rattle.fc_base.specs.declared.fault.Fault.{Fault}
 use Rattle.fc_base.specs.Fault.{sort_of}
 use Rattle.disk_model.specs.Left.{saved_for}
 use Rattle.disk_model.specs.Notes.{Note}
-use Rattle.disk_model.specs.Steps.{Answers, Faults}
+use Rattle.node.specs.Steps.{Answers, Faults}
 use Rattle.messages.specs.declared.packet.PacketParts.{PacketParts}
 use Rattle.messages.specs.declared.body.Body.{Body}
 use Rattle.messages.specs.Nodes.{is_client, is_mirror}

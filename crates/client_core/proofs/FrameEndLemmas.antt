@@ -7,13 +7,13 @@ use Rattle.fc_base.specs.Fault.{sort_of}
 use Rattle.disk_model.specs.declared.left.Left.{Left}
 use Rattle.disk_model.specs.Left.{saved_for}
 use Rattle.disk_model.specs.Notes.{Note}
-use Rattle.disk_model.specs.Steps.{Ends, EndsWithNumber}
+use Rattle.node.specs.Steps.{Ends, EndsWithNumber}
 use Rattle.messages.specs.Hearing.{Meaning, Says, Waits, Spoils, Strays, meaning}
 use Rattle.messages.specs.Senses.{Sense, Hears, Keeps, Drops, Misses, Unframed, sense_of, heard_or, SenseInRange, HearsInRange}
 use Rattle.messages.proofs.SenseLemmas.{hears_in_range}
-use Rattle.hearing.specs.Hearers as hearers
-use Rattle.hearing.proofs.HearerLemmas.{with_core, unframed_ends}
-use Rattle.hearing.proofs.NodeLemmas.{answers, faults, sent}
+use Rattle.node.specs.Hearers as hearers
+use Rattle.node.proofs.HearerLemmas.{with_core, unframed_ends}
+use Rattle.node.proofs.NodeLemmas.{answers, faults, sent}
 use Rattle.client_core.specs.Inputs.{PacketInput, FrameInput, Begin, Trigger, Stop, Verify, Deliver, Tick}
 use Rattle.client_core.specs.Inputs as inputs
 use Rattle.client_core.specs.declared.packet_client.PacketClient.{PacketClient}

@@ -1,7 +1,7 @@
 -- A client that is on answers from the whole list.
 use Rattle.std.proofs.Common.{refl, [], ◌∷◌}
 use Rattle.disk_model.specs.Left.{is_lost}
-use Rattle.disk_model.proofs.StepLemmas.{shows_all}
+use Rattle.node.proofs.StepLemmas.{shows_all}
 use Rattle.client_core.specs.History.{Met, Cut, Restart, Renew, Lose}
 use Rattle.client_core.specs.Words.{is_on, shown_entries}
 use Rattle.client_core.specs.Laws.{LooksAtAll}

@@ -3,8 +3,8 @@ use Rattle.std.specs.Prelude.{◌≡◌, ℕ, true, List, Result}
 use Rattle.fc_base.specs.declared.fault.Fault.{Fault}
 use Rattle.disk_model.specs.Left.{saved_for}
 use Rattle.disk_model.specs.Notes.{Note}
-use Rattle.disk_model.specs.Saving.{Save, Saves}
-use Rattle.disk_model.specs.Steps.{Steps}
+use Rattle.node.specs.Saving.{Save, Saves}
+use Rattle.node.specs.Steps.{Steps}
 use Rattle.client_core.specs.Inputs.{PacketInput}
 use Rattle.client_core.specs.declared.packet_client.PacketClient.{PacketClient}
 use Rattle.client_core.specs.declared.note.ClientNote.{ClientNote}
@@ -12,7 +12,7 @@ use Rattle.client_core.specs.Note.{spelling}
 use Rattle.client_core.specs.History.{Opening, Entry, Met}
 use Rattle.client_core.specs.Framed.{frame_bytes}
 use Rattle.client_core.specs.Saves.{Addition, with_addition}
-use Rattle.client_core.specs.Words.{words_noted, refusal, due}
+use Rattle.client_core.specs.Words.{is_on, words_noted, refusal, due}
 use Rattle.client_core.specs.Packets.{packets}
 use Rattle.client_core.specs.Stands.{StandsFor}
 
@@ -27,6 +27,7 @@ abbrev pub steps : {T : Type 0} → (T → Note) → Opening →
 steps note opening = record {
   note = λ client. note client.durable.notes;
   StandsFor = λ past client. StandsFor note client opening past;
+  is_up = is_on;
   refusal = refusal opening;
   due = due opening;
   met = Met;

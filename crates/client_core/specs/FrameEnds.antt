@@ -5,12 +5,12 @@ use Rattle.fc_base.specs.declared.limits.TheConstants.{MAX_SERVERS}
 use Rattle.fc_base.specs.declared.fault.Fault.{Fault}
 use Rattle.disk_model.specs.declared.left.Left.TheVariants.{Saved}
 use Rattle.disk_model.specs.Notes.{Note}
-use Rattle.disk_model.specs.Steps.{Steps}
+use Rattle.node.specs.Steps.{Steps}
 use Rattle.messages.specs.FrameBytes.{frame_spelling}
 use Rattle.messages.specs.Ranges.{is_generation}
-use Rattle.hearing.specs.Hearers as hearers
-use Rattle.hearing.specs.Nodes as nodes
-use Rattle.hearing.specs.Nodes.{Node}
+use Rattle.node.specs.Hearers as hearers
+use Rattle.node.specs.Nodes as nodes
+use Rattle.node.specs.Nodes.{Node}
 use Rattle.client_core.specs.Inputs.{PacketInput, FrameInput, Tick}
 use Rattle.client_core.specs.declared.packet_client.PacketClient.{PacketClient}
 use Rattle.client_core.specs.declared.client.Client.{Client}

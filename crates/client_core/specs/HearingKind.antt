@@ -1,11 +1,10 @@
 -- What kind of core over packets a client has, so that it hears frames.
 use Rattle.std.specs.Prelude.{refl, ℕ, List, []}
 use Rattle.disk_model.specs.Notes.{Note}
-use Rattle.hearing.specs.Hearers.{Kind, Laws}
+use Rattle.node.specs.Hearers.{CoreKind, Laws}
 use Rattle.client_core.specs.Inputs.{PacketInput, Deliver}
 use Rattle.client_core.specs.declared.packet_client.PacketClient.{PacketClient}
 use Rattle.client_core.specs.History.{Opening, Entry}
-use Rattle.client_core.specs.Words.{is_on}
 use Rattle.client_core.specs.Saves.{Addition}
 use Rattle.client_core.specs.Ends.{steps}
 use Rattle.client_core.specs.Hearing.{is_piece_for, is_end}
@@ -13,11 +12,10 @@ use Rattle.client_core.specs.Ranges.{IsInRange}
 
 -- The kind of the core of a client that was opened so.
 abbrev pub hearing_kind : {T : Type 0} → (T → Note) → Opening →
-    Kind (PacketClient T) PacketInput Entry Addition (List (List ℕ))
+    CoreKind (PacketClient T) PacketInput Entry Addition (List (List ℕ))
 hearing_kind note opening = record {
   core = steps note opening;
   delivers = Deliver;
-  is_on = is_on;
   is_for = is_piece_for opening.servers;
   ends = is_end;
   nothing = [];

@@ -6,6 +6,7 @@ pub mod Examples
 pub mod MirrorExamples
 pub mod FrameAnswers
 pub mod FrameEnds
+pub mod NodeKind
 pub mod Framed
 pub mod Hearing
 pub mod HearingKind

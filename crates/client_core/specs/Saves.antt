@@ -1,6 +1,6 @@
 -- What a call adds to the note.
 use Rattle.std.specs.Prelude.{◌+◌, Bool, if◌then◌else◌, [], ◌∷◌, ◌++◌, Option, Some, None}
-pub use Rattle.disk_model.specs.Steps.{unless_refused, is_answer}
+pub use Rattle.node.specs.Steps.{unless_refused, is_answer}
 use Rattle.verify_state.specs.State.{State}
 use Rattle.messages.specs.declared.body.Body.{Body}
 use Rattle.messages.specs.declared.body.Body.TheVariants as bodies

@@ -6,6 +6,7 @@ ghost use Rattle.fc_base.specs.declared.limits.TheConstants.{MAX_SERVERS};
 
 mod ask;
 mod deliver;
+mod node_core;
 
 use crate::generation::NotedGeneration;
 use crate::note::{ClientNote, notes_are_read_back, one_note};
@@ -14,8 +15,9 @@ use crate::packet_client::PacketClient;
 use crate::received::Received;
 use disk_model::Notes;
 use fc_base::{Fault, Generation, Key, RunNo, ServerNo};
-use hearing::Hearer;
 use messages::Assembly;
+use node::Hearer;
+pub use node_core::ClientSeed;
 use std::alloc::Global;
 use verify_state::VerifyState;
 

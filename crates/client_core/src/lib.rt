@@ -35,7 +35,7 @@ mod servers;
 mod standing;
 mod told;
 
-pub use client::Client;
+pub use client::{Client, ClientSeed};
 pub use law::{
     acks_are_for_kept_states, copies_are_of_states, examples, first_kept_stays, frames_are_short,
     kept_was_sent, looks_at_all, loss_begins_anew, notes_keep_ranges, numbers_are_fresh,

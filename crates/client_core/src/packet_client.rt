@@ -20,9 +20,10 @@ use crate::note::ClientNote;
 use crate::peers::Peers;
 use crate::refusal::{adds, fault_of, is_for_client};
 use crate::servers::Servers;
-use disk_model::{Durable, Notes};
+use disk_model::Notes;
 use fc_base::Fault;
 use messages::Packet;
+use node::Durable;
 use std::alloc::Global;
 
 /// A client to which whole packets come: its durable note, with whom it is, what it knows of its

@@ -2,6 +2,4 @@ pub mod SectorLemmas
 pub mod PickLemmas
 pub mod ContentLemmas
 pub mod LawLemmas
-pub mod StepLemmas
-pub mod SavingLemmas
 pub mod Sending

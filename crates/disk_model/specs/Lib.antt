@@ -10,7 +10,5 @@ pub mod MemNotes
 pub mod Countdown
 pub mod Laws
 pub mod Left
-pub mod Steps
-pub mod Saving
 pub mod FaultNotes
 pub mod FaultDisk

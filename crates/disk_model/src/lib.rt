@@ -15,7 +15,6 @@
 mod block;
 mod countdown;
 mod disk;
-mod durable;
 mod fault_disk;
 mod fault_notes;
 mod law;
@@ -31,7 +30,6 @@ mod singles;
 
 pub use block::is_block;
 pub use disk::Disk;
-pub use durable::Durable;
 pub use fault_disk::FaultDisk;
 pub use fault_notes::FaultNotes;
 pub use law::{block_law, examples, save_law, sector_law};

@@ -3,7 +3,7 @@ use Rattle.std.proofs.Common.{◌≡◌, List, arith}
 use Rattle.fc_base.specs.declared.fault.Fault.{Fault}
 use Rattle.fc_base.specs.declared.fault.FaultSort.{FaultSort}
 use Rattle.fc_base.specs.declared.fault.FaultSort.TheVariants as sorts
-use Rattle.disk_model.specs.Steps.{Steps, Faults}
+use Rattle.node.specs.Steps.{Steps, Faults}
 use Rattle.filters.specs.NodeSteps.{NotTaken}
 
 -- What comes and isn't answered, where no save fails.

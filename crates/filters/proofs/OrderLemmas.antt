@@ -8,7 +8,7 @@ use Rattle.fc_base.specs.declared.fault.Fault.TheVariants.{Down}
 use Rattle.fc_base.specs.declared.limits.TheConstants.{MAX_WRITES}
 use Rattle.fc_base.specs.declared.report.ReportParts.{ReportParts}
 use Rattle.disk_model.specs.declared.left.Left.TheVariants.{NoSave}
-use Rattle.disk_model.specs.Steps.{unless_refused}
+use Rattle.node.specs.Steps.{unless_refused}
 use Rattle.window.specs.History as window
 use Rattle.window.specs.History.{issued, issues}
 use Rattle.engine.specs.declared.issue.Ticket.{Ticket}

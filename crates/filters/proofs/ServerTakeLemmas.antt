@@ -16,7 +16,7 @@ use Rattle.fc_base.specs.declared.fault.Fault.{Fault}
 use Rattle.fc_base.specs.declared.fault.FaultSort.{FaultSort}
 use Rattle.fc_base.specs.declared.fault.FaultSort.TheVariants as sorts
 use Rattle.disk_model.specs.Notes.{Note}
-use Rattle.disk_model.specs.Steps.{Ends, Faults}
+use Rattle.node.specs.Steps.{Ends, Faults}
 use Rattle.engine.specs.declared.issue.Issue.{Issue as Answer}
 use Rattle.engine.specs.Answers.{is_write}
 use Rattle.job_file.specs.declared.job.Job.{Job}

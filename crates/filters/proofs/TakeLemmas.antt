@@ -10,7 +10,7 @@ use Rattle.fc_base.specs.declared.fault.Fault.{Fault}
 use Rattle.fc_base.specs.declared.fault.FaultSort.{FaultSort}
 use Rattle.fc_base.specs.declared.fault.FaultSort.TheVariants as sorts
 use Rattle.disk_model.specs.Notes.{Note}
-use Rattle.disk_model.specs.Steps.{LeavesNote}
+use Rattle.node.specs.Steps.{LeavesNote}
 use Rattle.client_core.specs.declared.client.Client.{Client}
 use Rattle.client_core.specs.Inputs.{FrameInput}
 use Rattle.client_core.specs.declared.received.Received.{Received}

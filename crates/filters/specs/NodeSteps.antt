@@ -5,7 +5,7 @@ use Rattle.fc_base.specs.declared.fault.Fault.{Fault}
 use Rattle.fc_base.specs.declared.fault.Fault.TheVariants.{FrameBadField}
 use Rattle.fc_base.specs.declared.fault.FaultSort.{FaultSort}
 use Rattle.fc_base.specs.declared.fault.FaultSort.TheVariants as sorts
-use Rattle.disk_model.specs.Steps.{Steps, Answers, Refuses}
+use Rattle.node.specs.Steps.{Steps, Answers, Refuses}
 use Rattle.messages.specs.declared.frame.Frame.{Frame}
 use Rattle.filters.specs.Records.{end_bytes}
 

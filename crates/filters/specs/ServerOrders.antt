@@ -1,7 +1,7 @@
 -- Which writes the jobs of a server would be given.
 use Rattle.std.specs.Prelude.{◌≡◌, ◌<◌, ℕ, false, List, Option}
 use Rattle.fc_base.specs.declared.limits.TheConstants.{MAX_JOBS}
-use Rattle.disk_model.specs.Steps.{unless_refused}
+use Rattle.node.specs.Steps.{unless_refused}
 use Rattle.engine.specs.declared.issue.Issue.{Issue as Answer}
 use Rattle.server_core.specs.declared.input.Input.TheVariants.{Issue}
 use Rattle.server_core.specs.History.{Opening}

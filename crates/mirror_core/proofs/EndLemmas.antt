@@ -11,9 +11,9 @@ use Rattle.disk_model.specs.declared.left.Left.{Left}
 use Rattle.disk_model.specs.declared.left.Left.TheVariants.{NoSave, LostNew, LostOld}
 use Rattle.disk_model.specs.Left.{saved_for, is_lost, has_new, bytes_left}
 use Rattle.disk_model.specs.Notes.{Note}
-use Rattle.disk_model.specs.Saving.{Unsaved}
-use Rattle.disk_model.specs.Steps.{LeavesNote, Answers, Fails, Faults}
-use Rattle.disk_model.proofs.StepLemmas.{and_true, is_own_answer, not_lost, lost_off}
+use Rattle.node.specs.Saving.{Unsaved}
+use Rattle.node.specs.Steps.{LeavesNote, Answers, Fails, Faults}
+use Rattle.node.proofs.StepLemmas.{and_true, is_own_answer, not_lost, lost_off}
 use Rattle.messages.specs.declared.frame.Frame.{Frame}
 use Rattle.mirror_core.specs.declared.mirror.Mirror.{Mirror}
 use Rattle.mirror_core.specs.declared.note.MirrorNote.{MirrorNote}

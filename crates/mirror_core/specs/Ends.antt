@@ -3,15 +3,15 @@ use Rattle.std.specs.Prelude.{◌≡◌, ℕ, true, List, Result}
 use Rattle.fc_base.specs.declared.fault.Fault.{Fault}
 use Rattle.disk_model.specs.Left.{saved_for}
 use Rattle.disk_model.specs.Notes.{Note}
-use Rattle.disk_model.specs.Saving.{Save, Saves}
-use Rattle.disk_model.specs.Steps.{Steps}
+use Rattle.node.specs.Saving.{Save, Saves}
+use Rattle.node.specs.Steps.{Steps}
 use Rattle.messages.specs.declared.frame.Frame.{Frame}
 use Rattle.mirror_core.specs.declared.note.MirrorNote.{MirrorNote}
 use Rattle.mirror_core.specs.declared.mirror.Mirror.{Mirror}
 use Rattle.mirror_core.specs.History.{Entry, Met}
 use Rattle.mirror_core.specs.Note.{spelling}
 use Rattle.mirror_core.specs.Saves.{Addition, with_addition}
-use Rattle.mirror_core.specs.Words.{words_noted, refusal, due}
+use Rattle.mirror_core.specs.Words.{is_on, words_noted, refusal, due}
 use Rattle.mirror_core.specs.Packets.{packets, frame_bytes}
 use Rattle.mirror_core.specs.Stands.{StandsFor}
 
@@ -26,6 +26,7 @@ abbrev pub steps : {T : Type 0} → (T → Note) → MirrorNote →
 steps note opening = record {
   note = λ mirror. note mirror.durable.notes;
   StandsFor = λ past mirror. StandsFor note mirror opening past;
+  is_up = is_on;
   refusal = refusal opening;
   due = due opening;
   met = Met;

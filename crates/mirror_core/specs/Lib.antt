@@ -1,5 +1,6 @@
 pub mod Bounds
 pub mod Ends
+pub mod NodeKind
 pub mod Examples
 pub mod History
 pub mod Laws

@@ -1,6 +1,6 @@
 -- What a frame adds to the note.
 use Rattle.std.specs.Prelude.{ℕ, Bool, if◌then◌else◌, nat_lt, [], ◌∷◌, ◌++◌, Option, Some, None}
-pub use Rattle.disk_model.specs.Steps.{unless_refused, is_answer}
+pub use Rattle.node.specs.Steps.{unless_refused, is_answer}
 use Rattle.verify_state.specs.State.{State}
 use Rattle.messages.specs.declared.frame.Frame.{Frame}
 use Rattle.state_table.specs.Kept.{kept_of}

@@ -10,13 +10,15 @@ ghost use Rattle.mirror_core.specs.Requests.{IsRequest};
 ghost use Rattle.mirror_core.specs.Words.{is_on, words_noted, generation, kept_state, shown_entries, would_save};
 
 mod deliver;
+mod node_core;
 mod save;
 
 use crate::note::{MirrorNote, one_note};
 use crate::request::{Request, request_in};
-use disk_model::{Durable, Notes};
+use disk_model::Notes;
 use fc_base::{Fault, Key};
 use messages::Frame;
+use node::Durable;
 use std::alloc::Global;
 use verify_state::VerifyState;
 

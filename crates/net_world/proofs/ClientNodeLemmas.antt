@@ -5,7 +5,7 @@ use Rattle.fc_base.specs.Fault.{sort_of}
 use Rattle.disk_model.specs.MemNotes.{Saved as Kept, note_of}
 use Rattle.disk_model.specs.declared.left.Left.{Left}
 use Rattle.disk_model.specs.Left.{is_lost}
-use Rattle.disk_model.specs.Steps as steps
+use Rattle.node.specs.Steps as steps
 use Rattle.messages.specs.declared.frame.Frame.TheVariants.{Whole, Piece}
 use Rattle.messages.specs.Hearing.{Meaning, Says, Waits, Spoils, Strays, meaning, heard_by, with_entry}
 use Rattle.client_core.specs.declared.client.Client.{Client}
@@ -18,7 +18,7 @@ use Rattle.client_core.specs.Words as words
 use Rattle.client_core.specs.Hearing.{FrameEntry, Met, Cut, rules, heard_at, packets_heard, is_up}
 use Rattle.client_core.specs.FrameEnds as core
 use Rattle.net_world.specs.declared.client_outs.ClientOuts.{ClientOuts}
-use Rattle.node_power.specs.declared.power.Power.TheVariants.{On}
+use Rattle.node.specs.declared.power.Power.TheVariants.{On}
 use Rattle.net_world.specs.ClientNodes.{client_nodes, Asks, answer_to}
 use Rattle.net_world.proofs.NodeLemmas.{Laws, stays, ends}
 

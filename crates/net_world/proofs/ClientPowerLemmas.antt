@@ -12,9 +12,9 @@ use Rattle.client_core.specs.Hearing.{FrameEntry, Cut, packets_heard, is_up}
 use Rattle.client_core.specs.FrameEnds.{Restarts as Opened, Renews as Renewed}
 use Rattle.client_core.specs.Note.{Says, SaysOneThing, is_blank}
 use Rattle.client_core.specs.Words.{words_noted}
-use Rattle.node_power.specs.declared.power.Power.TheVariants.{On, Off, Lent}
-use Rattle.node_power.specs.Kinds as nodes
-use Rattle.node_power.specs.ClientKind.{client_kind}
+use Rattle.node.specs.declared.power.Power.TheVariants.{On, Off, Lent}
+use Rattle.node.specs.Kinds as nodes
+use Rattle.client_core.specs.NodeKind.{client_kind}
 use Rattle.net_world.specs.ClientNodes.{ClientNode, client_nodes, HasNone, IsEmptyIfBlank, Stands, Restarts, Renews}
 use Rattle.net_world.proofs.NodeLemmas.{never, stays_off}
 use Rattle.net_world.proofs.ClientNodeLemmas.{laws}

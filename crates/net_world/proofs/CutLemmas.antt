@@ -29,7 +29,7 @@ use Rattle.server_core.specs.Answers as answers
 use Rattle.server_core.specs.Hearing.{FrameEntry, Met, Cut, Restart, rules, heard_at, packets_heard, is_up}
 use Rattle.server_core.specs.FrameAnswers.{refusal, due, would_save, answered_entry}
 use Rattle.net_world.specs.ServerNodes.{ServerNode}
-use Rattle.node_power.specs.declared.power.Power.TheVariants.{Off}
+use Rattle.node.specs.declared.power.Power.TheVariants.{Off}
 use Rattle.net_world.specs.ServerNodes.{server_nodes, Stands, Restarts, CutsInRestart, no_save, boots}
 use Rattle.net_world.proofs.NodeLemmas as of_nodes
 use Rattle.net_world.proofs.NodeLemmas.{Saves}

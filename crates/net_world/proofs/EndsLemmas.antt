@@ -9,7 +9,7 @@ use Rattle.messages.specs.declared.refusal.Act.{Act}
 use Rattle.messages.specs.declared.node.Node.{Node}
 use Rattle.messages.specs.declared.node.Node.TheVariants as nodes
 use Rattle.messages.specs.Senses.{is_drop}
-use Rattle.disk_model.specs.Steps.{is_answer}
+use Rattle.node.specs.Steps.{is_answer}
 use Rattle.server_core.specs.Inputs.{PacketInput, FrameInput}
 use Rattle.server_core.specs.declared.input.Input.TheVariants as inputs
 use Rattle.fc_base.specs.declared.record.JobParts.{JobParts}

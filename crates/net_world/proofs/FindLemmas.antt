@@ -27,7 +27,7 @@ use Rattle.server_core.specs.Check.{Check, Progress, Wanting, Full, With, Refuse
 use Rattle.server_core.specs.Answers.{shown_entries, run_job, job_of_run, check_job, job_of_check, is_ready, status, number_of_check}
 use Rattle.server_core.specs.OpenWrites.{open_origin, open_ticket, open_write, origin_told, TicketsTellOrigins}
 use Rattle.server_core.specs.Hearing.{FrameEntry, packets_heard, is_up}
-use Rattle.node_power.specs.Kinds.{Shows}
+use Rattle.node.specs.Kinds.{Shows}
 use Rattle.net_world.specs.declared.world.World.{World}
 use Rattle.net_world.specs.Setup.{Setup}
 use Rattle.net_world.specs.Trace.{of_server, opening_of}

@@ -17,9 +17,9 @@ use Rattle.mirror_core.specs.Requests.{request_in}
 use Rattle.mirror_core.specs.Words.{is_on, words_noted, refusal, due}
 use Rattle.mirror_core.specs.Ends.{answered_entry}
 use Rattle.mirror_core.specs.Stands.{NotOpened, Restarts as Opened}
-use Rattle.node_power.specs.Kinds as nodes
-use Rattle.node_power.specs.MirrorKind.{mirror_kind}
-use Rattle.node_power.specs.declared.power.Power.TheVariants.{Off}
+use Rattle.node.specs.Kinds as nodes
+use Rattle.mirror_core.specs.NodeKind.{mirror_kind}
+use Rattle.node.specs.declared.power.Power.TheVariants.{Off}
 use Rattle.net_world.specs.MirrorNodes.{MirrorNode, mirror_nodes, Stands, Restarts}
 use Rattle.net_world.proofs.NodeLemmas.{Laws, Saves, stays, relabel}
 

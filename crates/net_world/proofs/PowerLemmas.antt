@@ -13,9 +13,9 @@ use Rattle.server_core.specs.Words.{boot, words_noted}
 use Rattle.server_core.specs.Ends.{NotOpened}
 use Rattle.server_core.specs.Hearing.{FrameEntry, packets_heard}
 use Rattle.server_core.specs.FrameEnds.{Opens, Restarts as Opened}
-use Rattle.node_power.specs.declared.power.Power.TheVariants.{On, Off}
-use Rattle.node_power.specs.Kinds as nodes
-use Rattle.node_power.specs.ServerKind.{server_kind}
+use Rattle.node.specs.declared.power.Power.TheVariants.{On, Off}
+use Rattle.node.specs.Kinds as nodes
+use Rattle.server_core.specs.NodeKind.{server_kind}
 use Rattle.net_world.specs.ServerNodes.{ServerNode, Stands, Restarts}
 
 says_same : (old new : Note) (n : ServerNote) → new ≡ old → Says old.bytes n → Says new.bytes n

@@ -17,7 +17,7 @@ use Rattle.client_core.specs.Hearing.{FrameEntry, Renew, Cut, packets_heard}
 use Rattle.client_core.specs.Note.{Says, SaysOneThing, blank, is_blank}
 use Rattle.client_core.specs.Words.{words_noted}
 use Rattle.client_core.specs.Stands.{IsBadNote, NotOpened, NotRenewed}
-use Rattle.node_power.specs.declared.power.Power.TheVariants.{Off}
+use Rattle.node.specs.declared.power.Power.TheVariants.{Off}
 use Rattle.net_world.specs.ClientNodes.{ClientNode, client_nodes, Stands, IsEmptyIfBlank, Restarts, Renews, CutsInRenewal}
 use Rattle.net_world.proofs.NodeLemmas.{never, relabel}
 use Rattle.net_world.proofs.ClientNodeLemmas.{says_blank}

@@ -17,9 +17,9 @@ use Rattle.client_core.specs.Saves.{Addition}
 use Rattle.client_core.specs.Hearing.{FrameEntry, Restart, Renew, Lose, packets_heard, is_up}
 use Rattle.client_core.specs.FrameEnds.{steps}
 use Rattle.net_world.specs.declared.client_outs.ClientOuts.{ClientOuts}
-use Rattle.node_power.specs.declared.power.Power.{Power}
-use Rattle.node_power.specs.declared.power.Power.TheVariants.{Off}
-use Rattle.node_power.specs.Kinds.{Kind}
+use Rattle.node.specs.declared.power.Power.{Power}
+use Rattle.node.specs.declared.power.Power.TheVariants.{Off}
+use Rattle.node.specs.Kinds.{Kind}
 use Rattle.net_world.specs.declared.told.WorldAnswer.{WorldAnswer}
 use Rattle.net_world.specs.declared.told.WorldAnswer.TheVariants as answers
 use Rattle.net_world.specs.Nodes as nodes
@@ -52,7 +52,6 @@ abbrev pub client_nodes : Opening →
 client_nodes opening = record {
   core = steps note_of opening;
   note = note_of;
-  is_up = is_up opening;
   Says = IsNoteOf opening;
 }
 

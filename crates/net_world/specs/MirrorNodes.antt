@@ -9,9 +9,9 @@ use Rattle.mirror_core.specs.declared.note.MirrorNote.{MirrorNote}
 use Rattle.mirror_core.specs.History.{Entry, Restart}
 use Rattle.mirror_core.specs.Saves.{Addition}
 use Rattle.mirror_core.specs.Words.{is_on}
-use Rattle.node_power.specs.declared.power.Power.{Power}
-use Rattle.node_power.specs.Kinds.{Kind}
-use Rattle.node_power.specs.MirrorKind.{mirror_kind}
+use Rattle.node.specs.declared.power.Power.{Power}
+use Rattle.node.specs.Kinds.{Kind}
+use Rattle.mirror_core.specs.NodeKind.{mirror_kind}
 use Rattle.net_world.specs.Nodes as nodes
 
 -- The mirror of a world.

@@ -12,9 +12,9 @@ use Rattle.server_core.specs.declared.server.Server.{Server}
 use Rattle.server_core.specs.History.{Opening}
 use Rattle.server_core.specs.Words.{Staged, has_boot}
 use Rattle.server_core.specs.Hearing.{FrameEntry, Restart, packets_heard}
-use Rattle.node_power.specs.declared.power.Power.{Power}
-use Rattle.node_power.specs.Kinds.{Kind}
-use Rattle.node_power.specs.ServerKind.{server_kind}
+use Rattle.node.specs.declared.power.Power.{Power}
+use Rattle.node.specs.Kinds.{Kind}
+use Rattle.server_core.specs.NodeKind.{server_kind}
 use Rattle.net_world.specs.Nodes as nodes
 use Rattle.net_world.specs.Nodes.{Starts}
 use Rattle.net_world.specs.Outcomes.{lost_by}

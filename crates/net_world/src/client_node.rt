@@ -9,8 +9,8 @@ ghost use Rattle.client_core.specs.Note.{blank, is_blank};
 ghost use Rattle.client_core.specs.History.{Opening};
 ghost use Rattle.client_core.specs.Hearing.{FrameEntry, Restart, Cut, is_up, packets_heard};
 ghost use Rattle.client_core.specs.Words.{words_noted};
-ghost use Rattle.node_power.specs.declared.power.Power.TheVariants.{Off};
-ghost use Rattle.node_power.specs.Kinds.{Shows};
+ghost use Rattle.node.specs.declared.power.Power.TheVariants.{Off};
+ghost use Rattle.node.specs.Kinds.{Shows};
 ghost use Rattle.net_world.specs.ClientNodes.{client_nodes, HasNone, Stands, Restarts};
 
 mod asks;
@@ -18,11 +18,11 @@ mod cut_in;
 mod renewal;
 
 pub(crate) use asks::ask;
-use client_core::Client;
+use client_core::{Client, ClientSeed};
 pub(crate) use cut_in::{cut_in_begin, cut_in_delivery, cut_in_verify};
 use disk_model::MemNotes;
 use fc_base::Fault;
-use node_power::{ClientSeed, Power};
+use node::Power;
 pub(crate) use renewal::{cut_in_renewal, lose, open_renewed, renew};
 use std::alloc::Global;
 

@@ -12,7 +12,7 @@ use disk_model::MemNotes;
 use fc_base::Fault;
 use messages::{Frame, Frames};
 use mirror_core::Mirror;
-use node_power::Power;
+use node::Power;
 use std::alloc::{AllocError, Global};
 
 /// A mirror that runs, or the notes of one that is off.

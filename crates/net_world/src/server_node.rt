@@ -11,7 +11,7 @@ ghost use Rattle.server_core.specs.History.{Opening};
 ghost use Rattle.server_core.specs.Hearing.{FrameEntry, Restart, Cut, packets_heard, is_up};
 ghost use Rattle.server_core.specs.Note.{Says};
 ghost use Rattle.server_core.specs.Words.{is_on};
-ghost use Rattle.node_power.specs.Kinds.{Shows};
+ghost use Rattle.node.specs.Kinds.{Shows};
 ghost use Rattle.net_world.specs.Nodes.{CutsIn};
 ghost use Rattle.net_world.specs.ServerNodes.{server_nodes, no_save, boots, Stands, Restarts, CutsInRestart};
 ghost use Rattle.net_world.specs.Trace.{opening_of};
@@ -19,7 +19,7 @@ ghost use Rattle.net_world.specs.Trace.{opening_of};
 use disk_model::{MemNotes, Notes};
 use fc_base::{Fault, ServerNo};
 use messages::Frame;
-use node_power::Power;
+use node::Power;
 use server_core::{Input, Server, ServerNote, one_note};
 use std::alloc::{AllocError, Global};
 

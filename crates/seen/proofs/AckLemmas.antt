@@ -13,7 +13,7 @@ use Rattle.verify_state.specs.State.{State}
 use Rattle.disk_model.specs.declared.left.Left.{Left}
 use Rattle.disk_model.specs.declared.left.Left.TheVariants as lefts
 use Rattle.disk_model.specs.Left.{is_lost}
-use Rattle.disk_model.specs.Steps.{is_answer}
+use Rattle.node.specs.Steps.{is_answer}
 use Rattle.messages.specs.declared.packet.PacketParts.{PacketParts}
 use Rattle.messages.specs.declared.body.Body.TheVariants as bodies
 use Rattle.messages.specs.declared.node.Node.TheVariants.{Server, Client, Mirror}

@@ -6,12 +6,12 @@ use Rattle.fc_base.specs.declared.fault.Fault.{Fault}
 use Rattle.fc_base.specs.Fault.{sort_of}
 use Rattle.messages.specs.declared.limits.TheConstants.{MAX_FRAME}
 use Rattle.disk_model.specs.Notes.{Note}
-use Rattle.disk_model.specs.Steps.{Ends}
+use Rattle.node.specs.Steps.{Ends}
 use Rattle.messages.specs.declared.refusal.Act.TheVariants as acts
 use Rattle.messages.specs.Senses.{Sense, Hears, Keeps, Drops, Misses, Unframed, heard_or}
-use Rattle.hearing.specs.Hearers as hearers
-use Rattle.hearing.proofs.HearerLemmas.{with_core, unframed_ends}
-use Rattle.hearing.proofs.NodeLemmas.{answers, faults, sent}
+use Rattle.node.specs.Hearers as hearers
+use Rattle.node.proofs.HearerLemmas.{with_core, unframed_ends}
+use Rattle.node.proofs.NodeLemmas.{answers, faults, sent}
 use Rattle.server_core.specs.Inputs.{PacketInput, FrameInput}
 use Rattle.server_core.specs.declared.outs.Outs.{Outs}
 use Rattle.server_core.specs.declared.packet_server.PacketServer.{PacketServer}

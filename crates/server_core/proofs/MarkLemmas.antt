@@ -9,7 +9,7 @@ use Rattle.fc_base.specs.Counted.{has, numbers_below}
 use Rattle.job_file.specs.declared.job.Job.{Job}
 use Rattle.messages.specs.declared.refusal.Act.{Act}
 use Rattle.messages.specs.declared.refusal.Act.TheVariants as acts
-use Rattle.disk_model.proofs.StepLemmas.{and_true}
+use Rattle.node.proofs.StepLemmas.{and_true}
 use Rattle.server_core.specs.declared.job_run.JobRun.{JobRun}
 use Rattle.server_core.specs.Request.{Request, ToMark}
 use Rattle.server_core.specs.Run.{Work, Halt, Triggered, Stopped, halt_of, origin_of, history}

@@ -1,6 +1,6 @@
 -- A server stands for its list with a restart.
 use Rattle.std.proofs.Common.{◌≡◌, sym, subst, inl, ℕ, ◌+◌, ◌-◌, ◌<◌, ◌^◌, arith, false, List, ◌∷◌}
-use Rattle.disk_model.specs.declared.durable.Durable.{Durable}
+use Rattle.node.specs.declared.durable.Durable.{Durable}
 use Rattle.disk_model.specs.declared.left.Left.TheVariants.{Saved}
 use Rattle.disk_model.specs.Notes.{Note}
 use Rattle.server_core.specs.declared.machine.Machine.{Machine}

@@ -12,7 +12,7 @@ use Rattle.disk_model.specs.declared.left.Left.{Left}
 use Rattle.disk_model.specs.declared.left.Left.TheVariants.{NoSave, Saved, LostNew, LostOld}
 use Rattle.disk_model.specs.Left.{saved_for, has_new}
 use Rattle.disk_model.specs.Notes.{Note}
-use Rattle.disk_model.specs.Steps.{LeavesNote, Answers, Fails, Faults, Ends}
+use Rattle.node.specs.Steps.{LeavesNote, Answers, Fails, Faults, Ends}
 use Rattle.messages.specs.FramesOf.{spelled_frames}
 use Rattle.messages.specs.Ranges.{is_run, is_word}
 use Rattle.server_core.specs.Inputs.{PacketInput}

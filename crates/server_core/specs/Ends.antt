@@ -10,7 +10,7 @@ use Rattle.fc_base.specs.Fault.{sort_of}
 use Rattle.disk_model.specs.declared.left.Left.TheVariants.{Saved}
 use Rattle.disk_model.specs.Left.{saved_for}
 use Rattle.disk_model.specs.Notes.{Note}
-use Rattle.disk_model.specs.Steps.{Steps}
+use Rattle.node.specs.Steps.{Steps}
 use Rattle.messages.specs.FramesOf.{spelled_frames}
 use Rattle.messages.specs.Laws.{IsPacket}
 use Rattle.server_core.specs.Inputs.{PacketInput}
@@ -88,6 +88,7 @@ abbrev pub steps : {T : Type 0} → (T → Note) → Opening →
 steps note opening = record {
   note = λ server. note server.durable.notes;
   StandsFor = λ past server. StandsFor note server opening past;
+  is_up = is_on;
   refusal = refusal opening;
   due = due opening;
   met = Met;

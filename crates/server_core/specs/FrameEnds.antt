@@ -3,11 +3,11 @@ use Rattle.std.specs.Prelude.{◌≡◌, ℕ, ◌+◌, List, ◌∷◌, map, Res
 use Rattle.fc_base.specs.declared.fault.Fault.{Fault}
 use Rattle.disk_model.specs.declared.left.Left.TheVariants.{Saved}
 use Rattle.disk_model.specs.Notes.{Note}
-use Rattle.disk_model.specs.Steps.{Steps}
+use Rattle.node.specs.Steps.{Steps}
 use Rattle.messages.specs.FrameBytes.{frame_spelling}
-use Rattle.hearing.specs.Hearers as hearers
-use Rattle.hearing.specs.Nodes as nodes
-use Rattle.hearing.specs.Nodes.{Node}
+use Rattle.node.specs.Hearers as hearers
+use Rattle.node.specs.Nodes as nodes
+use Rattle.node.specs.Nodes.{Node}
 use Rattle.server_core.specs.Inputs.{PacketInput, FrameInput}
 use Rattle.server_core.specs.declared.outs.Outs.{Outs}
 use Rattle.server_core.specs.declared.packet_server.PacketServer.{PacketServer}

@@ -1,13 +1,13 @@
 -- What kind of core over packets a server has, so that it hears frames.
 use Rattle.std.specs.Prelude.{refl, []}
 use Rattle.disk_model.specs.Notes.{Note}
-use Rattle.hearing.specs.Hearers.{Kind, Laws}
+use Rattle.node.specs.Hearers.{CoreKind, Laws}
 use Rattle.server_core.specs.Inputs.{PacketInput}
 use Rattle.server_core.specs.declared.input.Input.TheVariants.{Deliver}
 use Rattle.server_core.specs.declared.outs.Outs.{Outs}
 use Rattle.server_core.specs.declared.packet_server.PacketServer.{PacketServer}
 use Rattle.server_core.specs.History.{Opening, Entry}
-use Rattle.server_core.specs.Words.{Staged, is_on}
+use Rattle.server_core.specs.Words.{Staged}
 use Rattle.server_core.specs.Ends.{steps}
 use Rattle.server_core.specs.Handles.{sent_alone}
 use Rattle.server_core.specs.Hearing.{is_piece_for, is_end}
@@ -15,11 +15,10 @@ use Rattle.server_core.specs.Ranges.{IsInRange}
 
 -- The kind of the core of a server that was opened so.
 abbrev pub hearing_kind : {T : Type 0} → (T → Note) → Opening →
-    Kind (PacketServer T) PacketInput Entry Staged Outs
+    CoreKind (PacketServer T) PacketInput Entry Staged Outs
 hearing_kind note opening = record {
   core = steps note opening;
   delivers = Deliver;
-  is_on = is_on;
   is_for = is_piece_for opening.me;
   ends = is_end;
   nothing = sent_alone [];

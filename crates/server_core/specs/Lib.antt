@@ -30,6 +30,7 @@ pub mod Memory
 pub mod Ends
 pub mod HearingKind
 pub mod FrameEnds
+pub mod NodeKind
 -- Calls inside a server, and what it keeps: no public contract cites these.
 pub mod Kept
 pub mod Inside

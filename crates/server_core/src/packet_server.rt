@@ -13,9 +13,10 @@ use crate::law::{frames_are_short, packets_are_in_range};
 use crate::machine::Machine;
 use crate::note::{ServerNote, one_note};
 use crate::outs::Outs;
-use disk_model::{Durable, Notes};
+use disk_model::Notes;
 use fc_base::{Fault, RunNo, ServerNo};
 use messages::Packet;
+use node::Durable;
 use std::alloc::Global;
 
 /// A server to which whole packets come.
@@ -28,7 +29,7 @@ pub(crate) struct PacketServer<N> {
 impl<N: Notes> PacketServer<N> {
     ghost use Rattle.server_core.specs.History.{Opening, Entry};
     ghost use Rattle.server_core.specs.Words.{due};
-    ghost use Rattle.disk_model.specs.Steps.{Ends};
+    ghost use Rattle.node.specs.Steps.{Ends};
     ghost use Rattle.server_core.specs.Ends.{StandsFor, steps, Starts, Opens};
 
     /// Opens the server with this number over its note, where it saves the next boot before it answers;
@@ -88,7 +89,7 @@ impl<N: Notes> PacketServer<N> {
         packets_are_in_range();
         match self.machine.due(&input) {
             Some(run) => self.start(run),
-            None => self.machine.take(input),
+            None => self.machine.accept(input),
         }
     }
 

@@ -5,6 +5,7 @@ ghost use Rattle.fc_base.specs.declared.limits.TheConstants.{MAX_SERVERS};
 ghost use Rattle.server_core.specs.declared.input.Input.TheVariants.{Deliver, Issue as ToIssue, WriteDone as ToEnd, CheckDone as ToReport};
 
 mod look;
+mod node_core;
 
 use crate::input::{Input, WriteEnd};
 use crate::law::{frames_are_short, packets_are_in_range};
@@ -13,8 +14,8 @@ use crate::packet_server::PacketServer;
 use disk_model::Notes;
 use engine::{Issue, Ticket};
 use fc_base::{Attempt, CheckReport, Fault, JobNo, ServerNo};
-use hearing::Hearer;
 use messages::{Assembly, Frame};
+use node::Hearer;
 use std::alloc::Global;
 
 /// A server.
@@ -30,7 +31,7 @@ impl<N: Notes> Server<N> {
     ghost use Rattle.server_core.specs.Words.{words_noted};
     ghost use Rattle.server_core.specs.Hearing.{FrameEntry, packets_heard};
     ghost use Rattle.server_core.specs.FrameAnswers.{sense, would_save};
-    ghost use Rattle.disk_model.specs.Steps.{Ends};
+    ghost use Rattle.node.specs.Steps.{Ends};
     ghost use Rattle.server_core.specs.FrameEnds.{StandsFor, steps, Opens, note_in};
     ghost use Rattle.server_core.specs.Memory.{TakesNone, WritesTakeNone};
     ghost use Rattle.server_core.specs.Handles.{outs_of_issue, outs_of_end};

@@ -5,7 +5,7 @@ ghost use Rattle.client_core.specs.Inputs as inputs;
 ghost use Rattle.client_core.specs.History.{Opening};
 ghost use Rattle.client_core.specs.FrameEnds.{StandsFor, note_in};
 ghost use Rattle.client_core.specs.Hearing.{FrameEntry, is_up};
-ghost use Rattle.node_power.specs.declared.power.Power.TheVariants.{On};
+ghost use Rattle.node.specs.declared.power.Power.TheVariants.{On};
 ghost use Rattle.cells.specs.ClientKind.{client_kind};
 ghost use Rattle.cells.specs.ClientRules.{ask_of};
 ghost use Rattle.cells.specs.Failures.{Counts};
@@ -19,11 +19,11 @@ use super::request::ClientRequest;
 use super::task::ClientTask;
 use crate::answer::{Answer, Reply};
 use crate::input::NodeInput;
-use client_core::Client;
+use client_core::{Client, ClientSeed};
 use disk_model::Notes;
 use fc_base::{Fault, MAX_SERVERS};
 use messages::{Frame, Frames};
-use node_power::{ClientSeed, Power};
+use node::Power;
 use std::alloc::Global;
 
 /// Does what is asked without the network.

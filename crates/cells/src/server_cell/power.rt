@@ -18,7 +18,7 @@ use disk_model::Notes;
 use engine::{Issue, Ticket};
 use fc_base::{Fault, JobNo, MAX_SERVERS, ServerNo};
 use messages::{Act, Frame};
-use node_power::Power;
+use node::Power;
 use server_core::{Input, Outs, Server, WriteEnd, one_note};
 use std::alloc::Global;
 

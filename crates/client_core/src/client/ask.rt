@@ -1,7 +1,7 @@
 //! What a client asks of its servers, and of its mirror.
 
 ghost use Rattle.std.specs.Prelude.{◌≡◌, List, is_some};
-ghost use Rattle.disk_model.specs.Steps.{Ends, EndsWithNumber};
+ghost use Rattle.node.specs.Steps.{Ends, EndsWithNumber};
 ghost use Rattle.client_core.specs.Inputs as inputs;
 ghost use Rattle.client_core.specs.History.{Opening};
 ghost use Rattle.client_core.specs.Words.{words_noted};

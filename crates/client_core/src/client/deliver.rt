@@ -1,7 +1,7 @@
 //! A frame of a server, or of the mirror, is delivered.
 
 ghost use Rattle.std.specs.Prelude.{◌≡◌, List, IfOk, OnErr};
-ghost use Rattle.disk_model.specs.Steps.{Ends};
+ghost use Rattle.node.specs.Steps.{Ends};
 ghost use Rattle.messages.specs.Senses.{HearsInRange};
 ghost use Rattle.messages.specs.declared.frame.Frame.TheVariants.{Piece as OfPiece};
 ghost use Rattle.client_core.specs.Inputs.{Deliver};

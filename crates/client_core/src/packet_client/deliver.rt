@@ -2,7 +2,7 @@
 
 ghost use Rattle.std.specs.Prelude.{◌≡◌, ◌<◌, [], not, false, true, List, None, IsTrue};
 ghost use Rattle.fc_base.specs.declared.limits.TheConstants.{MAX_SERVERS};
-ghost use Rattle.disk_model.specs.Steps.{Ends};
+ghost use Rattle.node.specs.Steps.{Ends};
 ghost use Rattle.messages.specs.declared.packet.PacketParts.{PacketParts as Parts};
 ghost use Rattle.messages.specs.Nodes.{node_number, is_client, is_mirror};
 ghost use Rattle.messages.specs.Ranges.{is_body, KeepsState};

@@ -11,8 +11,8 @@ use super::PacketClient;
 use crate::refusal::is_server_of;
 use disk_model::Notes;
 use fc_base::Fault;
-use hearing::PacketCore;
 use messages::{Frames, Packet, Piece};
+use node::PacketCore;
 
 impl<N: Notes> PacketCore for PacketClient<N> {
     type Outs = Frames;
@@ -35,7 +35,7 @@ impl<N: Notes> PacketCore for PacketClient<N> {
         is_piece_for(self.peers.servers.count(), piece)
     }
 
-    fn take(&mut self, packet: Packet) -> Result<Frames, Fault> {
+    fn accept(&mut self, packet: Packet) -> Result<Frames, Fault> {
         self.deliver(packet)
     }
 

@@ -1,7 +1,7 @@
 //! What isn't answered is asked for again.
 
 ghost use Rattle.std.specs.Prelude.{List};
-ghost use Rattle.disk_model.specs.Steps.{Ends};
+ghost use Rattle.node.specs.Steps.{Ends};
 ghost use Rattle.client_core.specs.Inputs.{Tick};
 ghost use Rattle.client_core.specs.Ends.{steps};
 ghost use Rattle.client_core.specs.History.{Opening, Entry};

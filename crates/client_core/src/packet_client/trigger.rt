@@ -1,7 +1,7 @@
 //! A run is triggered, or stopped.
 
 ghost use Rattle.std.specs.Prelude.{◌≡◌, not, List, None, IsTrue};
-ghost use Rattle.disk_model.specs.Steps.{Ends};
+ghost use Rattle.node.specs.Steps.{Ends};
 ghost use Rattle.client_core.specs.Inputs.{Trigger, Stop};
 ghost use Rattle.client_core.specs.Ends.{steps};
 ghost use Rattle.messages.specs.Ranges.{is_run};

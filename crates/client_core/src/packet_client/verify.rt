@@ -2,7 +2,7 @@
 
 ghost use Rattle.std.specs.Prelude.{◌≡◌, ◌≤◌, ◌∷◌, not, List, None, IsTrue, IfOk};
 ghost use Rattle.fc_base.specs.declared.limits.TheConstants.{MAX_SERVERS};
-ghost use Rattle.disk_model.specs.Steps.{EndsWithNumber};
+ghost use Rattle.node.specs.Steps.{EndsWithNumber};
 ghost use Rattle.client_core.specs.Inputs.{Verify as Verifying};
 ghost use Rattle.client_core.specs.Ends.{steps};
 ghost use Rattle.messages.specs.Ranges.{is_attempt, is_run, is_text};

@@ -7,10 +7,10 @@ mod draft;
 mod frames;
 mod life;
 mod named;
-mod node;
 mod notes;
 mod spelling;
 mod states;
+mod story_node;
 mod telling;
 mod trouble;
 mod vectors;
@@ -21,10 +21,10 @@ pub use changes::{Reader, first_note, first_unlike_field, is_changed_note};
 pub use draft::Draft;
 pub use life::{Life, Unlike};
 pub use named::{put_state, put_word};
-pub use node::Node;
 pub use notes::UnreadNotes;
 pub use spelling::{Ends, is_frame};
 pub use states::is_state;
+pub use story_node::Node;
 pub use telling::{
     Failing, LostSave, NONE_FAILS, Story, failing_notes, holds_note, holds_once_on, unlike_after,
     unlike_over,

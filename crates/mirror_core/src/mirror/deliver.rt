@@ -1,7 +1,7 @@
 //! A frame of the client is delivered.
 
 ghost use Rattle.std.specs.Prelude.{◌≡◌, [], false, List, Some, IsTrue};
-ghost use Rattle.disk_model.specs.Steps.{Ends};
+ghost use Rattle.node.specs.Steps.{Ends};
 ghost use Rattle.messages.specs.Ranges.{is_generation};
 ghost use Rattle.messages.specs.declared.frame.Frame.{Frame as SaidFrame};
 ghost use Rattle.mirror_core.specs.declared.note.MirrorNote.{MirrorNote as Opening};

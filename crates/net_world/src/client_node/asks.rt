@@ -5,7 +5,7 @@ ghost use Rattle.disk_model.specs.MemNotes.{note_of};
 ghost use Rattle.client_core.specs.FrameEnds.{StandsFor};
 ghost use Rattle.client_core.specs.History.{Opening};
 ghost use Rattle.client_core.specs.Hearing.{FrameEntry, is_up};
-ghost use Rattle.node_power.specs.declared.power.Power.TheVariants.{On};
+ghost use Rattle.node.specs.declared.power.Power.TheVariants.{On};
 ghost use Rattle.net_world.specs.Asks.{input_of};
 ghost use Rattle.net_world.specs.ClientNodes.{Stands, Asks};
 

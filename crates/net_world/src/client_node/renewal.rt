@@ -13,7 +13,7 @@ use super::{ClientNode, cut, forget};
 use client_core::Client;
 use disk_model::MemNotes;
 use fc_base::{Fault, Generation};
-use node_power::Power;
+use node::Power;
 use std::alloc::{AllocError, Global};
 
 /// A client with a mirror, of so many servers, in the first generation.

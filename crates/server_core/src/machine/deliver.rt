@@ -13,8 +13,8 @@ use fc_base::Fault;
 use messages::{Body, Packet, PacketParts};
 
 impl Machine {
-    /// Takes what comes. A Start has to be one that isn't due to record a run.
-    pub(crate) fn take(&mut self, input: Input<Packet>) -> Result<Outs, Fault>
+    /// Accepts what comes. A Start has to be one that isn't due to record a run.
+    pub(crate) fn accept(&mut self, input: Input<Packet>) -> Result<Outs, Fault>
         ensures { EachUndue self.old (request_of self.old.me input)
             (λ now. Handled now (request_of self.old.me input) self.old self.new result) }
     {
@@ -31,7 +31,7 @@ impl Machine {
         }
     }
 
-    /// Takes a packet, where it is for this server and from the client.
+    /// Accepts a packet, where it is for this server and from the client.
     fn deliver(&mut self, packet: Packet) -> Result<Outs, Fault>
         ensures { EachUndue self.old (request_of self.old.me (Deliver packet))
             (λ now. Handled now (request_of self.old.me

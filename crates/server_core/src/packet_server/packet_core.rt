@@ -12,8 +12,8 @@ use crate::input::Input;
 use crate::outs::Outs;
 use disk_model::Notes;
 use fc_base::{Fault, ServerNo};
-use hearing::PacketCore;
 use messages::{Frames, Packet, Piece};
+use node::PacketCore;
 
 impl<N: Notes> PacketCore for PacketServer<N> {
     type Outs = Outs;
@@ -36,7 +36,7 @@ impl<N: Notes> PacketCore for PacketServer<N> {
         is_piece_for(self.machine.me, piece)
     }
 
-    fn take(&mut self, packet: Packet) -> Result<Outs, Fault> {
+    fn accept(&mut self, packet: Packet) -> Result<Outs, Fault> {
         self.step(Input::Deliver(packet))
     }
 

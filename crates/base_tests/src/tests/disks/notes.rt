@@ -1,6 +1,6 @@
 //! What notes in memory keep.
 
-use disk_model::{Durable, FaultNotes, MemNotes, Notes};
+use disk_model::{FaultNotes, MemNotes, Notes};
 use fc_base::Fault;
 use std::alloc::Global;
 use std::test::Fail;
@@ -71,32 +71,6 @@ static FAILED: [(bool, &[u8]); 2] = [(false, b"one"), (true, b"two")];
 fn failing_save(rt: HostRuntime) -> Result<(), Fail> {
     for (landed, left) in &FAILED {
         if !fails_once_anew(rt.alloc(), *landed, left) {
-            return Err(Fail::new(*landed));
-        }
-    }
-    Ok(())
-}
-
-/// Whether the notes of a node go down at the second save, which fails and leaves these bytes.
-fn goes_down(notes: FaultNotes, left: &[u8]) -> bool {
-    let mut durable = Durable::new(notes);
-    let is_saved = durable.save(b"one") == Ok(()) && !durable.is_down();
-    let is_lost = durable.save(b"two") == Err(Fault::SaveFault) && durable.is_down();
-    is_saved && is_lost && loads(&mut durable.into_notes(), left)
-}
-
-/// The same of new notes, where what failed has landed, or hasn't.
-fn goes_down_anew(alloc: Global, landed: bool, left: &[u8]) -> bool {
-    match opening(alloc) {
-        Some(notes) => goes_down(FaultNotes::new(notes, 1, landed), left),
-        None => false,
-    }
-}
-
-#[test]
-fn node_is_down_behind_a_failed_save(rt: HostRuntime) -> Result<(), Fail> {
-    for (landed, left) in &FAILED {
-        if !goes_down_anew(rt.alloc(), *landed, left) {
             return Err(Fail::new(*landed));
         }
     }

@@ -1,4 +1,4 @@
-use Rattle.node_power.proofs.PowerLemmas.{hidden, there}
+use Rattle.node.proofs.PowerLemmas.{hidden, there}
 use Rattle.cells.proofs.entered.make_room.Goals as goal
 
 pub returns-then-is_none-clause-ready : goal.returns-then-is_none-clause-ready

@@ -3,7 +3,7 @@
 use super::draft::Draft;
 use super::life::Life;
 use super::named::put_state;
-use super::node::Node;
+use super::story_node::Node;
 use super::telling::{NONE_FAILS, notes_in, open_as};
 use super::trouble::Trouble;
 use disk_model::FaultNotes;

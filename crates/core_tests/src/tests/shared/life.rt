@@ -4,9 +4,9 @@ mod rows;
 
 use super::draft::Draft;
 use super::frames::frame_in;
-use super::node::Node;
 use super::notes::{have_bytes, save};
 use super::spelling::Spelling;
+use super::story_node::Node;
 use super::trouble::Trouble;
 use super::words::first_word;
 use disk_model::FaultNotes;

@@ -2,7 +2,7 @@
 
 use super::draft::Draft;
 use super::life::{Life, Unlike};
-use super::node::Node;
+use super::story_node::Node;
 use super::trouble::Trouble;
 use super::words::first_word;
 use disk_model::{FaultNotes, MemNotes};

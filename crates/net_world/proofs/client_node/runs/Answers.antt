@@ -1,7 +1,7 @@
 use Rattle.std.proofs.Common.{◌∙◌}
 use Rattle.disk_model.specs.MemNotes.{note_of}
-use Rattle.node_power.specs.ClientKind.{client_kind}
-use Rattle.node_power.proofs.PowerLemmas.{shown}
+use Rattle.client_core.specs.NodeKind.{client_kind}
+use Rattle.node.proofs.PowerLemmas.{shown}
 use Rattle.net_world.proofs.ClientPowerLemmas.{weak}
 use Rattle.net_world.proofs.client_node.runs.Goals as goal
 

@@ -1,5 +1,5 @@
 use Rattle.std.proofs.Common.{◌∙◌}
-use Rattle.node_power.proofs.PowerLemmas.{shown}
+use Rattle.node.proofs.PowerLemmas.{shown}
 use Rattle.net_world.specs.MirrorNodes.{mirror_nodes}
 use Rattle.net_world.proofs.NodeLemmas.{weak}
 use Rattle.net_world.proofs.mirror_node.runs.Goals as goal

@@ -3,7 +3,7 @@ use Rattle.std.proofs.lemmas.Result.{err_from_is_err_and}
 use Rattle.server_core.specs.declared.input.Input.TheVariants.{Deliver}
 use Rattle.server_core.specs.FrameAnswers.{answered_entry}
 use Rattle.server_core.specs.Hearing.{Cut}
-use Rattle.node_power.specs.declared.power.Power.TheVariants.{On}
+use Rattle.node.specs.declared.power.Power.TheVariants.{On}
 use Rattle.net_world.specs.ServerNodes.{server_nodes}
 use Rattle.net_world.proofs.NodeLemmas.{cut_new, cut_fails, lent_ends, none_lent}
 use Rattle.net_world.proofs.ServerNodeLemmas.{laws}

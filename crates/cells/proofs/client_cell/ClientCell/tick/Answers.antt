@@ -13,7 +13,7 @@ use Rattle.cells.proofs.HubLemmas.{unready, unready_counts, hear_counts}
 use Rattle.cells.specs.ClientCells.{ClientLog, opening_of}
 use Rattle.cells.specs.ClientStands.{failures_of, reply_and_frames}
 use Rattle.cells.specs.ClientKind.{client_kind}
-use Rattle.node_power.proofs.PowerLemmas.{hidden, there}
+use Rattle.node.proofs.PowerLemmas.{hidden, there}
 use Rattle.cells.proofs.ClientHearLemmas.{unready_why, sent_spelled, heard_cell, told_why, replayed}
 use Rattle.cells.proofs.client_cell.ClientCell.tick.Goals as goal
 

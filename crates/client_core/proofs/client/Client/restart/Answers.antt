@@ -1,5 +1,5 @@
 use Rattle.std.proofs.Common.{sym, ◌∙◌, ap, subst, false, ◌==◌, length, List, ℕ, arith}
-use Rattle.disk_model.specs.declared.durable.Durable.{Durable}
+use Rattle.node.specs.declared.durable.Durable.{Durable}
 use Rattle.disk_model.specs.Notes.{Note}
 use Rattle.client_core.specs.Hearing.{packets_heard}
 use Rattle.client_core.specs.Note.{Says, Reads}

@@ -2,8 +2,8 @@
 
 use super::Life;
 use crate::tests::shared::frames::{are_sent, frame_in};
-use crate::tests::shared::node::Node;
 use crate::tests::shared::spelling::Spelling;
+use crate::tests::shared::story_node::Node;
 use crate::tests::shared::trouble::Trouble;
 use crate::tests::shared::words::{event_and_answer, first_word};
 use fc_base::Fault;

@@ -1,5 +1,5 @@
 use Rattle.std.proofs.Common.{sym, ◌∙◌, ap, subst, List, ℕ}
-use Rattle.disk_model.specs.declared.durable.Durable.{Durable}
+use Rattle.node.specs.declared.durable.Durable.{Durable}
 use Rattle.disk_model.specs.Notes.{Note}
 use Rattle.mirror_core.specs.Note.{Says, Reads}
 use Rattle.mirror_core.specs.Words.{words_noted}

@@ -1,5 +1,5 @@
 use Rattle.std.proofs.Common.{true, ◌∷◌}
-use Rattle.disk_model.specs.Steps.{answered}
+use Rattle.node.specs.Steps.{answered}
 use Rattle.client_core.specs.Inputs as inputs
 use Rattle.client_core.specs.Hearing.{Cut}
 use Rattle.net_world.specs.ClientNodes.{client_nodes}

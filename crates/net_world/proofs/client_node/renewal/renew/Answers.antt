@@ -1,7 +1,7 @@
 use Rattle.std.proofs.Common.{sym}
 use Rattle.disk_model.specs.MemNotes.{note_of}
-use Rattle.node_power.specs.ClientKind.{client_kind}
-use Rattle.node_power.proofs.PowerLemmas.{hidden, there}
+use Rattle.client_core.specs.NodeKind.{client_kind}
+use Rattle.node.proofs.PowerLemmas.{hidden, there}
 use Rattle.net_world.proofs.ClientPowerLemmas.{weak, kept, renewed}
 use Rattle.net_world.proofs.client_node.renewal.renew.Goals as goal
 

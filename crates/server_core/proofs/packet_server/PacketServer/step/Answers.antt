@@ -5,8 +5,8 @@ use Rattle.server_core.proofs.packet_server.PacketServer.step.Goals as goal
 
 pub returns-in-None : goal.returns-in-None
 returns-in-None g c o past s =
-    taken g.N.Notes.note c.args.self.now c.take.new.self o past c.args.input c.take.result (sym c.is_down.ensures ∙ c.if-is_down.false) s
-    c.in-None.ensures.due c.take.ensures
+    taken g.N.Notes.note c.args.self.now c.accept.new.self o past c.args.input c.accept.result (sym c.is_down.ensures ∙ c.if-is_down.false) s
+    c.in-None.ensures.due c.accept.ensures
     (λ o past. sendable c.frames_are_short.ensures c.packets_are_in_range.ensures o past c.args.input c.keeps_its_ranges.ensures)
 
 pub returns-in-Some : goal.returns-in-Some

@@ -1,6 +1,6 @@
 -- Each input takes a way of its own.
 use Rattle.std.proofs.Common.{sym, subst}
-use Rattle.disk_model.specs.Steps.{Ends}
+use Rattle.node.specs.Steps.{Ends}
 use Rattle.server_core.specs.declared.input.Input.TheVariants.{Issue, WriteDone}
 use Rattle.server_core.specs.FrameEnds.{steps}
 use Rattle.server_core.proofs.server.Server.step.Goals as goal

@@ -1,2 +1,0 @@
-pub mod HearerLemmas
-pub mod NodeLemmas

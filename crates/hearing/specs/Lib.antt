@@ -1,2 +1,0 @@
-pub mod Hearers
-pub mod Nodes

@@ -1,0 +1,51 @@
+//! A mirror is the core of a node.
+
+ghost use Rattle.std.specs.Prelude.{List, ℕ};
+ghost use Rattle.messages.specs.declared.frame.Frame.{Frame as SentFrame};
+ghost use Rattle.mirror_core.specs.declared.note.MirrorNote.{MirrorNote};
+ghost use Rattle.mirror_core.specs.History.{Entry as MirrorEntry};
+ghost use Rattle.mirror_core.specs.Saves.{Addition as MirrorAddition};
+ghost use Rattle.mirror_core.specs.Stands as mirror;
+ghost use Rattle.mirror_core.specs.NodeKind.{mirror_kind};
+
+use super::Mirror;
+use disk_model::Notes;
+use fc_base::Fault;
+use node::NodeCore;
+use std::alloc::Global;
+
+impl<N: Notes + Drop> NodeCore<N> for Mirror<N> {
+    type Seed = ();
+
+    ghost Opening = { MirrorNote };
+
+    ghost Input = { SentFrame };
+
+    ghost Entry = { MirrorEntry };
+
+    ghost Addition = { MirrorAddition };
+
+    ghost Outs = { List (List ℕ) };
+
+    ghost kind = { mirror_kind N.note };
+
+    ghost IsSeed = { λ seed. Unit {0} };
+
+    ghost Opens = { λ seed notes result. mirror.Restarts N.note (N.note notes) result };
+
+    #[inline(always)]
+    fn is_up(&self) -> bool {
+        self.on()
+    }
+
+    fn into_notes(self) -> N {
+        self.off()
+    }
+
+    /// Starts a mirror from what its note says.
+    ///
+    /// `BadNote`. `LoadFault`. `NoMemory`.
+    fn start(alloc: Global, _seed: (), notes: N) -> Result<Mirror<N>, (N, Fault)> {
+        Mirror::restart(alloc, notes)
+    }
+}

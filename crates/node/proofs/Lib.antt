@@ -1,0 +1,6 @@
+pub mod StepLemmas
+pub mod SavingLemmas
+pub mod HearerLemmas
+pub mod NodeLemmas
+pub mod PowerLemmas
+pub mod Sending

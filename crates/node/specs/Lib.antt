@@ -1,0 +1,5 @@
+pub mod Steps
+pub mod Saving
+pub mod Hearers
+pub mod Nodes
+pub mod Kinds

@@ -1,2 +1,0 @@
-pub mod PowerLemmas
-pub mod Sending

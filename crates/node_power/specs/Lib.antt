@@ -1,4 +1,0 @@
-pub mod ClientKind
-pub mod Kinds
-pub mod MirrorKind
-pub mod ServerKind
