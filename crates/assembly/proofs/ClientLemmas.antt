@@ -2,6 +2,7 @@
 use Rattle.std.proofs.Common.{◌≡◌, refl, ◌∙◌, ap, subst, inl, inr, ℕ, Bool, true, false}
 use Rattle.std.proofs.Common.{◌&&◌, ◌||◌, List, [], ◌++◌, Option, Some, None}
 use Rattle.std.specs.Prelude.{Contains, not, is_none, if◌then◌else◌, slice_get}
+use Rattle.std.specs.Option.{option_map}
 use Rattle.std.specs.List.{flat_map}
 use Rattle.fc_base.specs.declared.fault.Fault.{Fault}
 use Rattle.fc_base.specs.declared.fault.Fault.TheVariants.{Down, Misdirected}
@@ -35,6 +36,7 @@ use Rattle.client_core.specs.Words as words
 use Rattle.client_core.specs.Words.{is_on, words_noted}
 use Rattle.client_core.specs.Hearing.{FrameEntry, Met, Cut, Restart, Renew, Lose, coming_of, heard_at, packets_heard, rules as hearing, arrival}
 use Rattle.client_core.specs.FrameAnswers as answers
+use Rattle.client_core.specs.FrameEnds.{words_of}
 use Rattle.cells.specs.declared.input.NodeInput.{NodeInput}
 use Rattle.cells.specs.declared.input.NodeInput.TheVariants as came
 use Rattle.cells.specs.Rules.{Ask, Meets, Cuts, Restarts, Nothing}
@@ -142,7 +144,7 @@ met_asked o past (inputs.Verify run text) left h = tt
 met_asked o past inputs.Tick left h = tt
 
 lost_save : (o : Opening) (past : List FrameEntry) (e : FrameInput) (landed : Bool) (entry : FrameEntry) → answers.refusal o past e ≡ None
-    → (core o).unsaved past e (left_by landed) ≡ Some entry → IsLost (core o) IsAsked past (Meets e) entry
+    → option_map (λ due. Met e (left_by landed)) (answers.due o past e) ≡ Some entry → IsLost (core o) IsAsked past (Meets e) entry
 lost_save o past e landed entry free is =
     lost_met past e (Met e (left_by landed)) entry (answers.due o past e)
     (record {
@@ -155,7 +157,7 @@ lost_start : (o : Opening) (past : List FrameEntry) (landed : Bool) (entry : Fra
 lost_start o past landed entry is = cc
 
 -- What is known of the entries of a client.
-pub known : (o : Opening) → Known (core o) IsAsked
+pub known : (o : Opening) → Known (words_of o) (core o) IsAsked
 unfolding IsAsked
 known o = record {
   answered = λ past e free. met_asked o past e _ (inl free);

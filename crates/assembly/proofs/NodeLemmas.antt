@@ -25,6 +25,8 @@ use Rattle.cells.specs.declared.entry.HistoryEntry.{HistoryEntry}
 use Rattle.cells.specs.AtHub.{is_left_out}
 use Rattle.cells.specs.Replay.{Ends, Makes}
 use Rattle.cells.specs.Rules.{Rules, Nothing}
+use Rattle.server_core.specs.FrameEnds.{words_of as server_words}
+use Rattle.client_core.specs.FrameEnds.{words_of as client_words}
 use Rattle.cells.specs.ServerRules.{core as server_core, rules as server_rules}
 use Rattle.cells.specs.ClientRules.{core as client_core, rules as client_rules}
 use Rattle.net_world.specs.Setup.{without_mirror}
@@ -176,8 +178,8 @@ nothing (e ∷ past) = absurd e
 
 pub stays : (n : ℕ) (node : Node) (past after : List (EntryOf node)) (l : HistoryEntry) → is_left_out l.answer ≡ true
     → Ends (rules_of n node) past ((rules_of n node).asked l.came) l.answer l.sent after → after ≡ past
-stays n (Server s) past after l out ends = node_stays (server_core (opening_of s)) past _ l.answer l.sent after out ends
-stays n Client past after l out ends = node_stays (client_core (client_opening (without_mirror n))) past _ l.answer l.sent after out ends
+stays n (Server s) past after l out ends = node_stays (server_words (opening_of s)) (server_core (opening_of s)) past _ l.answer l.sent after out ends
+stays n Client past after l out ends = node_stays (client_words (client_opening (without_mirror n))) (client_core (client_opening (without_mirror n))) past _ l.answer l.sent after out ends
 stays n Mirror past after l out ends = nothing after ∙ sym (nothing past)
 
 -- ---- one node's history and list in place of another

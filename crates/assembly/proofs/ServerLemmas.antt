@@ -2,6 +2,7 @@
 use Rattle.std.proofs.Common.{◌≡◌, refl, ◌∙◌, ap, subst, inl, inr, ℕ, ◌<◌, Bool, true}
 use Rattle.std.proofs.Common.{false, ◌&&◌, List, [], Option, Some, None}
 use Rattle.std.specs.Prelude.{Contains, IsTrue, if◌then◌else◌}
+use Rattle.std.specs.Option.{option_map}
 use Rattle.std.specs.List.{flat_map}
 use Rattle.std.proofs.lemmas.Bool.{eqb-true}
 use Rattle.std.proofs.lemmas.Option.{same_Some}
@@ -37,6 +38,7 @@ use Rattle.server_core.specs.Replies.{Now, replies}
 use Rattle.server_core.specs.Words.{is_on, has_boot}
 use Rattle.server_core.specs.Hearing.{FrameEntry, Met, Cut, Restart, coming_of, heard_at, packets_heard, rules as hearing, arrival}
 use Rattle.server_core.specs.FrameAnswers as answers
+use Rattle.server_core.specs.FrameEnds.{words_of}
 use Rattle.cells.specs.declared.input.NodeInput.{NodeInput}
 use Rattle.cells.specs.declared.input.NodeInput.TheVariants as came
 use Rattle.cells.specs.Rules.{Ask, Meets, Cuts, Restarts, Nothing}
@@ -119,7 +121,7 @@ met_asked o past (inputs.WriteDone ticket end) left h = tt
 met_asked o past (inputs.CheckDone boot a j report) left h = refl
 
 lost_save : (o : Opening) (past : List FrameEntry) (e : FrameInput) (landed : Bool) (entry : FrameEntry) → answers.refusal o past e ≡ None
-    → (core o).unsaved past e (left_by landed) ≡ Some entry → IsLost (core o) (IsAsked o) past (Meets e) entry
+    → option_map (λ due. Met e (left_by landed)) (answers.due o past e) ≡ Some entry → IsLost (core o) (IsAsked o) past (Meets e) entry
 lost_save o past e landed entry free is =
     lost_met past e (Met e (left_by landed)) entry (answers.due o past e)
     (record {
@@ -138,7 +140,7 @@ no_drop true = inl refl
 no_drop false = inr (NumbersSpent, refl, refl)
 
 -- What is known of the entries of a server.
-pub known : (o : Opening) → Known (core o) (IsAsked o)
+pub known : (o : Opening) → Known (words_of o) (core o) (IsAsked o)
 unfolding IsAsked
 known o = record {
   answered = λ past e free. met_asked o past e _ (inl free);

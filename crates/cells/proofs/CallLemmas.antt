@@ -1,13 +1,15 @@
 -- How a call of a node ends that was left out, and why, whichever node it is.
-use Rattle.std.proofs.Common.{◌≡◌, refl, sym, subst, ℕ, ◌<◌, true, false, List, [], length, Option, Some, None, Ok, Err}
-use Rattle.std.specs.Prelude.{if◌then◌else◌, slice_get}
+use Rattle.std.proofs.Common.{◌≡◌, refl, sym, subst, ℕ, ◌<◌, true, false, List, [], length, Option, Some, None, Result, Ok, Err}
+use Rattle.std.specs.Prelude.{if◌then◌else◌, slice_get, IfErr}
 use Rattle.std.specs.Option.{ForSome}
 use Rattle.std.proofs.lemmas.Option.{slice_get_within}
 use Rattle.fc_base.specs.declared.fault.Fault.{Fault}
 use Rattle.fc_base.specs.declared.fault.Fault.TheVariants.{NoMemory, NoFrame, NodeOff}
 use Rattle.messages.specs.declared.node.Node.{Node}
 use Rattle.messages.specs.declared.frame.Frame.{Frame}
+use Rattle.messages.specs.FrameBytes.{frame_at}
 use Rattle.hub.specs.Network.{Network}
+use Rattle.cells.specs.declared.answer.CallerAnswer.{CallerAnswer}
 use Rattle.cells.specs.declared.input.NodeInput.{NodeInput}
 use Rattle.cells.specs.declared.input.NodeInput.TheVariants as came
 use Rattle.cells.specs.declared.entry.HistoryEntry.{HistoryEntry}
@@ -64,3 +66,12 @@ why_not_there rules history past net position NoFrame made on h =
 why_not_there rules history past net position NoMemory made on (bytes, is) =
     rw is (why_on rules history past (rules.asked (came.Frame bytes)) NoMemory made on refl)
 why_not_there rules history past net position _ made on h = absurd h
+
+-- Why a frame that comes isn't answered is by its bytes.
+pub why_there : {E X : Type 0} (rules : Rules E X) (history : List HistoryEntry) (net : Network) (position : ℕ) (it : NodeInput × Frame)
+    (result : Result CallerAnswer Fault) (delivers : Frame → Ask E)
+    → ((bytes : List ℕ) → frame_at bytes ≡ Some it.1 → rules.asked (came.Frame bytes) ≡ delivers it.1)
+    → Comes net position (Ok it) → IfErr result (HasWhy rules history (delivers it.1)) → IfErr result (IsWhyNot rules history (slice_get net.frames position))
+why_there rules history net position it (Ok told) delivers asks there h = tt
+why_there rules history net position it (Err fault) delivers asks (bytes, is, came, frame) h =
+    rw is (subst (λ ask. HasWhy rules history ask fault) (sym (asks bytes frame)) h)

@@ -1,5 +1,5 @@
 -- What comes to the client at the hub is entered, or left out.
-use Rattle.std.proofs.Common.{◌≡◌, refl, sym, ◌∙◌, ap, subst, ℕ, ◌+◌, arith, Bool, true, List, [], ◌∷◌, ◌++◌, length, take, Option, Some, None, Result, Ok, Err}
+use Rattle.std.proofs.Common.{◌≡◌, refl, sym, ◌∙◌, ap, subst, ℕ, ◌+◌, arith, Bool, true, false, List, [], ◌∷◌, ◌++◌, length, take, Option, Some, None, Result, Ok, Err}
 use Rattle.std.specs.Prelude.{map, slice_get, is_some, All, IfErr, IfSome}
 use Rattle.std.specs.Borrow.{Bor}
 use Rattle.std.specs.List.{sum_by}
@@ -24,7 +24,7 @@ use Rattle.client_core.specs.Laws.{PacketsAreInRange}
 use Rattle.client_core.specs.Ranges.{OpensInRange, CameInRange}
 use Rattle.client_core.specs.Hearing.{FrameEntry, packets_heard, is_up}
 use Rattle.client_core.specs.FrameAnswers.{answered_entry, entry_heard}
-use Rattle.client_core.specs.FrameEnds.{StandsFor, most_packets}
+use Rattle.client_core.specs.FrameEnds.{StandsFor, most_packets, words_of}
 use Rattle.cells.specs.declared.answer.CallerAnswer.{CallerAnswer}
 use Rattle.cells.specs.declared.input.NodeInput.{NodeInput}
 use Rattle.cells.specs.declared.entry.HistoryEntry.{HistoryEntry}
@@ -40,6 +40,7 @@ use Rattle.cells.proofs.HubLemmas as hub
 use Rattle.cells.proofs.MoveLemmas.{off_where}
 use Rattle.cells.specs.declared.client_cell.outs.ClientOuts.{ClientOuts}
 use Rattle.node.specs.declared.power.Power.{Power}
+use Rattle.node.specs.Kinds.{Shows}
 use Rattle.cells.specs.declared.client_cell.incoming.Incoming.{Incoming}
 use Rattle.cells.specs.declared.client_cell.incoming.Incoming.TheVariants as incoming
 use Rattle.cells.specs.declared.client_cell.request.ClientRequest.TheVariants as requests
@@ -125,6 +126,26 @@ pub replayed : {T : Type 0} (note : T → Note) (log : ClientLog) (power : Power
     → (past : List FrameEntry) × IsReplay log past
 replayed note log power cell = (cell.kept.past, cell.kept.made)
 
+-- ---- what it shows
+
+pub shown_replay : {T : Type 0} (note : T → Note) (log : ClientLog) (power : Power (Client T) T) (shown : ClientLog) → IsCell note log power → log ≡ shown
+    → (past : List FrameEntry) × IsReplay shown past
+shown_replay note log power shown cell view =
+    subst (λ (l : ClientLog). (past : List FrameEntry) × IsReplay l past) view (cell.kept.past, cell.kept.made)
+
+pub shown_on : {T : Type 0} (note : T → Note) (log : ClientLog) (power : Power (Client T) T) (shown : ClientLog) (cell : IsCell note log power) (client : Client T)
+    → log ≡ shown → Shows (client_kind note log.opening).node cell.kept.past power (Some client)
+    → (past : List FrameEntry) × IsReplay shown past × StandsFor note client shown.opening past × (is_up shown.opening past ≡ true)
+shown_on note log power shown cell client view (is, stands, up) =
+    subst (λ (l : ClientLog). (past : List FrameEntry) × IsReplay l past × StandsFor note client l.opening past × (is_up l.opening past ≡ true)) view
+    (cell.kept.past, cell.kept.made, stands, up)
+
+pub shown_off : {T : Type 0} (note : T → Note) (log : ClientLog) (power : Power (Client T) T) (shown : ClientLog) (cell : IsCell note log power)
+    → log ≡ shown → is_up log.opening cell.kept.past ≡ false
+    → (past : List FrameEntry) × IsReplay shown past × (is_up shown.opening past ≡ false)
+shown_off note log power shown cell view off =
+    subst (λ (l : ClientLog). (past : List FrameEntry) × IsReplay l past × (is_up l.opening past ≡ false)) view (cell.kept.past, cell.kept.made, off)
+
 -- ---- why it was refused
 
 pub unready_why : {T : Type 0} (note : T → Note) (log : ClientLog) (power : Power (Client T) T) (cell : IsCell note log power) (e : FrameInput) (fault : Fault)
@@ -157,4 +178,4 @@ is_there note log (Some client) (past, replay, stands, up) some = (past, replay,
 pub deliver_none : (log : ClientLog) (net : Network) (position : ℕ) (fault : Fault) → IsUp log true → Comes net position (Err fault)
     → IsWhyNot (rules log.opening) log.history (slice_get net.frames position) fault
 deliver_none log net position fault (past, replay, up) h =
-    why_not_there (rules log.opening) log.history past net position fault replay (off_where (core log.opening) past true up) h
+    why_not_there (rules log.opening) log.history past net position fault replay (off_where (words_of log.opening) (core log.opening) past true up) h

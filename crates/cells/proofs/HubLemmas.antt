@@ -21,9 +21,8 @@ use Rattle.cells.specs.declared.entry.HistoryEntry.{HistoryEntry}
 use Rattle.cells.specs.declared.entry.Turn.{Turn}
 use Rattle.cells.specs.AtHub.{is_left_out, told_at, Hears, Posts}
 use Rattle.cells.specs.Calls.{HasWhy}
-use Rattle.cells.specs.CoreRules.{rules_of}
 use Rattle.cells.specs.Failures.{Counts}
-use Rattle.cells.specs.Kinds.{Kind}
+use Rattle.cells.specs.Kinds.{Kind, rules_for}
 use Rattle.cells.specs.Moves.{Moves, StepEnds, IsKept, outcome_of}
 use Rattle.cells.specs.Powers.{IsReady}
 use Rattle.cells.specs.Rules.{Ask, Meets}
@@ -48,13 +47,13 @@ entry_by by came answer sent = record { by = by; came = came; answer = answer; s
 
 -- What was asked is entered.
 pub entered : {C N E X D O : Type 0} (k : Kind C N E X D O) (history : List HistoryEntry) (old new : Power C N) (kept : IsKept k history old) (by : Option Turn) (came : NodeInput)
-    (answer : Result Reply Fault) (sent : List (List ℕ)) → Moves k kept.past ((rules_of k.core).asked came) answer sent new
+    (answer : Result Reply Fault) (sent : List (List ℕ)) → Moves k kept.past ((rules_for k).asked came) answer sent new
     → IsKept k (entry_by by came answer sent ∷ history) new
 entered k history old new kept by came answer sent m = record { past = m.after; made = (kept.past, kept.made, m.ends); stands = m.stands; ranges = m.ranges kept.ranges }
 
 -- What came at the hub is entered, or left out.
 pub heard : {C N E X D O : Type 0} (k : Kind C N E X D O) (before after : List HistoryEntry) (old new : Power C N) (kept : IsKept k before old) (e : E)
-    (step : Result (Reply × List (List ℕ)) Fault) (node : Node) (came : NodeInput) (taken : Option ℕ) (net net' : Network) → (rules_of k.core).asked came ≡ Meets e
+    (step : Result (Reply × List (List ℕ)) Fault) (node : Node) (came : NodeInput) (taken : Option ℕ) (net net' : Network) → (rules_for k).asked came ≡ Meets e
     → StepEnds k kept.past e new step
     → Hears (is_left_out (outcome_of step).0) node came taken (outcome_of step).0 (outcome_of step).1 net net' before after → IsKept k after new
 heard k before after old new kept e step node came taken net net' asks f h = by_test (is_left_out (outcome_of step).0) refl h
@@ -83,23 +82,23 @@ unready_counts up old new _ h same = absurd h
 
 -- and says why.
 pub unready_why : {C N E X D O : Type 0} (k : Kind C N E X D O) (history : List HistoryEntry) (state : Power C N) (kept : IsKept k history state) (ask : Ask E)
-    (fault : Fault) → IsReady (k.core.is_up kept.past) (Err fault) → HasWhy (rules_of k.core) history ask fault
-unready_why k history state kept ask NodeOff h = why_off (rules_of k.core) history kept.past ask kept.made (off_where k.core kept.past false h)
-unready_why k history state kept ask NoMemory h = why_on (rules_of k.core) history kept.past ask NoMemory kept.made (off_where k.core kept.past true h) refl
+    (fault : Fault) → IsReady (k.node.core.words.is_up kept.past) (Err fault) → HasWhy (rules_for k) history ask fault
+unready_why k history state kept ask NodeOff h = why_off (rules_for k) history kept.past ask kept.made (off_where k.node.core.words k.core kept.past false h)
+unready_why k history state kept ask NoMemory h = why_on (rules_for k) history kept.past ask NoMemory kept.made (off_where k.node.core.words k.core kept.past true h) refl
 unready_why k history state kept ask _ h = absurd h
 
 -- What a step is refused for is by the rules.
 pub step_why : {C N E X D O : Type 0} (k : Kind C N E X D O) (history : List HistoryEntry) (old new : Power C N) (kept : IsKept k history old) (e : E)
-    (step : Result (Reply × List (List ℕ)) Fault) (first sent : ℕ) (result : Result CallerAnswer Fault) → k.core.is_up kept.past ≡ true
+    (step : Result (Reply × List (List ℕ)) Fault) (first sent : ℕ) (result : Result CallerAnswer Fault) → k.node.core.words.is_up kept.past ≡ true
     → StepEnds k kept.past e new step
-    → result ≡ told_at first sent (outcome_of step).0 → IfErr result (HasWhy (rules_of k.core) history (Meets e))
+    → result ≡ told_at first sent (outcome_of step).0 → IfErr result (HasWhy (rules_for k) history (Meets e))
 step_why k history old new kept e step first sent result up f is =
-    subst (λ (r : Result CallerAnswer Fault). IfErr r (HasWhy (rules_of k.core) history (Meets e))) (sym is) (by_step step f)
+    subst (λ (r : Result CallerAnswer Fault). IfErr r (HasWhy (rules_for k) history (Meets e))) (sym is) (by_step step f)
   where
     by_step : (step : Result (Reply × List (List ℕ)) Fault) → StepEnds k kept.past e new step
-        → IfErr (told_at first sent (outcome_of step).0) (HasWhy (rules_of k.core) history (Meets e))
+        → IfErr (told_at first sent (outcome_of step).0) (HasWhy (rules_for k) history (Meets e))
     by_step (Ok outs) f = tt
-    by_step (Err fault) f = why_on (rules_of k.core) history kept.past (Meets e) fault kept.made (off_where k.core kept.past true up)
+    by_step (Err fault) f = why_on (rules_for k) history kept.past (Meets e) fault kept.made (off_where k.node.core.words k.core kept.past true up)
         (refused_for k kept.past e fault new refl f)
 
 -- ---- the device's failures
@@ -130,13 +129,13 @@ packets_spelled law ps h = subst (All IsSpelled) (spelled ps) (all_spelled law p
 
 -- What a step sends is spelled, where the frames of its entry are.
 pub sent_spelled : {C N E X D O : Type 0} (k : Kind C N E X D O) (past : List X) (e : E) (x : X) (new : Power C N) (step : Result (Reply × List (List ℕ)) Fault)
-    → (rules_of k.core).added past (Meets e) ≡ Some x → k.InRange past → (k.InRange (x ∷ past) → All IsSpelled (map frame_spelling ((rules_of k.core).frames past x)))
+    → (rules_for k).added past (Meets e) ≡ Some x → k.InRange past → (k.InRange (x ∷ past) → All IsSpelled (map frame_spelling ((rules_for k).frames past x)))
     → StepEnds k past e new step → All IsSpelled (outcome_of step).1
 sent_spelled k past e x new (Err fault) is came each f = All-nil IsSpelled
 sent_spelled {X = X} k past e x new (Ok outs) is came each f =
     let m = f.moves in
     let same = by_some m.ends.entry x (sym m.ends.entry_is ∙ is) in
-    subst (All IsSpelled) (sym (m.ends.sent_are ∙ ap (λ x. map frame_spelling ((rules_of k.core).frames past x)) same))
+    subst (All IsSpelled) (sym (m.ends.sent_are ∙ ap (λ x. map frame_spelling ((rules_for k).frames past x)) same))
     (each (subst k.InRange (m.ends.after_is ∙ ap (λ x. x ∷ past) same) (m.ranges came)))
   where
     by_some : (x y : X) → Some x ≡ Some y → x ≡ y

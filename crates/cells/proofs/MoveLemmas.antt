@@ -13,11 +13,12 @@ use Rattle.cells.specs.declared.answer.Reply.{Reply}
 use Rattle.cells.specs.AtHub.{is_drop, is_memory, is_save, is_left_out, lacks_memory, IsWhyBy}
 use Rattle.cells.specs.Calls.{says_off, is_off}
 use Rattle.cells.specs.Failures.{is_load, CountsBy, Counts}
-use Rattle.cells.specs.Kinds.{Kind}
+use Rattle.cells.specs.Kinds.{Kind, rules_for}
 use Rattle.cells.specs.Moves.{Moves, Refuses, Faults, StepEnds, Fails, TaskEnds, outcome_of}
 use Rattle.cells.specs.Replay.{Stops}
 use Rattle.cells.specs.Rules.{Ask, Meets}
 use Rattle.cells.specs.CoreRules.{CoreRules, left_by, rules_of}
+use Rattle.node.specs.Steps.{Words}
 use Rattle.node.specs.declared.power.Power.{Power}
 use Rattle.node.specs.Kinds.{Stands}
 
@@ -33,17 +34,17 @@ up false x y h = cc
 
 -- What is refused, and leaves the list, leaves the node.
 pub refused : {C N E X D O : Type 0} (k : Kind C N E X D O) (past : List X) (ask : Ask E) (fault : Fault) (new : Power C N) → sort_of fault ≡ sorts.Refusal
-    → (rules_of k.core).refusal past ask ≡ Some fault → (rules_of k.core).passed past ask fault ≡ past → Stands k.node past new → Moves k past ask (Err fault) [] new
+    → (rules_for k).refusal past ask ≡ Some fault → (rules_for k).passed past ask fault ≡ past → Stands k.node past new → Moves k past ask (Err fault) [] new
 refused k past ask fault new sort why stays s = record {
   after = past;
-  ends = subst (λ sort. Stops (rules_of k.core) past ask sort fault [] past) (sym sort) (record { why = inl why; sends_none = refl; after_is = sym stays });
+  ends = subst (λ sort. Stops (rules_for k) past ask sort fault [] past) (sym sort) (record { why = inl why; sends_none = refl; after_is = sym stays });
   stands = s;
   ranges = λ h. h;
 }
 
 -- What comes to a node that isn't on is refused, and nothing changes.
-pub off_ends : {C N E X D O : Type 0} (k : Kind C N E X D O) (past : List X) (e : E) (new : Power C N) → (rules_of k.core).refusal past (Meets e) ≡ Some NodeOff
-    → (rules_of k.core).passed past (Meets e) NodeOff ≡ past → Stands k.node past new → StepEnds k past e new (Err NodeOff)
+pub off_ends : {C N E X D O : Type 0} (k : Kind C N E X D O) (past : List X) (e : E) (new : Power C N) → (rules_for k).refusal past (Meets e) ≡ Some NodeOff
+    → (rules_for k).passed past (Meets e) NodeOff ≡ past → Stands k.node past new → StepEnds k past e new (Err NodeOff)
 off_ends k past e new why stays s = record { moves = refused k past (Meets e) NodeOff new refl why stays s; unchanged = λ other. s }
 
 -- Where the fault tells of no dropped tag, it is another.
@@ -52,14 +53,14 @@ another fault h e = clash (sym (ap is_drop e) ∙ h)
 
 -- What is refused stands in the list where it dropped a tag, and else it doesn't.
 pub refused_step : {C N E X D O : Type 0} (k : Kind C N E X D O) (past : List X) (e : E) (met : X) (fault : Fault) (new : Power C N) → sort_of fault ≡ sorts.Refusal
-    → (rules_of k.core).refusal past (Meets e) ≡ Some fault → (rules_of k.core).passed past (Meets e) fault ≡ (if is_drop fault then met ∷ past else past)
+    → (rules_for k).refusal past (Meets e) ≡ Some fault → (rules_for k).passed past (Meets e) fault ≡ (if is_drop fault then met ∷ past else past)
     → Stands k.node (met ∷ past) new → ((fault ≡ FrameBadField → ⊥) → Stands k.node past new) → (k.InRange past → k.InRange (met ∷ past)) → Refuses k past e fault new
 refused_step k past e met fault new sort why passes stands unchanged ranges = record { moves = by_drop (is_drop fault) refl; unchanged = unchanged }
   where
     by_drop : (b : Bool) → is_drop fault ≡ b → Moves k past (Meets e) (Err fault) [] new
     by_drop true d = record {
       after = met ∷ past;
-      ends = subst (λ sort. Stops (rules_of k.core) past (Meets e) sort fault [] (met ∷ past)) (sym sort) (record {
+      ends = subst (λ sort. Stops (rules_for k) past (Meets e) sort fault [] (met ∷ past)) (sym sort) (record {
         why = inl why;
         sends_none = refl;
         after_is = sym (passes ∙ ap (λ b. if b then met ∷ past else past) d);
@@ -78,11 +79,11 @@ left_is lefts.LostNew h = (true, refl)
 left_is lefts.LostOld h = (false, refl)
 
 pub lost : {C N E X D O : Type 0} (k : Kind C N E X D O) (past : List X) (ask : Ask E) (fault : Fault) (landed : Bool) (entry : X) (new : Power C N) → sort_of fault ≡ sorts.Save
-    → (rules_of k.core).refusal past ask ≡ None → (rules_of k.core).lost past ask landed ≡ Some entry
+    → (rules_for k).refusal past ask ≡ None → (rules_for k).lost past ask landed ≡ Some entry
     → Stands k.node (entry ∷ past) new → (k.InRange past → k.InRange (entry ∷ past)) → Moves k past ask (Err fault) [] new
 lost k past ask fault landed entry new sort free is s ranges = record {
   after = entry ∷ past;
-  ends = subst (λ sort. Stops (rules_of k.core) past ask sort fault [] (entry ∷ past)) (sym sort)
+  ends = subst (λ sort. Stops (rules_for k) past ask sort fault [] (entry ∷ past)) (sym sort)
       (record { free = free; landed = landed; entry = entry; entry_is = is; sends_none = refl; after_is = refl });
   stands = s;
   ranges = ranges;
@@ -119,22 +120,22 @@ moved k past e new (Err fault) h f = by_sort (sort_of fault) h f
     by_sort sorts.Refusal h f = f.moves
 
 -- Why a step isn't answered: as the rules have it, where no note is loaded.
-pub refused_for : {C N E X D O : Type 0} (k : Kind C N E X D O) (past : List X) (e : E) (fault : Fault) (new : Power C N) → (rules_of k.core).loads past (Meets e) ≡ false
-    → Faults k past e (sort_of fault) fault new → IsWhyBy (rules_of k.core) past (Meets e) (sort_of fault) fault
+pub refused_for : {C N E X D O : Type 0} (k : Kind C N E X D O) (past : List X) (e : E) (fault : Fault) (new : Power C N) → (rules_for k).loads past (Meets e) ≡ false
+    → Faults k past e (sort_of fault) fault new → IsWhyBy (rules_for k) past (Meets e) (sort_of fault) fault
 refused_for {X = X} k past e fault new loads f = by_sort (sort_of fault) refl f
   where
-    by_why : ((rules_of k.core).refusal past (Meets e) ≡ Some fault) ⊎ ((fault ≡ LoadFault) × ((rules_of k.core).loads past (Meets e) ≡ true))
-        → (rules_of k.core).refusal past (Meets e) ≡ Some fault
+    by_why : ((rules_for k).refusal past (Meets e) ≡ Some fault) ⊎ ((fault ≡ LoadFault) × ((rules_for k).loads past (Meets e) ≡ true))
+        → (rules_for k).refusal past (Meets e) ≡ Some fault
     by_why (inl h) = h
     by_why (inr h) = absurd (clash (sym h.1 ∙ loads))
 
-    by_stop : (after : List X) → Stops (rules_of k.core) past (Meets e) sorts.Refusal fault [] after → (rules_of k.core).refusal past (Meets e) ≡ Some fault
+    by_stop : (after : List X) → Stops (rules_for k) past (Meets e) sorts.Refusal fault [] after → (rules_for k).refusal past (Meets e) ≡ Some fault
     by_stop after p = by_why p.why
 
-    by_sort : (sort : FaultSort) → sort_of fault ≡ sort → Faults k past e sort fault new → IsWhyBy (rules_of k.core) past (Meets e) sort fault
+    by_sort : (sort : FaultSort) → sort_of fault ≡ sort → Faults k past e sort fault new → IsWhyBy (rules_for k) past (Meets e) sort fault
     by_sort sorts.Memory is f = f.0
     by_sort sorts.Save is f = tt
-    by_sort sorts.Refusal is f = by_stop f.moves.after (subst (λ (sort : FaultSort). Stops (rules_of k.core) past (Meets e) sort fault [] f.moves.after) is f.moves.ends)
+    by_sort sorts.Refusal is f = by_stop f.moves.after (subst (λ (sort : FaultSort). Stops (rules_for k) past (Meets e) sort fault [] f.moves.after) is f.moves.ends)
 
 -- ---- a task
 
@@ -185,8 +186,8 @@ unanswered k past e fault new f = by_sort (sort_of fault) f
 
 -- ---- whether it is on
 
-pub off_where : {E X : Type 0} (c : CoreRules E X) (past : List X) (is : Bool) → c.is_up past ≡ is → is_off (rules_of c) past ≡ not is
-off_where c past is h = ap (λ b. says_off (if b then None else Some NodeOff)) h ∙ by_test is
+pub off_where : {E X D : Type 0} (w : Words E X D) (c : CoreRules E X) (past : List X) (is : Bool) → w.is_up past ≡ is → is_off (rules_of w c) past ≡ not is
+off_where w c past is h = ap (λ b. says_off (if b then None else Some NodeOff)) h ∙ by_test is
   where
     by_test : (b : Bool) → says_off (if b then None else Some NodeOff) ≡ not b
     by_test true = refl

@@ -3,7 +3,6 @@
 use denote.RattleType.{RattleType}
 use denote.Param.Send.{IsSend, sendable}
 use Rattle.std.proofs.Crossing.{crosses}
-use Rattle.std.proofs.MapsCrossing.{crosses as maps}
 use Rattle.std.specs.contracts.snapshot.Snapshot as snapshot
 use Rattle.fc_base.proofs.Sending.{fault_sent}
 use Rattle.messages.proofs.Sending.{frames_sent}

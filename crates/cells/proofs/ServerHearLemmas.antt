@@ -19,8 +19,9 @@ use Rattle.server_core.specs.History as history
 use Rattle.server_core.specs.History.{Opening}
 use Rattle.server_core.specs.Laws.{PacketsAreInRange}
 use Rattle.server_core.specs.Ranges.{OpensInRange, CameInRange}
-use Rattle.server_core.specs.Hearing.{FrameEntry, packets_heard}
+use Rattle.server_core.specs.Hearing.{FrameEntry, packets_heard, is_up}
 use Rattle.server_core.specs.FrameAnswers.{answered_entry, entry_heard}
+use Rattle.server_core.specs.FrameEnds.{StandsFor}
 use Rattle.cells.specs.ServerKind.{server_kind}
 use Rattle.cells.specs.declared.input.NodeInput.{NodeInput}
 use Rattle.cells.specs.declared.entry.HistoryEntry.{HistoryEntry}
@@ -30,7 +31,8 @@ use Rattle.cells.specs.Rules.{Meets}
 use Rattle.cells.specs.ServerRules.{ask_of}
 use Rattle.cells.proofs.HubLemmas.{heard, packets_spelled, sent_spelled as spelled_by}
 use Rattle.node.specs.declared.power.Power.{Power}
-use Rattle.cells.specs.ServerCells.{Replays, IsCell}
+use Rattle.node.specs.Kinds.{Shows}
+use Rattle.cells.specs.ServerCells.{ServerLog, Replays, IsReplay, IsCell}
 use Rattle.cells.specs.ServerStands.{reply_and_frames}
 use Rattle.messages.specs.declared.node.Node.{Node}
 use Rattle.hub.specs.Network.{Network}
@@ -102,3 +104,29 @@ heard_cell note o power new before after applied cell e step node came taken net
 pub replayed : {T : Type 0} (note : T → Note) (o : Opening) (power : Power (Server T) T) (history : List HistoryEntry) (applied : List ℕ)
     → IsCell note o power history applied → (past : List FrameEntry) × Replays o history past
 replayed note o power history applied cell = (cell.kept.past, record { numbered = cell.numbered; made = cell.kept.made })
+
+-- ---- what it shows
+
+-- What a server shows whose cell is kept over this power, with this count of events.
+abbrev pub IsShown : {T : Type 0} → (T → Note) → ServerLog → Power (Server T) T → List ℕ → Type 0
+IsShown note log power applied = IsCell note log.opening power log.history applied
+
+pub shown_replay : {T : Type 0} (note : T → Note) (log : ServerLog) (power : Power (Server T) T) (applied : List ℕ) (shown : ServerLog)
+    → IsShown note log power applied → log ≡ shown → (past : List FrameEntry) × IsReplay shown past
+shown_replay note log power applied shown cell view =
+    subst (λ (l : ServerLog). (past : List FrameEntry) × IsReplay l past) view (replayed note log.opening power log.history applied cell)
+
+pub shown_on : {T : Type 0} (note : T → Note) (log : ServerLog) (power : Power (Server T) T) (applied : List ℕ) (shown : ServerLog)
+    (cell : IsShown note log power applied) (server : Server T) → log ≡ shown
+    → Shows (server_kind note log.opening).node cell.kept.past power (Some server)
+    → (past : List FrameEntry) × IsReplay shown past × StandsFor note server shown.opening past × (is_up shown.opening past ≡ true)
+shown_on note log power applied shown cell server view (is, stands, up) =
+    subst (λ (l : ServerLog). (past : List FrameEntry) × IsReplay l past × StandsFor note server l.opening past × (is_up l.opening past ≡ true)) view
+    (cell.kept.past, record { numbered = cell.numbered; made = cell.kept.made }, stands, up)
+
+pub shown_off : {T : Type 0} (note : T → Note) (log : ServerLog) (power : Power (Server T) T) (applied : List ℕ) (shown : ServerLog)
+    (cell : IsShown note log power applied) → log ≡ shown → is_up log.opening cell.kept.past ≡ false
+    → (past : List FrameEntry) × IsReplay shown past × (is_up shown.opening past ≡ false)
+shown_off note log power applied shown cell view off =
+    subst (λ (l : ServerLog). (past : List FrameEntry) × IsReplay l past × (is_up l.opening past ≡ false)) view
+    (cell.kept.past, record { numbered = cell.numbered; made = cell.kept.made }, off)

@@ -57,11 +57,6 @@ no_drop o past Misses fault h k = refl
 fits : {T : Type 0} (note : T → Note) (o : Opening) (past : List FrameEntry) (e : FrameInput)
     → Fits (server_kind note o) past e (λ sort. UnlessMemory IsInRange sort (sense o past e))
 fits note o past e = record {
-  same_up = refl;
-  refusal_is = refl;
-  answered_is = refl;
-  dropped_is = refl;
-  unsaved_is = λ left. refl;
   stays = λ fault server why other h. h (no_drop o past (sense o past e) fault why other);
   alike = λ h. h;
   ranges = λ h left. came_after o past e left h;

@@ -1,5 +1,5 @@
 -- A step of a core that is on ends as the rules of its node have it, whichever core it is.
-use Rattle.std.proofs.Common.{◌≡◌, refl, sym, ◌∙◌, ap, ℕ, true, false, List, ◌∷◌, Some, Result, Ok, Err}
+use Rattle.std.proofs.Common.{◌≡◌, refl, ◌∙◌, ap, ℕ, true, false, List, ◌∷◌, Some, Result, Ok, Err}
 use Rattle.std.specs.Prelude.{◌&&◌, ◌||◌, if◌then◌else◌, map}
 use Rattle.std.specs.Option.{option_map}
 use Rattle.fc_base.specs.declared.fault.Fault.{Fault}
@@ -16,7 +16,7 @@ use Rattle.messages.specs.FrameBytes.{frame_spelling}
 use Rattle.cells.specs.declared.answer.Reply.{Reply}
 use Rattle.node.specs.declared.power.Power.{Power}
 use Rattle.node.specs.declared.power.Power.TheVariants.{On}
-use Rattle.cells.specs.AtHub.{is_drop, is_save}
+use Rattle.cells.specs.AtHub.{is_save}
 use Rattle.cells.specs.CoreRules.{left_by}
 use Rattle.cells.specs.Failures.{is_load, Counts, CountsBy}
 use Rattle.cells.specs.Moves.{Faults, StepEnds}
@@ -26,41 +26,36 @@ use Rattle.cells.specs.Rules.{Meets}
 use Rattle.cells.proofs.MoveLemmas as moves
 use Rattle.cells.proofs.MoveLemmas.{up, refused_step, lost, left_is, no_load}
 
--- What an input is to a core by its steps is what it is by the rules of its kind; and where it was heard, which
--- the sort of a fault tells, the list behind it is within its ranges.
+-- What is refused leaves the core as it was, but where a tag is dropped; and where an input was heard, which the
+-- sort of a fault tells, the list behind it is within its ranges.
 pub record Fits {C N E X D O : Type 0} (k : Kind C N E X D O) (past : List X) (e : E) (Heard : FaultSort → Type 0) : Type 0 where
-  pub same_up : k.core.is_up past ≡ k.node.core.is_up past
-  pub refusal_is : k.node.core.refusal past e ≡ k.core.refusal past e
-  pub answered_is : answered k.node.core past e ≡ k.core.answered past e
-  pub dropped_is : k.node.core.met e NoSave ≡ k.core.dropped e
-  pub unsaved_is : (left : Left) → option_map (λ due. k.node.core.met e left) (k.node.core.due past e) ≡ k.core.unsaved past e left
-  pub stays : (fault : Fault) (core : C) → k.node.core.refusal past e ≡ Some fault → (fault ≡ FrameBadField → ⊥) → k.node.core.Stays past e core
+  pub stays : (fault : Fault) (core : C) → k.node.core.words.refusal past e ≡ Some fault → (fault ≡ FrameBadField → ⊥) → k.node.core.Stays past e core
       → k.node.core.StandsFor past core
   pub alike : Heard sorts.Refusal → Heard sorts.Save
-  pub ranges : Heard sorts.Save → (left : Left) → k.InRange past → k.InRange (k.node.core.met e left ∷ past)
+  pub ranges : Heard sorts.Save → (left : Left) → k.InRange past → k.InRange (k.node.core.words.met e left ∷ past)
 
 -- What comes to a node that isn't on is refused, and nothing changes.
 pub off_ends : {C N E X D O : Type 0} (k : Kind C N E X D O) (past : List X) (e : E) (power : Power C N) (fault : Fault)
-    → (fault ≡ NodeOff) × (k.core.is_up past ≡ false) → Stands k.node past power → StepEnds k past e power (Err fault)
+    → (fault ≡ NodeOff) × (k.node.core.words.is_up past ≡ false) → Stands k.node past power → StepEnds k past e power (Err fault)
 off_ends k past e power fault off s =
-    rw off.0 (moves.off_ends k past e power (ap (λ b. if b then k.core.refusal past e else Some NodeOff) off.1) refl s)
+    rw off.0 (moves.off_ends k past e power (ap (λ b. if b then k.node.core.words.refusal past e else Some NodeOff) off.1) refl s)
 
 module _ {C N E X D O : Type 0} {Heard : FaultSort → Type 0} (k : Kind C N E X D O) (past : List X) (e : E) (fits : Fits k past e Heard)
-    (on : k.node.core.is_up past ≡ true) (old new : C) where
+    (on : k.node.core.words.is_up past ≡ true) (old new : C) where
   -- By one that is on, it is answered,
   pub answered_ends : (outs : O) (said : Reply) (sent : List (List ℕ)) → steps.Answers k.node.core past e old new outs → Heard sorts.Save → said ≡ k.core.said past e
-      → sent ≡ map frame_spelling (k.core.frames past (k.core.answered past e)) → k.SendsFew past e sent
+      → sent ≡ map frame_spelling (k.core.frames past (answered k.node.core.words past e)) → k.SendsFew past e sent
       → StepEnds k past e (On new) (Ok (said, sent))
   answered_ends outs said sent a heard said_is sent_are short = record {
     moves = record {
-      after = answered k.node.core past e ∷ past;
+      after = answered k.node.core.words past e ∷ past;
       ends = record {
-        free = up (k.core.is_up past) (k.core.refusal past e) (Some NodeOff) (fits.same_up ∙ on) ∙ sym fits.refusal_is ∙ a.free;
+        free = up (k.node.core.words.is_up past) (k.node.core.words.refusal past e) (Some NodeOff) on ∙ a.free;
         said_is = said_is;
-        entry = k.core.answered past e;
+        entry = answered k.node.core.words past e;
         entry_is = refl;
         sent_are = sent_are;
-        after_is = ap (λ x. x ∷ past) fits.answered_is;
+        after_is = refl;
       };
       stands = a.stands;
       ranges = fits.ranges heard _;
@@ -74,14 +69,14 @@ module _ {C N E X D O : Type 0} {Heard : FaultSort → Type 0} (k : Kind C N E X
   unanswered_ends fault sorts.Memory f heard is = (f.why, f.unchanged)
   unanswered_ends fault sorts.Save f heard is =
       let l = left_is f.left f.lost in
-      lost k past (Meets e) fault l.0 (k.node.core.met e f.left) (On new) is
-      (up (k.core.is_up past) (k.core.refusal past e) (Some NodeOff) (fits.same_up ∙ on) ∙ sym fits.refusal_is ∙ f.free)
-      (sym (fits.unsaved_is (left_by l.0)) ∙ ap (option_map (λ due. k.node.core.met e (left_by l.0))) f.makes_one ∙ ap (λ left. Some (k.node.core.met e left)) l.1)
+      lost k past (Meets e) fault l.0 (k.node.core.words.met e f.left) (On new) is
+      (up (k.node.core.words.is_up past) (k.node.core.words.refusal past e) (Some NodeOff) on ∙ f.free)
+      (ap (option_map (λ due. k.node.core.words.met e (left_by l.0))) f.makes_one ∙ ap (λ left. Some (k.node.core.words.met e left)) l.1)
       f.stands (fits.ranges heard f.left)
   unanswered_ends fault sorts.Refusal f heard is =
-      refused_step k past e (k.node.core.met e NoSave) fault (On new) is
-      (up (k.core.is_up past) (k.core.refusal past e) (Some NodeOff) (fits.same_up ∙ on) ∙ sym fits.refusal_is ∙ f.why)
-      (ap (λ x. if is_drop fault then x ∷ past else past) (sym fits.dropped_is))
+      refused_step k past e (k.node.core.words.met e NoSave) fault (On new) is
+      (up (k.node.core.words.is_up past) (k.node.core.words.refusal past e) (Some NodeOff) on ∙ f.why)
+      refl
       f.stands (λ other. fits.stays fault new f.why other f.unchanged) (fits.ranges (fits.alike heard) NoSave)
 
 -- ---- the device's failures

@@ -30,7 +30,6 @@ client_kind note opening = record {
 pub client_is_cut : {T : Type 0} (note : T → Note) (opening : Opening) (past : List FrameEntry) →
     IsCut (client_kind note opening) past
 client_is_cut note opening past = record {
-  same_up = refl;
   sends_none = refl;
   off = refl;
   ranges = λ h. h;

@@ -1,7 +1,5 @@
 -- The rules of the client under its lock.
 use Rattle.std.specs.Prelude.{◌+◌, false, List, Option, Some, None}
-use Rattle.std.specs.Option.{option_map}
-use Rattle.disk_model.specs.declared.left.Left.TheVariants.{NoSave}
 use Rattle.messages.specs.declared.frame.Frame.{Frame}
 use Rattle.messages.specs.declared.refusal.Act.TheVariants as acts
 use Rattle.messages.specs.FrameBytes.{frame_at}
@@ -9,8 +7,9 @@ use Rattle.client_core.specs.Inputs.{FrameInput}
 use Rattle.client_core.specs.Inputs as inputs
 use Rattle.client_core.specs.History.{Opening}
 use Rattle.client_core.specs.Words.{words_noted}
-use Rattle.client_core.specs.Hearing.{FrameEntry, Met, Cut, Restart, packets_heard, is_up}
+use Rattle.client_core.specs.Hearing.{FrameEntry, Cut, Restart, packets_heard}
 use Rattle.client_core.specs.FrameAnswers as answers
+use Rattle.client_core.specs.FrameEnds.{words_of}
 use Rattle.cells.specs.declared.input.NodeInput.{NodeInput}
 use Rattle.cells.specs.declared.input.NodeInput.TheVariants as came
 use Rattle.cells.specs.declared.answer.Answer.{Answer}
@@ -48,13 +47,8 @@ answer_to opening past _ = Plain
 abbrev pub core : Opening → CoreRules FrameInput FrameEntry
 core opening = record {
   asked = ask_of;
-  is_up = is_up opening;
-  refusal = answers.refusal opening;
   spent = λ past. None;
   said = λ past e. record { answer = answer_to opening past e; act = acts.None };
-  answered = answers.answered_entry opening;
-  dropped = λ e. Met e NoSave;
-  unsaved = λ past e left. option_map (λ addition. Met e left) (answers.due opening past e);
   cut = Cut;
   started = Restart false;
   unstarted = λ left. None;
@@ -63,4 +57,4 @@ core opening = record {
 
 -- The rules of a client that opens by a restart without a mirror.
 abbrev pub rules : Opening → Rules FrameInput FrameEntry
-rules opening = rules_of (core opening)
+rules opening = rules_of (words_of opening) (core opening)

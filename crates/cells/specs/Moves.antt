@@ -10,8 +10,7 @@ use Rattle.cells.specs.declared.answer.Reply.{Reply}
 use Rattle.cells.specs.declared.entry.HistoryEntry.{HistoryEntry}
 use Rattle.node.specs.declared.power.Power.{Power}
 use Rattle.node.specs.Kinds.{Stands}
-use Rattle.cells.specs.CoreRules.{rules_of}
-use Rattle.cells.specs.Kinds.{Kind}
+use Rattle.cells.specs.Kinds.{Kind, rules_for}
 use Rattle.cells.specs.Rules.{Ask, Meets}
 use Rattle.cells.specs.Replay.{Ends, Makes}
 
@@ -20,7 +19,7 @@ use Rattle.cells.specs.Replay.{Ends, Makes}
 pub record Moves {C N E X D O : Type 0} (k : Kind C N E X D O) (past : List X) (ask : Ask E)
     (answer : Result Reply Fault) (sent : List (List ℕ)) (new : Power C N) : Type 0 where
   pub after : List X
-  pub ends : Ends (rules_of k.core) past ask answer sent after
+  pub ends : Ends (rules_for k) past ask answer sent after
   pub stands : Stands k.node after new
   pub ranges : k.InRange past → k.InRange after
 
@@ -72,6 +71,6 @@ outcome_of (Err fault) = (Err fault, [])
 pub record IsKept {C N E X D O : Type 0} (k : Kind C N E X D O) (history : List HistoryEntry)
     (state : Power C N) : Type 0 where
   pub past : List X
-  pub made : Makes (rules_of k.core) history past
+  pub made : Makes (rules_for k) history past
   pub stands : Stands k.node past state
   pub ranges : k.InRange past

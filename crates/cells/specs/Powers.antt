@@ -19,11 +19,10 @@ abbrev pub told_of : Result (Unit {0}) Fault → Result Reply Fault
 told_of (Ok done) = Ok plain_reply
 told_of (Err fault) = Err fault
 
--- By its rules it is on where it is as a node. The entry of a cut sends nothing. The node is off
--- then, all stays within its ranges, and what notes say is the same.
+-- The entry of a cut sends nothing. The node is off then, all stays within its ranges, and what
+-- notes say is the same.
 pub record IsCut {C N E X D O : Type 0} (k : Kind C N E X D O) (past : List X) : Type 0 where
-  pub same_up : k.core.is_up past ≡ k.node.core.is_up past
   pub sends_none : k.core.frames past k.core.cut ≡ []
-  pub off : k.node.core.is_up (k.core.cut ∷ past) ≡ false
+  pub off : k.node.core.words.is_up (k.core.cut ∷ past) ≡ false
   pub ranges : k.InRange past → k.InRange (k.core.cut ∷ past)
   pub says : (notes : N) → k.node.Says past notes → k.node.Says (k.core.cut ∷ past) notes

@@ -29,7 +29,6 @@ server_kind note opening = record {
 pub server_is_cut : {T : Type 0} (note : T → Note) (opening : Opening) (past : List FrameEntry) →
     IsCut (server_kind note opening) past
 server_is_cut note opening past = record {
-  same_up = refl;
   sends_none = refl;
   off = refl;
   ranges = λ h. h;

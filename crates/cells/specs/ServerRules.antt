@@ -1,18 +1,18 @@
 -- The rules of a server under its lock.
 use Rattle.std.specs.Prelude.{Bool, true, false, if◌then◌else◌, Option, Some, None}
-use Rattle.std.specs.Option.{option_map}
 use Rattle.fc_base.specs.declared.fault.Fault.TheVariants.{NumbersSpent}
 use Rattle.fc_base.specs.Report.{is_report}
 use Rattle.engine.specs.declared.issue.Issue.{Issue}
-use Rattle.disk_model.specs.declared.left.Left.TheVariants.{NoSave, Saved}
+use Rattle.disk_model.specs.declared.left.Left.TheVariants.{Saved}
 use Rattle.messages.specs.declared.frame.Frame.{Frame}
 use Rattle.messages.specs.FrameBytes.{frame_at}
 use Rattle.server_core.specs.Inputs.{FrameInput}
 use Rattle.server_core.specs.declared.input.Input.TheVariants as inputs
 use Rattle.server_core.specs.History.{Opening}
 use Rattle.server_core.specs.Words.{has_boot}
-use Rattle.server_core.specs.Hearing.{FrameEntry, Met, Cut, Restart, packets_heard, is_up}
+use Rattle.server_core.specs.Hearing.{FrameEntry, Cut, Restart, packets_heard}
 use Rattle.server_core.specs.FrameAnswers as answers
+use Rattle.server_core.specs.FrameEnds.{words_of}
 use Rattle.cells.specs.declared.input.NodeInput.{NodeInput}
 use Rattle.cells.specs.declared.input.NodeInput.TheVariants as came
 use Rattle.cells.specs.declared.answer.Answer.{Answer}
@@ -50,8 +50,6 @@ answer_of (Some issue) = Issued issue
 abbrev pub core : Opening → CoreRules FrameInput FrameEntry
 core opening = record {
   asked = ask_of;
-  is_up = is_up opening;
-  refusal = answers.refusal opening;
   spent = λ past. if has_boot opening (packets_heard opening past) then None else Some NumbersSpent;
   said = λ past e.
       record {
@@ -59,9 +57,6 @@ core opening = record {
         act =
             answers.act opening past e;
       };
-  answered = answers.answered_entry opening;
-  dropped = λ e. Met e NoSave;
-  unsaved = λ past e left. option_map (λ began. Met e left) (answers.due opening past e);
   cut = Cut;
   started = Restart Saved;
   unstarted = λ left. Some (Restart left);
@@ -70,4 +65,4 @@ core opening = record {
 
 -- The rules of a server that opens by a restart.
 abbrev pub rules : Opening → Rules FrameInput FrameEntry
-rules opening = rules_of (core opening)
+rules opening = rules_of (words_of opening) (core opening)

@@ -31,7 +31,7 @@ pub fn make_room<N: Drop, C: NodeCore<N>>(
 ) -> Result<(), Fault>
     ensures ready { (opening : C.Opening) (past : List C.Entry) →
         Stands (C.kind opening) past power.now →
-        IsReady ((C.kind opening).core.is_up past) result }
+        IsReady ((C.kind opening).core.words.is_up past) result }
     ensures place { OnOk result (1 ≤ history.new.room) }
     ensures room { OnOk result (HasRoom hub.new.room frames bytes) }
     ensures items { history.new.items ≡ history.old.items }

@@ -25,13 +25,15 @@ answered_entry opening past c = Met c (saved_for (due opening past c))
 abbrev pub steps : {T : Type 0} → (T → Note) → Opening →
     Steps (PacketClient T) PacketInput Entry Addition (List (List ℕ))
 steps note opening = record {
+  words = record {
+    is_up = is_on;
+    refusal = refusal opening;
+    due = due opening;
+    met = Met;
+    spelled = λ past. spelling (words_noted opening past);
+  };
   note = λ client. note client.durable.notes;
   StandsFor = λ past client. StandsFor note client opening past;
-  is_up = is_on;
-  refusal = refusal opening;
-  due = due opening;
-  met = Met;
-  spelled = λ past. spelling (words_noted opening past);
   Sends = λ past c frames.
       frames ≡ frame_bytes (packets opening past (answered_entry opening past c));
   Stays = λ past c client. StandsFor note client opening past;

@@ -5,7 +5,7 @@ use Rattle.fc_base.specs.declared.limits.TheConstants.{MAX_SERVERS}
 use Rattle.fc_base.specs.declared.fault.Fault.{Fault}
 use Rattle.disk_model.specs.declared.left.Left.TheVariants.{Saved}
 use Rattle.disk_model.specs.Notes.{Note}
-use Rattle.node.specs.Steps.{Steps}
+use Rattle.node.specs.Steps.{Words, Steps}
 use Rattle.messages.specs.FrameBytes.{frame_spelling}
 use Rattle.messages.specs.Ranges.{is_generation}
 use Rattle.node.specs.Hearers as hearers
@@ -63,6 +63,10 @@ client_node note opening = record {
   met = Met;
   Sends = Sends opening;
 }
+
+-- What the list of a client says, whatever its notes are.
+abbrev pub words_of : Opening → Words FrameInput FrameEntry Addition
+words_of opening = nodes.words (client_node (λ (note : Note). note) opening)
 
 -- The steps of a client: its note, what its list says of what comes, and what is sent. What is
 -- refused leaves it as it was, but where it drops a tag: that alone changes.

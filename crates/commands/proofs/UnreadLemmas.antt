@@ -1,5 +1,5 @@
 -- What is told of a script that has no status is all that its run has written.
-use Rattle.std.proofs.Common.{◌≡◌, inl, inr, ℕ, List, ◌++◌, Option, None, Some, Result, Ok, Err, IfSome, IfOk, ap, ◌∙◌}
+use Rattle.std.proofs.Common.{inl, inr, ℕ, List, ◌++◌, Option, None, Some, Result, Ok, Err, IfSome, IfOk, ap, ◌∙◌}
 use Rattle.std.specs.Io.KnownBytes.{Keeps, Appends}
 use Rattle.net_script.specs.declared.script_fault.ScriptFault.{ScriptFault}
 use Rattle.net_script.specs.declared.script_fault.ScriptFault.TheVariants as unread

@@ -1,7 +1,7 @@
 -- Answers that are cut.
 use Rattle.std.proofs.Common.{◌≡◌, ◌⊎◌, ℕ, List, [], ◌∷◌, ◌++◌, length, refl, sym, ap, ◌∙◌, subst, inl, inr, arith}
 use Rattle.filters.specs.Lives.{RecordParts, Lives}
-use Rattle.filters.specs.Cuts.{CutsNext, CutsBehind}
+use Rattle.filters.specs.Cuts.{CutsBehind}
 
 -- Two lists in two parts each: one of the first parts is a front of the other.
 pub parted : (a b c d : List ℕ) → a ++ b ≡ c ++ d → ((p : List ℕ) × (c ≡ a ++ p) × (b ≡ p ++ d)) ⊎ ((p : List ℕ) × (a ≡ c ++ p) × (d ≡ p ++ b))

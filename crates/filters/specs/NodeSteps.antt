@@ -28,7 +28,7 @@ with_frame ask (fault ∷ faults) frame = Err fault
 pub record IsTaken {S E X D O : Type 0} (s : Steps S E X D O) (past : List X) (e : E)
     (old new : S) (outs : O) (saves : Bool) : Type 0 where
   pub answers : Answers s past e old new outs
-  pub saves_are : saves ≡ is_some (s.due past e)
+  pub saves_are : saves ≡ is_some (s.words.due past e)
 
 -- It isn't answered, by the sort of the fault: for want of memory, or it is refused. No save fails
 -- by itself.

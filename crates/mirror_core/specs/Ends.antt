@@ -24,13 +24,15 @@ answered_entry opening past f = Met f (saved_for (due opening past f))
 abbrev pub steps : {T : Type 0} → (T → Note) → MirrorNote →
     Steps (Mirror T) Frame Entry Addition (List (List ℕ))
 steps note opening = record {
+  words = record {
+    is_up = is_on;
+    refusal = refusal opening;
+    due = due opening;
+    met = Met;
+    spelled = λ past. spelling (words_noted opening past);
+  };
   note = λ mirror. note mirror.durable.notes;
   StandsFor = λ past mirror. StandsFor note mirror opening past;
-  is_up = is_on;
-  refusal = refusal opening;
-  due = due opening;
-  met = Met;
-  spelled = λ past. spelling (words_noted opening past);
   Sends = λ past f frames.
       frames ≡ frame_bytes (packets opening past (answered_entry opening past f));
   Stays = λ past f mirror. StandsFor note mirror opening past;

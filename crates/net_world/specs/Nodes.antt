@@ -18,8 +18,8 @@ use Rattle.net_world.specs.Outcomes.{lost_by}
 -- A node that has power is on, which the list says, and its core stands for the list; of one that
 -- has none, which the list says, the notes say what the list says.
 abbrev pub Stands : {C N E X D O : Type 0} → Kind C N E X D O → List X → Power C N → Type 0
-Stands k past (On core) = k.core.StandsFor past core × (k.core.is_up past ≡ true)
-Stands k past (Off notes) = k.Says past notes × (k.core.is_up past ≡ false)
+Stands k past (On core) = k.core.StandsFor past core × (k.core.words.is_up past ≡ true)
+Stands k past (Off notes) = k.Says past notes × (k.core.words.is_up past ≡ false)
 Stands k past Lent = ⊥
 
 -- What a refused input leaves that isn't added to the list: a node that is on, as its core says.
@@ -33,24 +33,24 @@ Stays k past e Lent = ⊥
 -- the input is added.
 pub record Answers {C N E X D O : Type 0} (k : Kind C N E X D O)
     (past : List X) (e : E) (new : Power C N) (outs : O) : Type 0 where
-  pub on : k.core.is_up past ≡ true
-  pub free : k.core.refusal past e ≡ None
+  pub on : k.core.words.is_up past ≡ true
+  pub free : k.core.words.refusal past e ≡ None
   pub sends : k.core.Sends past e outs
-  pub stands : Stands k (answered k.core past e ∷ past) new
+  pub stands : Stands k (answered k.core.words past e ∷ past) new
 
 -- The node is on and refuses the input for this reason. The input may stand in the list, without a
 -- save, or not.
 pub record Refuses {C N E X D O : Type 0} (k : Kind C N E X D O)
     (past : List X) (e : E) (fault : Fault) (new : Power C N) : Type 0 where
-  pub on : k.core.is_up past ≡ true
-  pub why : k.core.refusal past e ≡ Some fault
-  pub stands : Stands k (k.core.met e NoSave ∷ past) new
+  pub on : k.core.words.is_up past ≡ true
+  pub why : k.core.words.refusal past e ≡ Some fault
+  pub stands : Stands k (k.core.words.met e NoSave ∷ past) new
   pub unchanged : Stays k past e new
 
 -- The node is off, and nothing changes.
 pub record IsOff {C N E X D O : Type 0} (k : Kind C N E X D O)
     (past : List X) (fault : Fault) (new : Power C N) : Type 0 where
-  pub off : k.core.is_up past ≡ false
+  pub off : k.core.words.is_up past ≡ false
   pub why : fault ≡ NodeOff
   pub unchanged : Stands k past new
 
@@ -73,12 +73,13 @@ Ends k past e new (Err fault) = Faults k past e (sort_of fault) fault new
 abbrev pub CutsIn : {C N E X D O : Type 0} → Kind C N E X D O →
     List X → Bool → E → Power C N → Result (Unit {0}) Fault → Type 0
 CutsIn k past landed e new (Ok _) =
-    (k.core.is_up past ≡ true) × (is_some (k.core.due past e) ≡ true)
-    × Stands k (k.core.met e (lost_by landed) ∷ past) new
-CutsIn k past landed e new (Err NodeOff) = (k.core.is_up past ≡ false) × Stands k past new
+    (k.core.words.is_up past ≡ true) × (is_some (k.core.words.due past e) ≡ true)
+    × Stands k (k.core.words.met e (lost_by landed) ∷ past) new
+CutsIn k past landed e new (Err NodeOff) = (k.core.words.is_up past ≡ false) × Stands k past new
 CutsIn k past landed e new (Err faults.NoSave) =
-    (k.core.is_up past ≡ true) × (is_some (k.core.due past e) ≡ false) × Stands k past new
-CutsIn k past landed e new (Err NoMemory) = (k.core.is_up past ≡ true) × Stands k past new
+    (k.core.words.is_up past ≡ true) × (is_some (k.core.words.due past e) ≡ false)
+    × Stands k past new
+CutsIn k past landed e new (Err NoMemory) = (k.core.words.is_up past ≡ true) × Stands k past new
 CutsIn k past landed e new (Err _) = ⊥
 
 -- How a start of a node ends, for which a fact has to be as needed: the start is added. Else
@@ -86,9 +87,10 @@ CutsIn k past landed e new (Err _) = ⊥
 abbrev pub Starts : {C N E X D O : Type 0} → Kind C N E X D O →
     List X → Bool → Bool → Fault → X → Power C N → Result (Unit {0}) Fault → Type 0
 Starts k past fact needed why start new (Ok _) =
-    (k.core.is_up past ≡ false) × (fact ≡ needed) × Stands k (start ∷ past) new
-Starts k past fact needed why start new (Err NodeOn) = (k.core.is_up past ≡ true) × Stands k past new
+    (k.core.words.is_up past ≡ false) × (fact ≡ needed) × Stands k (start ∷ past) new
+Starts k past fact needed why start new (Err NodeOn) =
+    (k.core.words.is_up past ≡ true) × Stands k past new
 Starts k past fact needed why start new (Err NoMemory) =
-    (k.core.is_up past ≡ false) × Stands k past new
+    (k.core.words.is_up past ≡ false) × Stands k past new
 Starts k past fact needed why start new (Err fault) =
-    (k.core.is_up past ≡ false) × (fact ≡ not needed) × Stands k past new × (fault ≡ why)
+    (k.core.words.is_up past ≡ false) × (fact ≡ not needed) × Stands k past new × (fault ≡ why)

@@ -20,7 +20,7 @@ use Rattle.messages.specs.Assemblies.{Row, rows_after_piece, without_tag}
 use Rattle.messages.specs.Hearing.{Coming, with_entry}
 use Rattle.messages.specs.Senses.{Arrival, Framed, Unframed, coming, Sense, Hears, Keeps, Drops, Misses, is_drop, refusal_of_sense, heard_or, SenseInRange}
 use Rattle.messages.proofs.SenseLemmas as senses
-use Rattle.messages.proofs.SenseLemmas.{NeverEnds, entry_by, entries_are, same_rows, taken_by, refused_rows, given_rows, dropped_rows, hears_in_range}
+use Rattle.messages.proofs.SenseLemmas.{entry_by, entries_are, same_rows, taken_by, refused_rows, given_rows, dropped_rows, hears_in_range}
 use Rattle.node.specs.declared.hearer.Hearer.{Hearer}
 use Rattle.node.specs.Hearers.{CoreKind, Laws, rules_of, heard_at, entries, rows, sense, StandsFor, Sends, steps, Accepts}
 
@@ -30,7 +30,7 @@ rows_after k past a left = senses.rows_after (rules_of k) (heard_at k past) a le
 
 -- What has come together where something was heard.
 abbrev pub HeardRows : {C X E D O : Type 0} → CoreKind C X E D O → List (Coming E Left) → Arrival X → List Row → List Row → Result O Fault → Type 0
-HeardRows k past a old new (Ok outs) = k.core.is_up (entries k past) ≡ true → new ≡ rows_after k past a NoSave
+HeardRows k past a old new (Ok outs) = k.core.words.is_up (entries k past) ≡ true → new ≡ rows_after k past a NoSave
 HeardRows k past a old new (Err fault) = new ≡ old
 
 abbrev pub with_core : {C : Type 0} → Hearer C → C → Hearer C
@@ -42,20 +42,20 @@ with_pieces hearer rows = record hearer { pieces = rows }
 module _ {C X E D O : Type 0} (k : CoreKind C X E D O) (laws : Laws k) (past : List (Coming E Left)) where
   -- The packets that are heard behind what comes.
   heard_is : (a : Arrival X) (left : Left) (s : Sense X) → sense k past a ≡ s
-      → entries k (coming k.core.met a left ∷ past) ≡ with_entry (entry_by (rules_of k) left s) (entries k past)
+      → entries k (coming k.core.words.met a left ∷ past) ≡ with_entry (entry_by (rules_of k) left s) (entries k past)
   heard_is a left s is = entries_are (rules_of k) (heard_at k past) a left s is
 
   -- Whether it is on behind what is heard.
   on_is : (a : Arrival X) (x : X) (left : Left) → sense k past a ≡ Hears x
-      → k.core.is_up (entries k (coming k.core.met a left ∷ past)) ≡ (k.core.is_up (entries k past) && not (is_lost left))
-  on_is a x left is = ap k.core.is_up (heard_is a left (Hears x) is) ∙ laws.on_behind (entries k past) x left
+      → k.core.words.is_up (entries k (coming k.core.words.met a left ∷ past)) ≡ (k.core.words.is_up (entries k past) && not (is_lost left))
+  on_is a x left is = ap k.core.words.is_up (heard_is a left (Hears x) is) ∙ laws.on_behind (entries k past) x left
 
   -- ---- what is heard
 
   heard_stands : (a : Arrival X) (x : X) (left : Left) (new : Hearer C) → sense k past a ≡ Hears x
-      → k.core.StandsFor (k.core.met x left ∷ entries k past) new.core
-      → (k.core.is_up (entries k (coming k.core.met a left ∷ past)) ≡ true → new.pieces ≡ rows_after k past a left)
-      → StandsFor k (coming k.core.met a left ∷ past) new
+      → k.core.StandsFor (k.core.words.met x left ∷ entries k past) new.core
+      → (k.core.words.is_up (entries k (coming k.core.words.met a left ∷ past)) ≡ true → new.pieces ≡ rows_after k past a left)
+      → StandsFor k (coming k.core.words.met a left ∷ past) new
   heard_stands a x left new is h rows_are = record {
     core = subst (λ (list : List E). k.core.StandsFor list new.core) (sym (heard_is a left (Hears x) is)) h;
     pieces = rows_are;
@@ -63,21 +63,21 @@ module _ {C X E D O : Type 0} (k : CoreKind C X E D O) (laws : Laws k) (past : L
 
   heard_answers : (a : Arrival X) (x : X) (old new : Hearer C) (outs : O) → sense k past a ≡ Hears x
       → Answers k.core (entries k past) x old.core new.core outs
-      → (k.core.is_up (entries k past) ≡ true → new.pieces ≡ rows_after k past a NoSave) → Answers (steps k) past a old new outs
+      → (k.core.words.is_up (entries k past) ≡ true → new.pieces ≡ rows_after k past a NoSave) → Answers (steps k) past a old new outs
   heard_answers a x old new outs is h rows_are =
       let list = entries k past in
-      let left = saved_for (k.core.due list x) in
-      let same : answered (steps k) past a ≡ coming k.core.met a left = ap (λ s. coming k.core.met a (saved_for (heard_or None (k.core.due list) s))) is in
+      let left = saved_for (k.core.words.due list x) in
+      let same : answered (steps k).words past a ≡ coming k.core.words.met a left = ap (λ s. coming k.core.words.met a (saved_for (heard_or None (k.core.words.due list) s))) is in
       record {
         free = ap (refusal_of_sense (rules_of k) list) is ∙ h.free;
         sends = subst (λ s. Sends k list s outs) (sym is) h.sends;
-        leaves = subst (λ due. LeavesNote due (k.core.spelled (entries k (answered (steps k) past a ∷ past))) (k.core.note old.core) (k.core.note new.core))
-            (sym (ap (heard_or None (k.core.due list)) is))
-            (subst (λ (l : List E). LeavesNote (k.core.due list x) (k.core.spelled l) (k.core.note old.core) (k.core.note new.core))
+        leaves = subst (λ due. LeavesNote due (k.core.words.spelled (entries k (answered (steps k).words past a ∷ past))) (k.core.note old.core) (k.core.note new.core))
+            (sym (ap (heard_or None (k.core.words.due list)) is))
+            (subst (λ (l : List E). LeavesNote (k.core.words.due list x) (k.core.words.spelled l) (k.core.note old.core) (k.core.note new.core))
             (sym (ap (λ c. entries k (c ∷ past)) same ∙ heard_is a left (Hears x) is)) h.leaves);
         stands = subst (λ c. StandsFor k (c ∷ past) new) (sym same)
             (heard_stands a x left new is h.stands
-            (λ on. rows_are (on_before (k.core.is_up list) (is_lost left) (sym (on_is a x left is) ∙ on))
+            (λ on. rows_are (on_before (k.core.words.is_up list) (is_lost left) (sym (on_is a x left is) ∙ on))
             ∙ same_rows (rules_of k) (heard_at k past) a NoSave left laws.goes_on));
       }
 
@@ -93,23 +93,23 @@ module _ {C X E D O : Type 0} (k : CoreKind C X E D O) (laws : Laws k) (past : L
     cause = h.cause;
     free = ap (refusal_of_sense (rules_of k) (entries k past)) is ∙ h.free;
     addition = h.addition;
-    makes_one = ap (heard_or None (k.core.due (entries k past))) is ∙ h.makes_one;
+    makes_one = ap (heard_or None (k.core.words.due (entries k past))) is ∙ h.makes_one;
     left = h.left;
     lost = h.lost;
-    bytes_are = subst (λ (l : List E). (k.core.note new.core).bytes ≡ bytes_left h.left (k.core.spelled l) (k.core.note old.core).bytes)
+    bytes_are = subst (λ (l : List E). (k.core.note new.core).bytes ≡ bytes_left h.left (k.core.words.spelled l) (k.core.note old.core).bytes)
         (sym (heard_is a h.left (Hears x) is)) h.bytes_are;
     stands = heard_stands a x h.left new is h.stands
-        (λ on. absurd (off_lost (k.core.is_up (entries k past)) (is_lost h.left) h.lost (sym (on_is a x h.left is) ∙ on)));
+        (λ on. absurd (off_lost (k.core.words.is_up (entries k past)) (is_lost h.left) h.lost (sym (on_is a x h.left is) ∙ on)));
   }
   heard_faults a x old new fault is w sorts.Refusal h same =
       let list = entries k past in
-      let why : (steps k).refusal past a ≡ Some fault = ap (refusal_of_sense (rules_of k) list) is ∙ h.why in
+      let why : (steps k).words.refusal past a ≡ Some fault = ap (refusal_of_sense (rules_of k) list) is ∙ h.why in
       let stay = refused_rows (rules_of k) (heard_at k past) a NoSave fault laws.goes_on why (ap is_drop is) in
       record {
         why = why;
         same_note = h.same_note;
         stands = heard_stands a x NoSave new is h.stands
-            (λ on. same ∙ w.pieces (on_before (k.core.is_up list) false (sym (on_is a x NoSave is) ∙ on)) ∙ sym stay);
+            (λ on. same ∙ w.pieces (on_before (k.core.words.is_up list) false (sym (on_is a x NoSave is) ∙ on)) ∙ sym stay);
         unchanged = λ d. record { core = laws.stays list x new.core h.unchanged; pieces = λ on. same ∙ w.pieces on };
       }
 
@@ -171,12 +171,12 @@ module _ {C X E D O : Type 0} (k : CoreKind C X E D O) (laws : Laws k) (past : L
 
   silent_stands : (a : Arrival X) (s : Sense X) (left : Left) (old : Hearer C) (new : List Row) → sense k past a ≡ s → entry_by (rules_of k) left s ≡ None
       → StandsFor k past old → (old.pieces ≡ rows k past → new ≡ rows_after k past a left)
-      → StandsFor k (coming k.core.met a left ∷ past) (with_pieces old new)
+      → StandsFor k (coming k.core.words.met a left ∷ past) (with_pieces old new)
   silent_stands a s left old new is none w rows_are =
       let same = heard_is a left s is ∙ ap (λ (y : Option E). with_entry y (entries k past)) none in
       record {
         core = subst (λ (list : List E). k.core.StandsFor list old.core) (sym same) w.core;
-        pieces = λ on. rows_are (w.pieces (sym (ap k.core.is_up same) ∙ on));
+        pieces = λ on. rows_are (w.pieces (sym (ap k.core.words.is_up same) ∙ on));
       }
 
   pub kept_accepts : (q : PieceParts) (old : Hearer C) → sense k past (Framed (Piece q)) ≡ Keeps → StandsFor k past old
@@ -184,12 +184,12 @@ module _ {C X E D O : Type 0} (k : CoreKind C X E D O) (laws : Laws k) (past : L
   kept_accepts q old is w =
       let a = Framed (Piece q) in
       let list = entries k past in
-      let left = saved_for ((steps k).due past a) in
+      let left = saved_for ((steps k).words.due past a) in
       accepts a Keeps old (with_pieces old (rows_after_piece old.pieces q)) (Ok k.nothing) is tt (record {
         free = ap (refusal_of_sense (rules_of k) list) is;
         sends = subst (λ s. Sends k list s k.nothing) (sym is) refl;
-        leaves = subst (λ due. LeavesNote due (k.core.spelled (entries k (answered (steps k) past a ∷ past))) (k.core.note old.core) (k.core.note old.core))
-            (sym (ap (heard_or None (k.core.due list)) is)) refl;
+        leaves = subst (λ due. LeavesNote due (k.core.words.spelled (entries k (answered (steps k).words past a ∷ past))) (k.core.note old.core) (k.core.note old.core))
+            (sym (ap (heard_or None (k.core.words.due list)) is)) refl;
         stands = silent_stands a Keeps left old (rows_after_piece old.pieces q) is refl w
             (λ same. ap (λ x. rows_after_piece x q) same ∙ sym (taken_by (rules_of k) (heard_at k past) q left Keeps is));
       })
@@ -218,12 +218,12 @@ module _ {C X E D O : Type 0} (k : CoreKind C X E D O) (laws : Laws k) (past : L
     unchanged = λ d. w;
   }
 
-  pub down_accepts : (q : PieceParts) (old : Hearer C) → (sense k past (Framed (Piece q)) ≡ Misses) × (k.core.is_up (entries k past) ≡ false)
+  pub down_accepts : (q : PieceParts) (old : Hearer C) → (sense k past (Framed (Piece q)) ≡ Misses) × (k.core.words.is_up (entries k past) ≡ false)
       → StandsFor k past old → Accepts k past (Framed (Piece q)) old old (Err Down)
   down_accepts q old misses w = accepts (Framed (Piece q)) Misses old old (Err Down) misses.0 tt
       (missed_refuses q old Down misses.0 w (ap (λ b. if b then Some Misdirected else Some Down) misses.1))
 
-  pub stray_accepts : (q : PieceParts) (old : Hearer C) → (sense k past (Framed (Piece q)) ≡ Misses) × (k.core.is_up (entries k past) ≡ true)
+  pub stray_accepts : (q : PieceParts) (old : Hearer C) → (sense k past (Framed (Piece q)) ≡ Misses) × (k.core.words.is_up (entries k past) ≡ true)
       → StandsFor k past old → Accepts k past (Framed (Piece q)) old old (Err Misdirected)
   stray_accepts q old misses w = accepts (Framed (Piece q)) Misses old old (Err Misdirected) misses.0 tt
       (missed_refuses q old Misdirected misses.0 w (ap (λ b. if b then Some Misdirected else Some Down) misses.1))

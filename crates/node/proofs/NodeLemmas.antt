@@ -22,10 +22,10 @@ use Rattle.node.specs.Nodes.{Node, steps}
 
 -- What comes to the node is, as an entry, what comes to its core.
 abbrev pub IsMet : {S I F C X E D O : Type 0} → Node S I F C X E D O → Type 0
-IsMet {S} {I} n = (e : I) (left : Left) → n.coming (n.met e left) ≡ coming n.kind.core.met (n.arrival e) left
+IsMet {S} {I} n = (e : I) (left : Left) → n.coming (n.met e left) ≡ coming n.kind.core.words.met (n.arrival e) left
 
 module _ {S I F C X E D O : Type 0} (n : Node S I F C X E D O) (same : IsMet n) (past : List F) (e : I) (old new : S) where
-  stands : (left : Left) → StandsFor n.kind (coming n.kind.core.met (n.arrival e) left ∷ map n.coming past) (n.hearer new)
+  stands : (left : Left) → StandsFor n.kind (coming n.kind.core.words.met (n.arrival e) left ∷ map n.coming past) (n.hearer new)
       → StandsFor n.kind (n.coming (n.met e left) ∷ map n.coming past) (n.hearer new)
   stands left h = subst (λ c. StandsFor n.kind (c ∷ map n.coming past) (n.hearer new)) (sym (same e left)) h
 
@@ -34,9 +34,9 @@ module _ {S I F C X E D O : Type 0} (n : Node S I F C X E D O) (same : IsMet n) 
   answers outs sends h = record {
     free = h.free;
     sends = sends;
-    leaves = subst (λ c. LeavesNote ((steps n).due past e) (n.kind.core.spelled (entries n.kind (c ∷ map n.coming past)))
-        ((steps n).note old) ((steps n).note new)) (sym (same e (saved_for ((steps n).due past e)))) h.leaves;
-    stands = stands (saved_for ((steps n).due past e)) h.stands;
+    leaves = subst (λ c. LeavesNote ((steps n).words.due past e) (n.kind.core.words.spelled (entries n.kind (c ∷ map n.coming past)))
+        ((steps n).note old) ((steps n).note new)) (sym (same e (saved_for ((steps n).words.due past e)))) h.leaves;
+    stands = stands (saved_for ((steps n).words.due past e)) h.stands;
   }
 
   pub faults : (sort : FaultSort) (fault : Fault)
@@ -50,7 +50,7 @@ module _ {S I F C X E D O : Type 0} (n : Node S I F C X E D O) (same : IsMet n) 
     left = h.left;
     lost = h.lost;
     bytes_are = subst (λ c. ((steps n).note new).bytes
-        ≡ bytes_left h.left (n.kind.core.spelled (entries n.kind (c ∷ map n.coming past))) ((steps n).note old).bytes) (sym (same e h.left)) h.bytes_are;
+        ≡ bytes_left h.left (n.kind.core.words.spelled (entries n.kind (c ∷ map n.coming past))) ((steps n).note old).bytes) (sym (same e h.left)) h.bytes_are;
     stands = stands h.left h.stands;
   }
   faults sorts.Refusal fault h = record { why = h.why; same_note = h.same_note; unchanged = h.unchanged; stands = stands NoSave h.stands }
@@ -59,11 +59,11 @@ module _ {S I F C X E D O : Type 0} (n : Node S I F C X E D O) (same : IsMet n) 
 
 -- What a core sends with what it hears, and saves, where these are its packets.
 abbrev pub sent_with : {C X E D O : Type 0} → CoreKind C X E D O → (List E → E → List PacketParts) → List E → Sense X → List (List ℕ)
-sent_with k packets past s = heard_or [] (λ x. flat_map spelled_frames (packets past (k.core.met x (saved_for (k.core.due past x))))) s
+sent_with k packets past s = heard_or [] (λ x. flat_map spelled_frames (packets past (k.core.words.met x (saved_for (k.core.words.due past x))))) s
 
 spelled : {C X E D O : Type 0} (k : CoreKind C X E D O) (packets : List E → E → List PacketParts) (past : List E) (s : Sense X)
-    → map frame_spelling (frames_by packets past (entry_by (rules_of k) (saved_for (heard_or None (k.core.due past) s)) s)) ≡ sent_with k packets past s
-spelled k packets past (Hears x) = sym (frames_spelled (packets past (k.core.met x (saved_for (k.core.due past x)))))
+    → map frame_spelling (frames_by packets past (entry_by (rules_of k) (saved_for (heard_or None (k.core.words.due past) s)) s)) ≡ sent_with k packets past s
+spelled k packets past (Hears x) = sym (frames_spelled (packets past (k.core.words.met x (saved_for (k.core.words.due past x)))))
 spelled k packets past Keeps = refl
 spelled k packets past Drops = refl
 spelled k packets past Misses = refl
@@ -72,10 +72,10 @@ spelled k packets past Misses = refl
 pub sent : {C X E D O : Type 0} (k : CoreKind C X E D O) (packets : List E → E → List PacketParts) (past : List (Coming E Left)) (a : Arrival X) (s : Sense X)
     → sense k past a ≡ s
     → sent_with k packets (entries k past) s
-    ≡ map frame_spelling (frames_by packets (entries k past) (entry_of (rules_of k) (heard_at k past) (answered (hearers.steps k) past a)))
+    ≡ map frame_spelling (frames_by packets (entries k past) (entry_of (rules_of k) (heard_at k past) (answered (hearers.steps k).words past a)))
 sent {E = E} k packets past a s is =
     let list = entries k past in
     let frames : Option E → List (List ℕ) = λ e. map frame_spelling (frames_by packets list e) in
-    sym (ap frames (entry_is (rules_of k) (heard_at k past) a (saved_for ((hearers.steps k).due past a)))
-    ∙ ap (λ s. frames (entry_by (rules_of k) (saved_for (heard_or None (k.core.due list) s)) s)) is
+    sym (ap frames (entry_is (rules_of k) (heard_at k past) a (saved_for ((hearers.steps k).words.due past a)))
+    ∙ ap (λ s. frames (entry_by (rules_of k) (saved_for (heard_or None (k.core.words.due list) s)) s)) is
     ∙ spelled k packets list s)

@@ -5,7 +5,7 @@ use Rattle.fc_base.specs.declared.fault.Fault.{Fault}
 use Rattle.fc_base.specs.declared.fault.Fault.TheVariants.{Down, Misdirected, FrameBadField, NoMemory}
 use Rattle.disk_model.specs.declared.left.Left.{Left}
 use Rattle.disk_model.specs.Left.{is_lost}
-use Rattle.node.specs.Steps.{Steps, Ends}
+use Rattle.node.specs.Steps.{Words, Steps, Ends}
 use Rattle.messages.specs.declared.packet.PacketParts.{PacketParts}
 use Rattle.messages.specs.declared.piece.PieceParts.{PieceParts}
 use Rattle.messages.specs.declared.frame.Frame.TheVariants.{Piece}
@@ -30,9 +30,10 @@ pub record CoreKind (C X E D O : Type 0) : Type 1 where
 -- was, and no save was lost; what is refused leaves it as it was; and each packet is within the
 -- ranges.
 pub record Laws {C X E D O : Type 0} (k : CoreKind C X E D O) : Type 0 where
-  pub goes_on : (x : X) (left : Left) → k.ends (k.core.met x left) ≡ false
+  pub goes_on : (x : X) (left : Left) → k.ends (k.core.words.met x left) ≡ false
   pub on_behind : (past : List E) (x : X) (left : Left)
-      → k.core.is_up (k.core.met x left ∷ past) ≡ (k.core.is_up past && not (is_lost left))
+      → k.core.words.is_up (k.core.words.met x left ∷ past)
+      ≡ (k.core.words.is_up past && not (is_lost left))
   pub stays : (past : List E) (x : X) (core : C)
       → k.core.Stays past x core → k.core.StandsFor past core
   pub in_range : (p : PacketParts) → IsPacket p → k.IsInRange (k.delivers p)
@@ -41,9 +42,9 @@ pub record Laws {C X E D O : Type 0} (k : CoreKind C X E D O) : Type 0 where
 abbrev pub rules_of : {C X E D O : Type 0} → CoreKind C X E D O → Rules X E Left
 rules_of k = record {
   delivers = k.delivers;
-  met = k.core.met;
-  refusal = k.core.refusal;
-  is_on = k.core.is_up;
+  met = k.core.words.met;
+  refusal = k.core.words.refusal;
+  is_on = k.core.words.is_up;
   is_for = k.is_for;
   ends = k.ends;
 }
@@ -70,7 +71,7 @@ sense k past a = senses.sense (rules_of k) (heard_at k past) a
 pub record StandsFor {C X E D O : Type 0} (k : CoreKind C X E D O) (past : List (Coming E Left))
     (hearer : Hearer C) : Type 0 where
   pub core : k.core.StandsFor (entries k past) hearer.core
-  pub pieces : k.core.is_up (entries k past) ≡ true → hearer.pieces ≡ rows k past
+  pub pieces : k.core.words.is_up (entries k past) ≡ true → hearer.pieces ≡ rows k past
 
 -- What is answered and sent is what the core answers to what is heard, and nothing for a piece that
 -- is kept; the others aren't answered.
@@ -80,18 +81,23 @@ Sends k past Keeps outs = outs ≡ k.nothing
 Sends k past Drops outs = ⊥
 Sends k past Misses outs = ⊥
 
--- Its steps: what is due is due to what is heard, and what is refused leaves it as it was, but where
--- it drops a tag: that alone changes.
+-- What its list says: what is due is due to what is heard.
+abbrev pub words : {C X E D O : Type 0} → CoreKind C X E D O → Words (Arrival X) (Coming E Left) D
+words k = record {
+  is_up = λ past. k.core.words.is_up (entries k past);
+  refusal = λ past a. refusal_of_sense (rules_of k) (entries k past) (sense k past a);
+  due = λ past a. heard_or None (k.core.words.due (entries k past)) (sense k past a);
+  met = coming k.core.words.met;
+  spelled = λ past. k.core.words.spelled (entries k past);
+}
+
+-- Its steps: what is refused leaves it as it was, but where it drops a tag: that alone changes.
 abbrev pub steps : {C X E D O : Type 0} → CoreKind C X E D O
     → Steps (Hearer C) (Arrival X) (Coming E Left) D O
 steps k = record {
+  words = words k;
   note = λ hearer. k.core.note hearer.core;
   StandsFor = λ past hearer. StandsFor k past hearer;
-  is_up = λ past. k.core.is_up (entries k past);
-  refusal = λ past a. refusal_of_sense (rules_of k) (entries k past) (sense k past a);
-  due = λ past a. heard_or None (k.core.due (entries k past)) (sense k past a);
-  met = coming k.core.met;
-  spelled = λ past. k.core.spelled (entries k past);
   Sends = λ past a outs. Sends k (entries k past) (sense k past a) outs;
   Stays = λ past a hearer. is_drop (sense k past a) ≡ false → StandsFor k past hearer;
 }
@@ -112,7 +118,7 @@ IsSensed k past q (Ok None) = sense k past (Framed (Piece q)) ≡ Keeps
 IsSensed k past q (Err NoMemory) = Unit {0}
 IsSensed k past q (Err FrameBadField) = sense k past (Framed (Piece q)) ≡ Drops
 IsSensed k past q (Err Misdirected) =
-    (sense k past (Framed (Piece q)) ≡ Misses) × (k.core.is_up (entries k past) ≡ true)
+    (sense k past (Framed (Piece q)) ≡ Misses) × (k.core.words.is_up (entries k past) ≡ true)
 IsSensed k past q (Err Down) =
-    (sense k past (Framed (Piece q)) ≡ Misses) × (k.core.is_up (entries k past) ≡ false)
+    (sense k past (Framed (Piece q)) ≡ Misses) × (k.core.words.is_up (entries k past) ≡ false)
 IsSensed k past q (Err _) = ⊥

@@ -1,6 +1,6 @@
 -- What a node is that may have no power, whichever core it has, and how it loses its power and is
 -- started again. Lists are newest first.
-use Rattle.std.specs.Prelude.{◌≡◌, ◌⊎◌, Bool, true, false, List, [], Option, Some, None, Result, Ok, Err}
+use Rattle.std.specs.Prelude.{◌≡◌, ◌⊎◌, true, false, List, [], Option, Some, None, Result, Ok, Err}
 use Rattle.std.specs.Borrow.{LendsIfOk, Fml, RattleType, MutBor}
 use Rattle.fc_base.specs.declared.fault.Fault.{Fault}
 use Rattle.fc_base.specs.declared.fault.Fault.TheVariants.{NodeOff, NodeOn}
@@ -11,8 +11,8 @@ use Rattle.node.specs.declared.power.Power.TheVariants.{On, Off, Lent}
 use Rattle.node.specs.contracts.power.Power.{the_row}
 
 -- A kind of node, of cores C over notes N, to which inputs E come, whose lists have entries X,
--- which add D to their notes, and answer O: what has to be known of its core, by which lists it is
--- on, and of which lists notes say what they say.
+-- which add D to their notes, and answer O: what has to be known of its core, and of which lists
+-- notes say what they say.
 pub record Kind (C N E X D O : Type 0) : Type 1 where
   pub core : Steps C E X D O
   pub note : N → Note  -- the note that notes are
@@ -22,7 +22,7 @@ pub record Kind (C N E X D O : Type 0) : Type 1 where
 -- says, the notes say what the list says.
 abbrev pub Stands : {C N E X D O : Type 0} → Kind C N E X D O → List X → Power C N → Type 0
 Stands k past (On core) = k.core.StandsFor past core
-Stands k past (Off notes) = k.Says past notes × (k.core.is_up past ≡ false)
+Stands k past (Off notes) = k.Says past notes × (k.core.words.is_up past ≡ false)
 Stands k past Lent = ⊥
 
 -- The note of a node, which its core keeps, or which its notes are.
@@ -39,8 +39,8 @@ note_of k power = note_by k.core.note k.note power
 abbrev pub Shows : {C N E X D O : Type 0} →
     Kind C N E X D O → List X → Power C N → Option C → Type 0
 Shows k past power (Some core) =
-    (power ≡ On core) × k.core.StandsFor past core × (k.core.is_up past ≡ true)
-Shows k past power None = k.core.is_up past ≡ false
+    (power ≡ On core) × k.core.StandsFor past core × (k.core.words.is_up past ≡ true)
+Shows k past power None = k.core.words.is_up past ≡ false
 
 -- It is lent where it is on; else that is refused.
 abbrev pub IsLent : {C N E X D O : Type 0} →
@@ -62,7 +62,7 @@ pub record IsLeft {C N E X D O : Type 0} (k : Kind C N E X D O) (past : List X) 
 -- It was on, and has left its notes.
 pub record IsCutOff {C N E X D O : Type 0} (k : Kind C N E X D O) (past : List X)
     (old new : Power C N) : Type 0 where
-  pub on : k.core.is_up past ≡ true
+  pub on : k.core.words.is_up past ≡ true
   pub notes : N
   pub left : IsLeft k past old notes
   pub off : new ≡ Off notes
@@ -71,7 +71,8 @@ pub record IsCutOff {C N E X D O : Type 0} (k : Kind C N E X D O) (past : List X
 abbrev pub Cuts : {C N E X D O : Type 0} →
     Kind C N E X D O → List X → Power C N → Power C N → Result (Unit {0}) Fault → Type 0
 Cuts k past old new (Ok _) = IsCutOff k past old new
-Cuts k past old new (Err fault) = (fault ≡ NodeOff) × (k.core.is_up past ≡ false) × (new ≡ old)
+Cuts k past old new (Err fault) =
+    (fault ≡ NodeOff) × (k.core.words.is_up past ≡ false) × (new ≡ old)
 
 -- What a start leaves: a core, or the notes.
 abbrev pub left_by : {C N : Type 0} → Result C (N × Fault) → Power C N
@@ -87,7 +88,7 @@ told_of (Err back) = Err back.1
 pub record IsStarted {C N E X D O : Type 0} (k : Kind C N E X D O)
     (Opens : N → Result C (N × Fault) → Type 0) (past : List X) (old new : Power C N)
     (result : Result (Unit {0}) Fault) : Type 0 where
-  pub off : k.core.is_up past ≡ false
+  pub off : k.core.words.is_up past ≡ false
   pub notes : N
   pub left : IsLeft k past old notes
   pub made : Result C (N × Fault)
@@ -98,7 +99,7 @@ pub record IsStarted {C N E X D O : Type 0} (k : Kind C N E X D O)
 -- It was on, and nothing changes.
 pub record WasOn {C N E X D O : Type 0} (k : Kind C N E X D O) (past : List X)
     (old new : Power C N) (result : Result (Unit {0}) Fault) : Type 0 where
-  pub on : k.core.is_up past ≡ true
+  pub on : k.core.words.is_up past ≡ true
   pub same : new ≡ old
   pub told : result ≡ Err NodeOn
 

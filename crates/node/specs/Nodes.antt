@@ -2,7 +2,7 @@
 -- node's words.
 use Rattle.std.specs.Prelude.{List, map}
 use Rattle.disk_model.specs.declared.left.Left.{Left}
-use Rattle.node.specs.Steps.{Steps}
+use Rattle.node.specs.Steps.{Words, Steps}
 use Rattle.messages.specs.Hearing.{Coming}
 use Rattle.messages.specs.Senses.{Arrival}
 use Rattle.node.specs.declared.hearer.Hearer.{Hearer}
@@ -18,16 +18,22 @@ pub record Node (S I F C X E D O : Type 0) : Type 1 where
   pub met : I → Left → F  -- the entry of an input whose save left this
   pub Sends : List F → I → O → Type 0  -- what is answered and sent for an input
 
--- The steps of such a node.
+-- What the list of such a node says.
+abbrev pub words : {S I F C X E D O : Type 0} → Node S I F C X E D O → Words I F D
+words n = record {
+  is_up = λ past. (hearers.words n.kind).is_up (map n.coming past);
+  refusal = λ past e. (hearers.words n.kind).refusal (map n.coming past) (n.arrival e);
+  due = λ past e. (hearers.words n.kind).due (map n.coming past) (n.arrival e);
+  met = n.met;
+  spelled = λ past. (hearers.words n.kind).spelled (map n.coming past);
+}
+
+-- Its steps.
 abbrev pub steps : {S I F C X E D O : Type 0} → Node S I F C X E D O → Steps S I F D O
 steps n = record {
+  words = words n;
   note = λ node. n.kind.core.note (n.hearer node).core;
   StandsFor = λ past node. hearers.StandsFor n.kind (map n.coming past) (n.hearer node);
-  is_up = λ past. (hearers.steps n.kind).is_up (map n.coming past);
-  refusal = λ past e. (hearers.steps n.kind).refusal (map n.coming past) (n.arrival e);
-  due = λ past e. (hearers.steps n.kind).due (map n.coming past) (n.arrival e);
-  met = n.met;
-  spelled = λ past. (hearers.steps n.kind).spelled (map n.coming past);
   Sends = n.Sends;
   Stays = λ past e node.
       (hearers.steps n.kind).Stays (map n.coming past) (n.arrival e) (n.hearer node);

@@ -23,22 +23,27 @@ is_answer None NoSave = true
 is_answer (Some addition) Saved = true
 is_answer _ _ = false
 
--- What has to be known of a core of states S, to which inputs E come, whose lists have entries X,
--- which adds D to its note, and answers O.
-pub record Steps (S E X D O : Type 0) : Type 1 where
-  pub note : S → Note  -- its note
-  pub StandsFor : List X → S → Type 0  -- for which lists it stands
+-- What the list of a core says, to which inputs E come, whose lists have entries X, and which adds
+-- D to its note: whatever its notes are.
+pub record Words (E X D : Type 0) : Type 0 where
   pub is_up : List X → Bool  -- behind this list it is on
   pub refusal : List X → E → Option Fault  -- why an input is refused, if it is
   pub due : List X → E → Option D  -- what an input is due to add to the note
   pub met : E → Left → X  -- the entry of an input whose save left this
   pub spelled : List X → List ℕ  -- the spelling of what is noted behind the list
+
+-- What has to be known of a core of states S, to which inputs E come, whose lists have entries X,
+-- which adds D to its note, and answers O.
+pub record Steps (S E X D O : Type 0) : Type 1 where
+  pub words : Words E X D  -- what its list says
+  pub note : S → Note  -- its note
+  pub StandsFor : List X → S → Type 0  -- for which lists it stands
   pub Sends : List X → E → O → Type 0  -- what is answered and sent for an input
   pub Stays : List X → E → S → Type 0  -- what a refused input leaves that isn't added to the list
 
 -- What an answered input leaves in the list: what was due is saved.
-abbrev pub answered : {S E X D O : Type 0} → Steps S E X D O → List X → E → X
-answered s past e = s.met e (saved_for (s.due past e))
+abbrev pub answered : {E X D : Type 0} → Words E X D → List X → E → X
+answered words past e = words.met e (saved_for (words.due past e))
 
 -- What an answered input leaves of the note: all of it where nothing was due, else the bytes are
 -- the spelling of what is noted then.
@@ -50,34 +55,36 @@ LeavesNote (Some addition) after old new = new ≡ record old { bytes = after }
 -- the note, and the input is added.
 pub record Answers {S E X D O : Type 0} (s : Steps S E X D O)
     (past : List X) (e : E) (old new : S) (outs : O) : Type 0 where
-  pub free : s.refusal past e ≡ None
+  pub free : s.words.refusal past e ≡ None
   pub sends : s.Sends past e outs
   pub leaves :
-      LeavesNote (s.due past e) (s.spelled (answered s past e ∷ past)) (s.note old) (s.note new)
-  pub stands : s.StandsFor (answered s past e ∷ past) new
+      LeavesNote (s.words.due past e) (s.words.spelled (answered s.words past e ∷ past))
+      (s.note old) (s.note new)
+  pub stands : s.StandsFor (answered s.words past e ∷ past) new
 
 -- The input is refused for this reason, and the note is as it was. The input may stand in the list,
 -- without a save, or not.
 pub record Refuses {S E X D O : Type 0} (s : Steps S E X D O)
     (past : List X) (e : E) (fault : Fault) (old new : S) : Type 0 where
-  pub why : s.refusal past e ≡ Some fault
+  pub why : s.words.refusal past e ≡ Some fault
   pub same_note : s.note new ≡ s.note old
   pub unchanged : s.Stays past e new
-  pub stands : s.StandsFor (s.met e NoSave ∷ past) new
+  pub stands : s.StandsFor (s.words.met e NoSave ∷ past) new
 
 -- The device failed in the save of what was due: the bytes are the old ones, or the spelling of
 -- what was to be noted.
 pub record Fails {S E X D O : Type 0} (s : Steps S E X D O)
     (past : List X) (e : E) (old new : S) : Type 0 where
   pub cause : (s.note old).failures < (s.note new).failures
-  pub free : s.refusal past e ≡ None
+  pub free : s.words.refusal past e ≡ None
   pub addition : D
-  pub makes_one : s.due past e ≡ Some addition
+  pub makes_one : s.words.due past e ≡ Some addition
   pub left : Left
   pub lost : is_lost left ≡ true
   pub bytes_are :
-      (s.note new).bytes ≡ bytes_left left (s.spelled (s.met e left ∷ past)) (s.note old).bytes
-  pub stands : s.StandsFor (s.met e left ∷ past) new
+      (s.note new).bytes
+      ≡ bytes_left left (s.words.spelled (s.words.met e left ∷ past)) (s.note old).bytes
+  pub stands : s.StandsFor (s.words.met e left ∷ past) new
 
 -- For want of memory nothing changes.
 pub record OutOfMemory {S E X D O : Type 0} (s : Steps S E X D O)

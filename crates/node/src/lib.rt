@@ -1,5 +1,5 @@
 //! What a node is, whichever core it has: a server, the client or a mirror. It saves before it changes, and is
-//! down once a save has failed; its core hears frames; and it has power, or only its notes.
+//! down once a save has failed; it has power, or only its notes; and a core that accepts packets hears frames.
 //!
 //! ```text
 //! let mut durable = Durable::new(notes);

@@ -40,7 +40,7 @@ pub trait NodeCore<N>: Drop {
     fn is_up(&self) -> bool
         ensures { (opening : Opening) (past : List Entry) →
             (kind opening).core.StandsFor past self.now →
-            result ≡ (kind opening).core.is_up past };
+            result ≡ (kind opening).core.words.is_up past };
 
     /// Its notes, where it is taken off.
     fn into_notes(self) -> N

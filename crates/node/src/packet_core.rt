@@ -31,7 +31,7 @@ pub trait PacketCore {
     fn is_up(&self) -> bool
         ensures { (opening : Opening) (past : List Entry) →
             (kind opening).core.StandsFor past self.now →
-            result ≡ (kind opening).core.is_up past };
+            result ≡ (kind opening).core.words.is_up past };
 
     /// Whether a piece is for it.
     fn is_for(&self, piece: &Piece) -> bool

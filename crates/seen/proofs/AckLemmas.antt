@@ -31,7 +31,7 @@ use Rattle.net_world.specs.Happenings.{Happening}
 use Rattle.net_world.specs.Trace.{AtClient, IsTrace, of_client, of_server, opening_of, client_opening, mirror_opening, sent_packets}
 use Rattle.net_world.specs.Barred as barred
 use Rattle.net_world.specs.Frames as frames
-use Rattle.net_world.specs.Frames.{FrameStep, OfServer, OfClient, OfMirror, at_server, at_client, frames_of_step, trace_heard}
+use Rattle.net_world.specs.Frames.{FrameStep, OfServer, OfClient, OfMirror, at_server, at_client, trace_heard}
 use Rattle.net_world.specs.Holders.{key_at}
 use Rattle.net_world.specs.Changes as changes
 use Rattle.net_world.specs.Changes.{Change, Landed, Rotted, steps, trace}

@@ -27,7 +27,7 @@ use Rattle.net_world.specs.Setup.{Setup}
 use Rattle.net_world.specs.Happenings.{Happening, Deliver}
 use Rattle.net_world.specs.Trace.{opening_of, sent_packets}
 use Rattle.net_world.specs.Frames as frames
-use Rattle.net_world.specs.Frames.{OfServer, at_server, to_of, trace_heard}
+use Rattle.net_world.specs.Frames.{OfServer, at_server}
 use Rattle.net_world.specs.InRange.{SentAreInRange}
 use Rattle.net_world.specs.FrameLaws.{FramesAreOfPackets, TagsNameOneBody}
 use Rattle.net_world.specs.Changes.{Met, steps, trace}

@@ -17,9 +17,8 @@ use Rattle.messages.specs.declared.refusal.Reason.TheVariants as reasons
 use Rattle.messages.specs.Nodes.{node_number}
 use Rattle.client_core.specs.Inputs.{PacketInput}
 use Rattle.client_core.specs.Inputs as inputs
-use Rattle.client_core.specs.Life.{Deed, Begins, Triggers, Stops, Verifies, Hears, deeds_of, deeds_done}
+use Rattle.client_core.specs.Life.{Deed, Begins, Triggers, Stops, Verifies, Hears, deeds_of}
 use Rattle.client_core.specs.Life as lives
-use Rattle.client_core.specs.Life.{life}
 use Rattle.client_core.specs.declared.beginning.Beginning.{Beginning}
 use Rattle.client_core.specs.declared.beginning.Beginning.TheVariants as begins
 use Rattle.client_core.specs.declared.note.ClientNote.{ClientNote}

@@ -35,7 +35,7 @@ use Rattle.net_world.specs.Happenings.{Happening}
 use Rattle.net_world.specs.Claims.{OfEachTrace}
 use Rattle.net_world.specs.Trace.{of_server, of_client, of_mirror, opening_of, client_opening, mirror_opening}
 use Rattle.net_world.specs.Frames as frames
-use Rattle.net_world.specs.Frames.{FrameStep, OfServer, OfClient, OfMirror, at_server, at_client, frames_sent, to_of, trace_heard}
+use Rattle.net_world.specs.Frames.{FrameStep, OfServer, OfClient, OfMirror, at_server, at_client, to_of, trace_heard}
 use Rattle.net_world.specs.Changes as changes
 use Rattle.net_world.specs.Changes.{Change, Landed, Rotted, steps, trace}
 use Rattle.net_world.specs.Outcomes.{Outcome, Does, Refuses, Drops, outcome_of_step, unless_fault, where_saved, met_by_server, met_by_client}

@@ -39,7 +39,7 @@ use Rattle.net_world.specs.Changes.{Change, trace}
 use Rattle.net_world.specs.Writes.{open_at}
 use Rattle.net_world.specs.Outcomes.{Outcome, Does, outcome}
 use Rattle.net_world.specs.World as worlds
-use Rattle.net_world.specs.World.{world, answer_of_issue, told_by, told_of_happening}
+use Rattle.net_world.specs.World.{world, told_by, told_of_happening}
 use Rattle.seen.specs.Files.{ticket_in, ticket_with, given_write}
 use Rattle.seen.specs.Watching.{observations}
 use Rattle.seen.proofs.EntryLemmas.{Makes, ByFrame, ByLoss, ByWorker, ByEnd, ByCheck, ByCut, ByRestart}

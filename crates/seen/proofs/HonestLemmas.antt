@@ -15,7 +15,6 @@ use Rattle.messages.specs.Hearing.{Comes, Happens}
 use Rattle.server_core.specs.declared.input.Input.TheVariants as inputs
 use Rattle.server_core.specs.declared.input.WriteEnd.TheVariants as ends
 use Rattle.server_core.specs.History as server
-use Rattle.server_core.specs.History.{Entry}
 use Rattle.net_world.specs.Setup.{Setup}
 use Rattle.net_world.specs.Happenings.{Happening, Done, Land, Rot}
 use Rattle.net_world.specs.Frames.{FrameStep, OfServer, OfClient, OfMirror}

@@ -31,7 +31,7 @@ use Rattle.net_world.specs.Happenings.{Land, Done, Fail, Rot, Cut, Restart, Lose
 use Rattle.net_world.specs.Happenings as happenings
 use Rattle.net_world.specs.Trace.{of_server, of_mirror, opening_of, client_opening, mirror_opening, of_client}
 use Rattle.net_world.specs.Frames as frames
-use Rattle.net_world.specs.Frames.{FrameStep, OfServer, OfClient, OfMirror, at_server, frames_sent, to_of, trace_heard}
+use Rattle.net_world.specs.Frames.{FrameStep, OfServer, OfClient, OfMirror, at_server, frames_sent, to_of}
 use Rattle.net_world.specs.Changes.{Change, Met, steps, trace}
 use Rattle.net_world.specs.Writes.{open_at}
 use Rattle.net_world.specs.Contents.{content}

@@ -12,7 +12,7 @@ use Rattle.messages.specs.declared.refusal.Act.TheVariants as acts
 use Rattle.messages.specs.Hearing.{Coming, entry_of, heard}
 use Rattle.server_core.specs.Inputs.{PacketInput}
 use Rattle.server_core.specs.History as server
-use Rattle.server_core.specs.History.{Opening, Entry}
+use Rattle.server_core.specs.History.{Entry}
 use Rattle.server_core.specs.Request.{Request, ToStage, ToStart, ToTrigger, ToMark, ToStop, ToVerify, ToHold, ToPassFully, ToIssue, ToEnd, ToReport, ToNobody}
 use Rattle.server_core.specs.Run.{Work, Halt, halt_of}
 use Rattle.server_core.specs.Run as runs
@@ -25,11 +25,11 @@ use Rattle.net_world.specs.Setup.{Setup}
 use Rattle.net_world.specs.Happenings.{Happening}
 use Rattle.net_world.specs.Trace.{Step, AtServer, AtClient, opening_of}
 use Rattle.net_world.specs.Frames as frames
-use Rattle.net_world.specs.Frames.{FrameStep, OfServer, OfClient, OfMirror, at_server, at_client, step_heard}
+use Rattle.net_world.specs.Frames.{OfServer, OfClient, OfMirror, at_server, at_client}
 use Rattle.net_world.specs.Changes.{Met, Landed, Rotted, steps, trace}
 use Rattle.net_world.specs.Outcomes.{Outcome, Does, Refuses, Drops, outcome}
 use Rattle.net_world.specs.World as worlds
-use Rattle.net_world.specs.World.{world, told_by, told_of_happening}
+use Rattle.net_world.specs.World.{world, told_by}
 use Rattle.seen.proofs.EntryLemmas.{step_in, entry_by}
 use Rattle.seen.proofs.PlaceLemmas.{list_at, entry_now}
 use Rattle.seen.proofs.QuietLemmas.{TakingLaws}

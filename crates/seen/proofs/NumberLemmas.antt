@@ -31,7 +31,7 @@ use Rattle.net_world.specs.Happenings as happenings
 use Rattle.net_world.specs.Trace.{of_server, of_client, of_mirror, opening_of, client_opening, mirror_opening}
 use Rattle.net_world.specs.Frames.{OfServer, OfClient, OfMirror, frames_sent, to_of}
 use Rattle.net_world.specs.Changes as changes
-use Rattle.net_world.specs.Changes.{Change, Landed, Rotted, steps, trace}
+use Rattle.net_world.specs.Changes.{Change, steps, trace}
 use Rattle.net_world.specs.Writes.{open_at}
 use Rattle.net_world.specs.Checks.{end_of_check}
 use Rattle.net_world.specs.Barred.{barring_fault}

@@ -36,7 +36,6 @@ use Rattle.net_world.specs.Contents.{content}
 use Rattle.net_world.specs.Checks.{report_of, report_for, check_end, end_of_check_in, end_of_check}
 use Rattle.net_world.specs.Barred.{barring_fault}
 use Rattle.net_world.specs.Exact as exact
-use Rattle.net_world.specs.Exact.{IsBased}
 use Rattle.net_world.specs.Outcomes.{Does, outcome_of_step, unless_fault, unless_barred, end_of_check_met, outcome}
 use Rattle.net_world.specs.World.{world, report_in, told_by, told_of_happening}
 use Rattle.net_world.specs.Claims.{OfEachWorld}

@@ -15,8 +15,7 @@ use Rattle.client_core.specs.Words.{words_noted, peers, is_answered}
 use Rattle.client_core.specs.Life.{Deed, Begins, Verifies, deeds_of, deeds_done}
 use Rattle.client_core.specs.Life.{life}
 use Rattle.client_core.specs.Packets as clients
-use Rattle.client_core.specs.Packets.{start_for, jobs_once_more, lacks_jobs, state_for, copy_for, replies, begin_again, packets_again, run_again, attempt_again}
-use Rattle.client_core.specs.Packets.{requests_again, fetch_again, is_copied, copy_again, copies_again, packets_for}
+use Rattle.client_core.specs.Packets.{packets_for}
 use Rattle.net_world.specs.Setup.{Setup}
 use Rattle.net_world.specs.Happenings.{Happening}
 use Rattle.net_world.specs.Trace.{Step, AtServer, AtClient, AtMirror, of_server, of_client, of_mirror, opening_of, client_opening, mirror_opening}

@@ -86,13 +86,15 @@ pub record Sends (opening : Opening) (past : List Entry) (e : PacketInput) (outs
 abbrev pub steps : {T : Type 0} → (T → Note) → Opening →
     Steps (PacketServer T) PacketInput Entry Staged Outs
 steps note opening = record {
+  words = record {
+    is_up = is_on;
+    refusal = refusal opening;
+    due = due opening;
+    met = Met;
+    spelled = λ past. spelling (words_noted opening past);
+  };
   note = λ server. note server.durable.notes;
   StandsFor = λ past server. StandsFor note server opening past;
-  is_up = is_on;
-  refusal = refusal opening;
-  due = due opening;
-  met = Met;
-  spelled = λ past. spelling (words_noted opening past);
   Sends = Sends opening;
   Stays = λ past e server. StandsFor note server opening past;
 }

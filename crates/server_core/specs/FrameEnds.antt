@@ -3,7 +3,7 @@ use Rattle.std.specs.Prelude.{◌≡◌, ℕ, ◌+◌, List, ◌∷◌, map, Res
 use Rattle.fc_base.specs.declared.fault.Fault.{Fault}
 use Rattle.disk_model.specs.declared.left.Left.TheVariants.{Saved}
 use Rattle.disk_model.specs.Notes.{Note}
-use Rattle.node.specs.Steps.{Steps}
+use Rattle.node.specs.Steps.{Words, Steps}
 use Rattle.messages.specs.FrameBytes.{frame_spelling}
 use Rattle.node.specs.Hearers as hearers
 use Rattle.node.specs.Nodes as nodes
@@ -55,6 +55,10 @@ server_node note opening = record {
   met = Met;
   Sends = Sends opening;
 }
+
+-- What the list of a server says, whatever its notes are.
+abbrev pub words_of : Opening → Words FrameInput FrameEntry Staged
+words_of opening = nodes.words (server_node (λ (note : Note). note) opening)
 
 -- The steps of a server: its note, what its list says of what comes, and what is answered and sent.
 -- What is refused leaves it as it was, but where it drops a tag: that alone changes.

@@ -14,7 +14,7 @@ use Rattle.cells.specs.ClientCells.{ClientLog, opening_of}
 use Rattle.cells.specs.ClientStands.{failures_of, reply_and_frames}
 use Rattle.cells.specs.ClientKind.{client_kind}
 use Rattle.node.proofs.PowerLemmas.{hidden, there}
-use Rattle.cells.proofs.ClientHearLemmas.{unready_why, sent_spelled, heard_cell, told_why, replayed}
+use Rattle.cells.proofs.ClientHearLemmas.{unready_why, sent_spelled, heard_cell, told_why, replayed, shown_replay}
 use Rattle.cells.proofs.client_cell.ClientCell.tick.Goals as goal
 
 pub returns-in_default-clause-ends : goal.returns-in_default-clause-ends
@@ -89,6 +89,12 @@ returns-clause-replay g c =
 pub returns-then-is_none-clause-ends : goal.returns-then-is_none-clause-ends
 returns-then-is_none-clause-ends g c =
     left_out_posts Client came.Tick None c.args.hub.now.net c.args.hub.now.net c.args.self.now.history c.args.self.now.history NodeOff refl refl refl
+
+pub returns-then-is_none-clause-replay : goal.returns-then-is_none-clause-replay
+returns-then-is_none-clause-replay g c = shown_replay g.N.Notes.note _ c.self.inside.power c.args.self.now c.self.invariant.0 c.self.view_is
+
+pub returns-in_default-clause-replay : goal.returns-in_default-clause-replay
+returns-in_default-clause-replay g c = shown_replay g.N.Notes.note _ c.self.inside.power c.args.self.now c.self.invariant.0 c.self.view_is
 
 pub returns-then-is_none-clause-why : goal.returns-then-is_none-clause-why
 returns-then-is_none-clause-why g c =

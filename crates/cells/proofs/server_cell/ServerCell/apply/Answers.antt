@@ -10,7 +10,12 @@ use Rattle.cells.proofs.MoveLemmas.{is_lack, lack_counts, stays, done}
 use Rattle.cells.specs.ServerTasks.{came_by, loads_note}
 use Rattle.cells.specs.ServerStands.{failures_of}
 use Rattle.cells.proofs.ServerCellLemmas.{opening_with, count_fits, few_before, seat_fits, lacks, applied, same_cell, entered, replayed}
+use Rattle.cells.proofs.ServerHearLemmas.{shown_replay}
 use Rattle.cells.proofs.server_cell.ServerCell.apply.Goals as goal
+
+pub returns-then-not-is_right-clause-replay : goal.returns-then-not-is_right-clause-replay
+returns-then-not-is_right-clause-replay g c =
+    shown_replay g.N.Notes.note _ c.self.inside.power c.self.inside.applied c.args.self.now c.self.invariant c.self.view_is
 
 pub returns-then-is_err-clause-ends : goal.returns-then-is_err-clause-ends
 returns-then-is_err-clause-ends g c =

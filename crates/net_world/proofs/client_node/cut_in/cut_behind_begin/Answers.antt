@@ -15,4 +15,4 @@ returns-in-Err c o past stands due =
 pub returns : goal.returns
 returns c o past stands due =
     let e = inputs.Begin c.args.text.now in
-    cut_new (client_nodes o) Cut past e c.cut.new.node (saves o past e due) (c.cut.ensures o (answered (client_nodes o).core past e ∷ past) (c.in_default.ensures o past stands).1.stands)
+    cut_new (client_nodes o) Cut past e c.cut.new.node (saves o past e due) (c.cut.ensures o (answered (client_nodes o).core.words past e ∷ past) (c.in_default.ensures o past stands).1.stands)
