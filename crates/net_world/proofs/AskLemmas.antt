@@ -46,7 +46,7 @@ use Rattle.net_world.specs.Stands.{IsMirror, IsGreatest, StandsFor}
 use Rattle.net_world.specs.Asking.{entries, step_of, step_by, told_of, IsBarred, Refuses, Faults, ClientEnds}
 use Rattle.net_world.proofs.ClientHeardLemmas.{heard_is, frames_are, entry_again}
 use Rattle.net_world.proofs.NodeLemmas.{unchanged}
-use Rattle.net_world.proofs.MetLemmas.{frames_more}
+use Rattle.net_world.proofs.MetLemmas.{frames_more, none_added}
 use Rattle.net_world.proofs.ServeLemmas.{first_is}
 
 -- ---- whether the client is on
@@ -87,6 +87,11 @@ pub record HasMoved (sent : List (List ℕ)) (old new : World) : Type 0 where
   pub servers_are : new.servers ≡ old.servers
   pub files_are : new.files ≡ old.files
   pub mirror_is : new.mirror ≡ old.mirror
+
+-- So it is where none was sent.
+pub nothing_sent : {old new : World} → sent_in new.sent ≡ sent_in old.sent → new.servers ≡ old.servers → new.files ≡ old.files → new.mirror ≡ old.mirror
+    → HasMoved [] old new
+nothing_sent sent servers files mirror = record { sent_is = none_added sent; servers_are = servers; files_are = files; mirror_is = mirror }
 
 -- Frames were added, and all but the client and its generation is as it was.
 pub record HasPassed (sent : List (List ℕ)) (old new : World) : Type 0 where

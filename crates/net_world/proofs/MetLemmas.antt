@@ -101,6 +101,10 @@ pub record HasMoved (s : ℕ) (node : ServerNode) (sent : List (List ℕ)) (old 
   pub files_are : new.files ≡ old.files
   pub mirror_is : new.mirror ≡ old.mirror
 
+-- Where none was sent, none was added.
+pub none_added : {old new : List (List ℕ)} → new ≡ old → new ≡ old ++ []
+none_added {old = old} same = same ∙ sym (append-nil old)
+
 -- So it is where that node was put at its place.
 pub in_place : {s place : ℕ} {node : ServerNode} {sent : List (List ℕ)} {old new : World} → s < length old.servers.items → place ≡ s
     → new.servers.items ≡ set old.servers.items place node → sent_in new.sent ≡ sent_in old.sent ++ sent

@@ -111,8 +111,22 @@ pub record HasHeard (node : MirrorNode) (sent : List (List ℕ)) (old new : Worl
   pub files_are : new.files ≡ old.files
 
 -- There is a mirror, by every list for which a world stands that has this node.
-pub is_had : (was : MirrorNode) (now : World) → now.mirror.node ≡ Some was → (w : Setup) (past : List Change) → StandsFor w past now → w.mirror ≡ true
+is_had : (was : MirrorNode) (now : World) → now.mirror.node ≡ Some was → (w : Setup) (past : List Change) → StandsFor w past now → w.mirror ≡ true
 is_had was now is w past h = (there w past now.mirror.node was is h.mirror_is).0
+
+-- So it is where this node was there before.
+pub still_there : {was node : MirrorNode} {sent : List (List ℕ)} {old new : World} → old.mirror.node ≡ Some was → new.mirror.node ≡ Some node
+    → new.mirror.greatest ≡ old.mirror.greatest → sent_in new.sent ≡ sent_in old.sent ++ sent → new.servers ≡ old.servers → new.client ≡ old.client
+    → new.files ≡ old.files → HasHeard node sent old new
+still_there {was = was} {old = old} is now greatest sent servers client files = record {
+  has = is_had was old is;
+  node_is = now;
+  greatest_is = greatest;
+  sent_is = sent;
+  servers_are = servers;
+  client_is = client;
+  files_are = files;
+}
 
 -- The mirror has made a step, for which its node stands and whose frames were added.
 pub mirror_stepped : (w : Setup) (past : List Change) (e : Entry) (node : MirrorNode) (sent : List (List ℕ)) (old new : World) → StandsFor w past old

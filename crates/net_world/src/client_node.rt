@@ -19,7 +19,7 @@ mod renewal;
 
 pub(crate) use asks::ask;
 use client_core::{Client, ClientSeed};
-pub(crate) use cut_in::{cut_in_begin, cut_in_delivery, cut_in_verify};
+pub(crate) use cut_in::cut_in;
 use disk_model::MemNotes;
 use fc_base::Fault;
 use node::Power;

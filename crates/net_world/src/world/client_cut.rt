@@ -10,6 +10,7 @@ ghost use Rattle.net_world.specs.Frames.{to_of, frames_sent};
 ghost use Rattle.net_world.specs.Stands.{StandsFor};
 
 use super::World;
+use crate::ask::Ask;
 use crate::client_node;
 use crate::told::Told;
 use fc_base::{Fault, RunNo};
@@ -24,7 +25,7 @@ impl World {
         let Ok(first) = self.sent.settle() else {
             return Err(Fault::NoMemory);
         };
-        client_node::cut_in_begin(&mut self.client, self.alloc, landed, text)?;
+        client_node::cut_in(&mut self.client, self.alloc, landed, Ask::Begin(text))?;
         Ok(Told::plain(first))
     }
 
@@ -41,7 +42,7 @@ impl World {
         let Ok(first) = self.sent.settle() else {
             return Err(Fault::NoMemory);
         };
-        client_node::cut_in_verify(&mut self.client, self.alloc, landed, run, text)?;
+        client_node::cut_in(&mut self.client, self.alloc, landed, Ask::Verify(run, text))?;
         Ok(Told::plain(first))
     }
 
@@ -58,7 +59,7 @@ impl World {
         let Ok(first) = self.sent.settle() else {
             return Err(Fault::NoMemory);
         };
-        client_node::cut_in_delivery(&mut self.client, self.alloc, landed, frame)?;
+        client_node::cut_in(&mut self.client, self.alloc, landed, Ask::Deliver(frame))?;
         Ok(Told::plain(first))
     }
 }

@@ -1,8 +1,8 @@
-use Rattle.std.proofs.Common.{refl, sym, ◌∙◌, ap, ◌++◌, List, ℕ, length, append-nil, subst, Ok}
+use Rattle.std.proofs.Common.{refl, sym, ◌∙◌, ap, ◌++◌, List, ℕ, length, subst, Ok}
 use Rattle.std.proofs.lemmas.Result.{err_from_is_err_and}
 use Rattle.net_world.specs.Asks.{input_of}
 use Rattle.net_world.specs.ClientNodes.{Asks}
-use Rattle.net_world.specs.Sending.{sent_in}
+use Rattle.net_world.proofs.MetLemmas.{none_added}
 use Rattle.net_world.proofs.AskLemmas.{answered, unanswered}
 use Rattle.net_world.proofs.ServeLemmas.{settled}
 use Rattle.net_world.proofs.world.World.ask.Goals as goal
@@ -18,7 +18,7 @@ returns-in_err-asked c w past stands =
     (record {
       asks = λ o es h. c.in_err-asked.ensures o es h;
       moved = record {
-        sent_is = c.settle.ensures.same ∙ sym (append-nil (sent_in c.args.self.now.sent));
+        sent_is = none_added c.settle.ensures.same;
         servers_are = refl;
         files_are = refl;
         mirror_is = refl;

@@ -1,10 +1,10 @@
-use Rattle.std.proofs.Common.{refl, sym, ◌∙◌, ap, length, append-nil, List, ℕ}
+use Rattle.std.proofs.Common.{refl, sym, ◌∙◌, ap, length, List, ℕ}
 use Rattle.messages.specs.declared.node.Node.TheVariants.{Client}
 use Rattle.client_core.specs.Hearing as hearing
 use Rattle.net_world.specs.Trace.{client_opening}
 use Rattle.net_world.specs.Happenings.{Cut}
-use Rattle.net_world.specs.Sending.{sent_in}
 use Rattle.net_world.specs.Asking.{entries}
+use Rattle.net_world.proofs.AskLemmas.{nothing_sent}
 use Rattle.net_world.proofs.ServeLemmas.{settled}
 use Rattle.net_world.proofs.EndsLemmas.{refuses}
 use Rattle.net_world.proofs.ClientPlainLemmas.{plain_ends, cut_off, cut_plain}
@@ -21,7 +21,7 @@ returns-in_default c w past stands = (refl, settled w past c.args.self.now _ sta
 pub returns : goal.returns
 returns c w past stands =
     plain_ends w past (Cut Client) hearing.Cut c.in-Ok.first c.plain.result c.args.self.now _ stands
-    (record { sent_is = c.settle.ensures.same ∙ sym (append-nil (sent_in c.args.self.now.sent)); servers_are = refl; files_are = refl; mirror_is = refl })
+    (nothing_sent c.settle.ensures.same refl refl refl)
     (c.cut.ensures (client_opening w) (entries w past) stands.client_is)
     (cut_plain w past (sym (c.runs.ensures (client_opening w) (entries w past) stands.client_is) ∙ c.if-not-runs.false))
     refl

@@ -1,4 +1,4 @@
-use Rattle.std.proofs.Common.{refl, sym, ◌∙◌, ap, ◌<◌, arith, length, append-nil, List, ℕ}
+use Rattle.std.proofs.Common.{refl, sym, ◌∙◌, ap, ◌<◌, arith, length, List, ℕ}
 use Rattle.std.proofs.lemmas.Result.{err_from_is_err_and}
 use Rattle.std.proofs.lemmas.Bool.{ltb-true, ltb-false}
 use Rattle.messages.specs.declared.node.Node.TheVariants as nodes
@@ -6,8 +6,8 @@ use Rattle.server_core.specs.Hearing as hearing
 use Rattle.net_world.specs.Trace.{opening_of}
 use Rattle.net_world.specs.Happenings.{Restart, CutIn}
 use Rattle.net_world.specs.Outcomes.{lost_by}
-use Rattle.net_world.specs.Sending.{sent_in}
 use Rattle.net_world.specs.Serving.{entries}
+use Rattle.net_world.proofs.MetLemmas.{in_place, none_added}
 use Rattle.net_world.proofs.ServeLemmas.{node_at, settled}
 use Rattle.net_world.proofs.EndsLemmas.{refuses, stops}
 use Rattle.net_world.proofs.PlainLemmas.{plain_ends, none_on, may_restart}
@@ -32,16 +32,7 @@ returns c w past stands =
     let h = c.in_ok-cut_in_restart.ensures (opening_of s) (entries past s) refl (stands.servers_are s c.index_mut-node.result.now at) in
     plain_ends w past s (CutIn c.args.landed (Restart (nodes.Server s)))
     (hearing.Restart (lost_by c.args.landed)) c.cut_in_restart.new.node c.in-Ok.first c.plain.result c.args.self.now _ stands
-    (record {
-      there = l;
-      place = c.server.inside.0;
-      place_is = c.server.view_is;
-      set_is = refl;
-      sent_is = c.settle.ensures.same ∙ sym (append-nil (sent_in c.args.self.now.sent));
-      client_is = refl;
-      files_are = refl;
-      mirror_is = refl;
-    })
+    (in_place l c.server.view_is refl (none_added c.settle.ensures.same) refl refl refl)
     h.2
     (restart_cut_plain w past s c.args.landed (may_restart w past s below h.0) h.1)
     (c.in-Ok.ensures.first ∙ ap (λ (fs : List (List ℕ)). length fs) c.settle.ensures.same)
@@ -55,15 +46,6 @@ returns-in_err-cut_in_restart c w past stands =
     let p = err_from_is_err_and c.from_residual.result c.from_residual.ensures.1 in
     rw (p.1, p.2)
     (restart_cut_ends w past s c.args.landed c.cut_in_restart.new.node c.in_err-cut_in_restart.field-0.0 c.args.self.now _ stands
-    (record {
-      there = l;
-      place = c.server.inside.0;
-      place_is = c.server.view_is;
-      set_is = refl;
-      sent_is = c.settle.ensures.same ∙ sym (append-nil (sent_in c.args.self.now.sent));
-      client_is = refl;
-      files_are = refl;
-      mirror_is = refl;
-    })
+    (in_place l c.server.view_is refl (none_added c.settle.ensures.same) refl refl refl)
     (omega (arith, stands.number, l))
     (c.in_err-cut_in_restart.ensures (opening_of s) (entries past s) refl (stands.servers_are s c.index_mut-node.result.now at)))

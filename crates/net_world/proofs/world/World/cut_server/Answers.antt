@@ -1,11 +1,11 @@
-use Rattle.std.proofs.Common.{refl, sym, ◌∙◌, ap, arith, length, append-nil, List, ℕ}
+use Rattle.std.proofs.Common.{refl, sym, ◌∙◌, ap, arith, length, List, ℕ}
 use Rattle.std.proofs.lemmas.Bool.{ltb-true, ltb-false}
 use Rattle.net_world.specs.Trace.{opening_of}
 use Rattle.net_world.specs.Happenings.{Cut}
-use Rattle.net_world.specs.Sending.{sent_in}
 use Rattle.net_world.specs.Serving.{entries}
 use Rattle.server_core.specs.Hearing as hearing
 use Rattle.messages.specs.declared.node.Node.TheVariants as nodes
+use Rattle.net_world.proofs.MetLemmas.{in_place, none_added}
 use Rattle.net_world.proofs.ServeLemmas.{node_at, none_there, is_off, is_there, settled}
 use Rattle.net_world.proofs.EndsLemmas.{refuses, stops}
 use Rattle.net_world.proofs.PlainLemmas.{plain_ends, cut_plain}
@@ -37,16 +37,7 @@ returns c w past stands =
     let up = c.runs.ensures (opening_of s) (entries past s) (stands.servers_are s c.index.result.now at) in
     let again = node_at c.args.self.now.servers.items s c.server.inside.0 c.index_mut.result.now c.server.view_is l c.index_mut.ensures.value in
     plain_ends w past s (Cut (nodes.Server s)) hearing.Cut c.cut.new.node c.in-Ok.first c.plain.result c.args.self.now _ stands
-    (record {
-      there = l;
-      place = c.server.inside.0;
-      place_is = c.server.view_is;
-      set_is = refl;
-      sent_is = c.settle.ensures.same ∙ sym (append-nil (sent_in c.args.self.now.sent));
-      client_is = refl;
-      files_are = refl;
-      mirror_is = refl;
-    })
+    (in_place l c.server.view_is refl (none_added c.settle.ensures.same) refl refl refl)
     (c.cut.ensures (opening_of s) (entries past s) (stands.servers_are s c.index_mut.result.now again))
     (cut_plain w past s (is_there w past s (omega (arith, stands.number, l)) (sym up ∙ c.if-not-runs.false)))
     (c.in-Ok.ensures.first ∙ ap (λ (fs : List (List ℕ)). length fs) c.settle.ensures.same)

@@ -1,10 +1,10 @@
-use Rattle.std.proofs.Common.{◌∙◌, ap, ◌++◌, length, List, ℕ, refl, sym, append-nil}
+use Rattle.std.proofs.Common.{◌∙◌, ap, ◌++◌, length, List, ℕ, refl}
 use Rattle.std.proofs.lemmas.Result.{err_from_is_err_and}
 use Rattle.net_world.specs.Trace.{mirror_opening}
 use Rattle.net_world.specs.Frames.{of_mirror}
 use Rattle.net_world.specs.Changes.{steps}
-use Rattle.net_world.specs.Sending.{sent_in}
-use Rattle.net_world.proofs.MirrorEndsLemmas.{there, is_had, heard_ends, unheard_ends}
+use Rattle.net_world.proofs.MetLemmas.{none_added}
+use Rattle.net_world.proofs.MirrorEndsLemmas.{there, heard_ends, unheard_ends, still_there}
 use Rattle.net_world.proofs.world.World.deliver_to_mirror.Goals as goal
 
 pub returns : goal.returns
@@ -29,14 +29,6 @@ returns-in_err-frames c w past number stands is goes =
     let p = err_from_is_err_and c.from_residual.result c.from_residual.ensures.1 in
     rw (p.1, p.2)
     (unheard_ends w past number c.args.frame.now c.deliver.new.node c.in_err-frames.field-0.0 c.args.self.now _ stands
-    (record {
-      has = is_had _ c.args.self.now c.in-Some.is;
-      node_is = refl;
-      greatest_is = refl;
-      sent_is = c.settle.ensures.same ∙ sym (append-nil (sent_in c.args.self.now.sent));
-      servers_are = refl;
-      client_is = refl;
-      files_are = refl;
-    })
+    (still_there c.in-Some.is refl refl (none_added c.settle.ensures.same) refl refl refl)
     (record { is_sent = is; goes_to = goes })
     (c.in_err-frames.ensures mirror_opening (of_mirror (steps past)) (there w past c.args.self.now.mirror.node _ c.in-Some.is stands.mirror_is).1))

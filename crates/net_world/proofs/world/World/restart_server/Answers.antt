@@ -1,13 +1,13 @@
-use Rattle.std.proofs.Common.{refl, sym, ◌∙◌, ap, ◌<◌, arith, length, append-nil, List, ℕ}
+use Rattle.std.proofs.Common.{refl, sym, ◌∙◌, ap, ◌<◌, arith, length, List, ℕ}
 use Rattle.std.proofs.lemmas.Result.{err_from_is_err_and}
 use Rattle.std.proofs.lemmas.Bool.{ltb-true, ltb-false}
 use Rattle.net_world.specs.Trace.{opening_of}
 use Rattle.net_world.specs.Happenings.{Restart}
-use Rattle.net_world.specs.Sending.{sent_in}
 use Rattle.net_world.specs.Serving.{entries}
 use Rattle.server_core.specs.Hearing as hearing
 use Rattle.disk_model.specs.declared.left.Left.TheVariants.{Saved}
 use Rattle.messages.specs.declared.node.Node.TheVariants as nodes
+use Rattle.net_world.proofs.MetLemmas.{in_place, none_added}
 use Rattle.net_world.proofs.ServeLemmas.{node_at, settled}
 use Rattle.net_world.proofs.EndsLemmas.{refuses, stops}
 use Rattle.net_world.proofs.PlainLemmas.{plain_ends, restart_plain, restart_ends, none_on, may_restart}
@@ -30,16 +30,7 @@ returns c w past stands =
     let at = node_at c.args.self.now.servers.items s c.server.inside.0 c.index_mut.result.now c.server.view_is l c.index_mut.ensures.value in
     let h = c.in_ok-restart.ensures (opening_of s) (entries past s) refl (stands.servers_are s c.index_mut.result.now at) in
     plain_ends w past s (Restart (nodes.Server s)) (hearing.Restart Saved) c.restart.new.node c.in-Ok.first c.plain.result c.args.self.now _ stands
-    (record {
-      there = l;
-      place = c.server.inside.0;
-      place_is = c.server.view_is;
-      set_is = refl;
-      sent_is = c.settle.ensures.same ∙ sym (append-nil (sent_in c.args.self.now.sent));
-      client_is = refl;
-      files_are = refl;
-      mirror_is = refl;
-    })
+    (in_place l c.server.view_is refl (none_added c.settle.ensures.same) refl refl refl)
     h.2
     (restart_plain w past s (may_restart w past s below h.0) h.1)
     (c.in-Ok.ensures.first ∙ ap (λ (fs : List (List ℕ)). length fs) c.settle.ensures.same)
@@ -53,15 +44,6 @@ returns-in_err-restart c w past stands =
     let p = err_from_is_err_and c.from_residual.result c.from_residual.ensures.1 in
     rw (p.1, p.2)
     (restart_ends w past s c.restart.new.node c.in_err-restart.field-0.0 c.args.self.now _ stands
-    (record {
-      there = l;
-      place = c.server.inside.0;
-      place_is = c.server.view_is;
-      set_is = refl;
-      sent_is = c.settle.ensures.same ∙ sym (append-nil (sent_in c.args.self.now.sent));
-      client_is = refl;
-      files_are = refl;
-      mirror_is = refl;
-    })
+    (in_place l c.server.view_is refl (none_added c.settle.ensures.same) refl refl refl)
     (omega (arith, stands.number, l))
     (c.in_err-restart.ensures (opening_of s) (entries past s) refl (stands.servers_are s c.index_mut.result.now at)))

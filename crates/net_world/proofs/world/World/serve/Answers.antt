@@ -1,12 +1,11 @@
-use Rattle.std.proofs.Common.{refl, sym, ◌∙◌, ap, ℕ, List, ◌++◌, length, append-nil, Ok, Err}
+use Rattle.std.proofs.Common.{refl, sym, ◌∙◌, ap, ℕ, List, ◌++◌, length, Ok, Err}
 use Rattle.std.proofs.lemmas.Bool.{ltb-true}
 use Rattle.std.proofs.lemmas.Result.{err_from_is_err_and}
 use Rattle.node.specs.declared.power.Power.TheVariants.{On}
-use Rattle.net_world.specs.Sending.{sent_in}
 use Rattle.net_world.specs.ServerNodes.{server_nodes}
 use Rattle.net_world.proofs.NodeLemmas.{lent_ends, none_lent}
 use Rattle.net_world.proofs.ServerNodeLemmas.{laws}
-use Rattle.net_world.proofs.MetLemmas.{in_place}
+use Rattle.net_world.proofs.MetLemmas.{in_place, none_added}
 use Rattle.net_world.proofs.ServeLemmas.{serve_ends, serve_fails, none_serves, lacks, node_at}
 use Rattle.net_world.proofs.world.World.serve.Goals as goal
 
@@ -30,7 +29,7 @@ returns-in_err-self c w past stands =
       node = was;
       was_is = node_at c.args.self.now.servers.items c.args.server c.server.inside.0 was c.server.view_is l c.index_mut.ensures.value;
       stepped = λ o es h. none_lent (server_nodes o) es c.args.input fault was h (c.in_err-self.ensures.lent o es);
-      moved = in_place l c.server.view_is refl (c.settle.ensures.same ∙ sym (append-nil (sent_in c.args.self.now.sent))) refl refl refl;
+      moved = in_place l c.server.view_is refl (none_added c.settle.ensures.same) refl refl refl;
     }))
 
 pub returns-in_err-outs : goal.returns-in_err-outs
@@ -46,7 +45,7 @@ returns-in_err-outs c w past stands =
       was_is = node_at c.args.self.now.servers.items c.args.server c.server.inside.0 was c.server.view_is l c.index_mut.ensures.value;
       stepped = λ o es h. lent_ends (server_nodes o) (laws o) es c.args.input was c.in_ok-self.field-0.now c.step.new.self (Err fault) h
           (c.in_ok-self.ensures.lent o es) (c.in_err-outs.ensures.ends o es);
-      moved = in_place l c.server.view_is refl (c.settle.ensures.same ∙ sym (append-nil (sent_in c.args.self.now.sent))) refl refl refl;
+      moved = in_place l c.server.view_is refl (none_added c.settle.ensures.same) refl refl refl;
     }))
 
 pub returns : goal.returns

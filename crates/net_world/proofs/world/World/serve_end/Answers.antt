@@ -1,14 +1,13 @@
-use Rattle.std.proofs.Common.{refl, sym, ◌∙◌, ap, ℕ, List, [], length, append-nil, Ok, Err}
+use Rattle.std.proofs.Common.{refl, sym, ◌∙◌, ap, ℕ, List, [], length, Ok, Err}
 use Rattle.std.proofs.lemmas.Bool.{ltb-true}
 use Rattle.std.proofs.lemmas.Result.{err_from_is_err_and}
 use Rattle.node.specs.declared.power.Power.TheVariants.{On}
 use Rattle.server_core.specs.declared.input.Input.TheVariants.{WriteDone}
 use Rattle.server_core.specs.Handles.{sent_alone}
-use Rattle.net_world.specs.Sending.{sent_in}
 use Rattle.net_world.specs.ServerNodes.{server_nodes}
 use Rattle.net_world.proofs.NodeLemmas.{lent_ends, none_lent}
 use Rattle.net_world.proofs.ServerNodeLemmas.{laws}
-use Rattle.net_world.proofs.MetLemmas.{in_place}
+use Rattle.net_world.proofs.MetLemmas.{in_place, none_added}
 use Rattle.net_world.proofs.ServeLemmas.{serve_ends, serve_fails, none_serves, lacks, node_at}
 use Rattle.net_world.proofs.world.World.serve_end.Goals as goal
 
@@ -33,7 +32,7 @@ returns-in_err-self c w past stands =
       node = was;
       was_is = node_at c.args.self.now.servers.items c.args.server c.server.inside.0 was c.server.view_is l c.index_mut.ensures.value;
       stepped = λ o es h. none_lent (server_nodes o) es e fault was h (c.in_err-self.ensures.lent o es);
-      moved = in_place l c.server.view_is refl (c.settle.ensures.same ∙ sym (append-nil (sent_in c.args.self.now.sent))) refl refl refl;
+      moved = in_place l c.server.view_is refl (none_added c.settle.ensures.same) refl refl refl;
     }))
 
 pub returns-in_err-end_write : goal.returns-in_err-end_write
@@ -50,7 +49,7 @@ returns-in_err-end_write c w past stands =
       was_is = node_at c.args.self.now.servers.items c.args.server c.server.inside.0 was c.server.view_is l c.index_mut.ensures.value;
       stepped = λ o es h. lent_ends (server_nodes o) (laws o) es e was c.in_ok-self.field-0.now c.end_write.new.self (Err fault) h
           (c.in_ok-self.ensures.lent o es) (c.in_err-end_write.ensures.ends o es);
-      moved = in_place l c.server.view_is refl (c.settle.ensures.same ∙ sym (append-nil (sent_in c.args.self.now.sent))) refl refl refl;
+      moved = in_place l c.server.view_is refl (none_added c.settle.ensures.same) refl refl refl;
     }))
 
 pub returns : goal.returns
@@ -65,7 +64,7 @@ returns c w past stands =
       was_is = node_at c.args.self.now.servers.items c.args.server c.server.inside.0 was c.server.view_is l c.index_mut.ensures.value;
       stepped = λ o es h. lent_ends (server_nodes o) (laws o) es e was c.in_ok-self.field-0.now c.end_write.new.self (Ok (sent_alone [])) h
           (c.in_ok-self.ensures.lent o es) (c.in_ok-end_write.ensures.ends o es);
-      moved = in_place l c.server.view_is refl (c.settle.ensures.same ∙ sym (append-nil (sent_in c.args.self.now.sent))) refl refl refl;
+      moved = in_place l c.server.view_is refl (none_added c.settle.ensures.same) refl refl refl;
     })
     (record {
       first = c.in-Ok.ensures.first ∙ ap (λ (fs : List (List ℕ)). length fs) c.settle.ensures.same;
