@@ -1,4 +1,4 @@
-mod PlaceLemmas
+mod EntryLemmas
 mod ReadingLemmas
 mod TableLemmas
 pub mod CountedLemmas

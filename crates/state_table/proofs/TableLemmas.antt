@@ -113,23 +113,3 @@ distinct_push (k ∷ kept) s e h =
     let other : is_same_key k.key s.key ≡ false = turned k.key s.key ∙ p.0 in
     let gone : kept_of k.key (kept ++ s ∷ []) ≡ None = still_absent k.key kept s other (none_of (kept_of k.key kept) q.0) in
     rw gone (distinct_push kept s p.1 q.1)
-
--- what stands in front of others keeps its keys apart
-front_absent : (key : Key) (kept extra : List State) → kept_of key (kept ++ extra) ≡ None → kept_of key kept ≡ None
-front_absent key [] extra h = refl
-front_absent key (k ∷ kept) extra h =
-    let p = not_here (is_same_key key k.key) k (kept_of key (kept ++ extra)) h in
-    let n : is_same_key key k.key ≡ false = p.0 in
-    rw n (front_absent key kept extra p.1)
-
-is_absent : (x : Option State) → x ≡ None → is_none x ≡ true
-is_absent None h = refl
-is_absent (Some s) h = cc
-
-pub distinct_front : (kept extra : List State) → has_distinct_keys (kept ++ extra) ≡ true → has_distinct_keys kept ≡ true
-distinct_front [] extra h = refl
-distinct_front (k ∷ kept) extra h =
-    let p = and_parts (is_none (kept_of k.key (kept ++ extra))) (has_distinct_keys (kept ++ extra)) h in
-    let n : is_none (kept_of k.key kept) ≡ true =
-    is_absent (kept_of k.key kept) (front_absent k.key kept extra (none_of (kept_of k.key (kept ++ extra)) p.0)) in
-    rw n (distinct_front kept extra p.1)

@@ -5,8 +5,8 @@ ghost use Rattle.std.specs.Option.{option_copied, option_to_list};
 ghost use Rattle.state_table.specs.Kept.{kept_of, has_distinct_keys};
 
 use fc_base::Key;
+use indexmap::IndexMap;
 use std::alloc::{AllocError, Global};
-use std::collections::HashMap;
 use std::marker::Model;
 use verify_state::VerifyState;
 
@@ -15,33 +15,26 @@ pub const KEPT_LIMIT: usize = 1024;
 
 /// The kept states, in the order in which they came: at most one of each key, and at most 1,024.
 pub struct Kept {
-    states: Vec<VerifyState>,
-    /// The place of each state, by its key.
-    places: HashMap<Key, usize>,
+    by_key: IndexMap<Key, VerifyState>,
 }
 
 /// By hand, so that the crates above need no proof of it.
 impl Drop for Kept {
     fn drop(self) {
-        let Kept {
-            states: _,
-            places: _,
-        } = self;
+        let Kept { by_key: _ } = self;
     }
 }
 
 impl Model for Kept {
-    ghost use Rattle.std.specs.Prelude.{List};
-    ghost use Rattle.std.specs.HashMap.{get};
-    ghost use Rattle.fc_base.specs.Keys.{is_same_key};
+    ghost use Rattle.std.specs.Prelude.{List, map};
     ghost use Rattle.verify_state.specs.State.{State};
     ghost use Rattle.state_table.specs.Table.{IsTable};
 
     ghost Value = { List State };
 
-    ghost view = { λ k. k.states.items };
+    ghost view = { λ k. map (λ e. e.1) k.by_key.entries };
 
-    ghost invariant = { λ k. IsTable k.states.items (get is_same_key k.places) };
+    ghost invariant = { λ k. IsTable k.by_key.entries };
 }
 
 impl Kept {
@@ -50,8 +43,7 @@ impl Kept {
         ensures { result ≡ [] }
     {
         Kept {
-            states: Vec::new(alloc),
-            places: HashMap::new(alloc),
+            by_key: IndexMap::new(alloc),
         }
     }
 
@@ -60,31 +52,28 @@ impl Kept {
         ensures len { result ≡ length self.now }
         ensures few { result ≤ KEPT_LIMIT }
     {
-        self.states.len()
+        self.by_key.len()
     }
 
     /// The states, in their order.
     pub fn as_slice(&self) -> &[VerifyState]
         ensures { result.now ≡ self.now }
     {
-        &self.states
+        self.by_key.values().as_slice()
     }
 
     /// The state of a key.
     pub fn get(&self, key: Key) -> Option<&VerifyState>
         ensures { option_copied result ≡ kept_of key self.now }
     {
-        match self.places.get(&key) {
-            Some(place) => Some(&self.states[*place]),
-            None => None,
-        }
+        self.by_key.get(&key)
     }
 
     /// Whether a state of this key is kept.
     pub fn has(&self, key: Key) -> bool
         ensures { result ≡ is_some (kept_of key self.now) }
     {
-        self.places.contains_key(&key)
+        self.by_key.contains_key(&key)
     }
 
     /// Adds a state of another key than all others. Where memory runs out nothing changes.
@@ -94,15 +83,8 @@ impl Kept {
         ensures pushed { OnOk result (self.new ≡ self.old ++ state ∷ []) }
         ensures same { OnErr result (self.new ≡ self.old) }
     {
-        let place = self.states.len();
-        self.states.push(state)?;
-        match self.places.insert(state.key(), place) {
-            Ok(_) => Ok(()),
-            Err(_) => {
-                let _ = self.states.pop();
-                Err(AllocError)
-            }
-        }
+        self.by_key.insert(state.key(), state)?;
+        Ok(())
     }
 
     /// Takes out the state that came last, if there is one.
@@ -110,15 +92,13 @@ impl Kept {
         ensures last { self.old ≡ self.new ++ option_to_list result }
         ensures none { IfNone result (self.old ≡ []) }
     {
-        let state = self.states.pop()?;
-        let _ = self.places.remove(&state.key());
-        Some(state)
+        Some(self.by_key.pop()?.1)
     }
 
     /// No two states are of one key. Nothing runs: this is for proofs.
     pub fn keeps_keys_apart(&self)
         ensures { IsTrue (has_distinct_keys self.now) }
     {
-        let _states = self.states.len();
+        let _states = self.by_key.len();
     }
 }
