@@ -4,15 +4,14 @@ import os
 import shutil
 import subprocess
 
-from trying import QUIET, TARGET, check, job, report, run, tell, write
+from trying import QUIET, TARGET, check, job, report, run, skip, tell, write
 
 
 def no_dev_fd():
     """A root whose /dev has nothing but /dev/null, as that of a small virtual machine."""
     apart = ["unshare", "-m", "-r", "sh", "-c", 'mount -t tmpfs none /dev && : >/dev/null && [ ! -e /dev/fd ] && exec "$@"', "sh"]
     if subprocess.run([*apart, "true"], **QUIET).returncode != 0:
-        print("not tried, since this machine gives no namespace: a root without /dev/fd")
-        return
+        return skip("namespace", "a root without /dev/fd: this machine gives no namespace")
     for words in (["write", "two.fio", "apart", "as"], ["check", "two.fio", "apart", "as"]):
         ran = subprocess.run([*apart, TARGET, *words], capture_output=True, text=True)
         tell(f"{words[0]} without /dev/fd", (ran.returncode, ran.stdout == report([])), (0, words[0] == "check"))
@@ -22,8 +21,8 @@ def mounts():
     """A device that is mounted or too short, and a file system that is full, where this machine
     lets that be tried."""
     if os.geteuid() != 0:
-        print("not tried, for want of root: devices")
-        return
+        skip("mounts", "a file system that is full: for want of root")
+        return skip("loop device", "devices: for want of root")
     os.makedirs("small", exist_ok=True)
     if subprocess.run(["mount", "-t", "tmpfs", "-o", "size=64k", "none", "small"], **QUIET).returncode == 0:
         try:
@@ -34,7 +33,7 @@ def mounts():
         finally:
             subprocess.run(["umount", "small"])
     else:
-        print("not tried: this machine mounts nothing")
+        skip("mounts", "a file system that is full: this machine mounts nothing")
     devices()
 
 
@@ -64,8 +63,7 @@ def devices():
     write("disk", bytes(1 << 20))
     device = subprocess.run(["losetup", "-f", "--show", "disk"], capture_output=True, text=True).stdout.strip()
     if not device:
-        print("not tried: this machine gives no loop device")
-        return
+        return skip("loop device", "devices: this machine gives none")
     try:
         tell("a device", run("write", "two.fio", device, "ds", "--torn")[0], 0)
         check("the check of a device", "two.fio", device, "ds", [])
@@ -74,13 +72,21 @@ def devices():
         job("large.fio", blocks=512)
         status, _, said = run("write", "large.fio", device, "ds", "--torn")
         tell("a device that is too short", (status, "shorter than the job's region" in said), (2, True))
-        if shutil.which("mkfs.ext4") and subprocess.run(["mkfs.ext4", "-qF", device], stderr=subprocess.DEVNULL).returncode == 0:
-            status, _, said = run("write", "two.fio", device, "ds", "--torn")
-            tell("a file system", (status, "--yes writes over them" in said), (2, True))
-            os.makedirs("mounted", exist_ok=True)
-            if subprocess.run(["mount", device, "mounted"], stderr=subprocess.DEVNULL).returncode == 0:
-                status, _, said = run("write", "two.fio", device, "ds", "--torn", "--yes")
-                tell("a mounted one, with --yes", (status, "mounted, or in use" in said), (2, True))
-                subprocess.run(["umount", "mounted"])
+        with_a_file_system(device)
     finally:
         subprocess.run(["losetup", "-d", device])
+
+
+def with_a_file_system(device):
+    """A device with a file system, which may be mounted."""
+    if not shutil.which("mkfs.ext4"):
+        return skip("mkfs.ext4", "a device with a file system")
+    tell("a file system is made", subprocess.run(["mkfs.ext4", "-qF", device], stderr=subprocess.DEVNULL).returncode, 0)
+    status, _, said = run("write", "two.fio", device, "ds", "--torn")
+    tell("a file system", (status, "--yes writes over them" in said), (2, True))
+    os.makedirs("mounted", exist_ok=True)
+    if subprocess.run(["mount", device, "mounted"], stderr=subprocess.DEVNULL).returncode != 0:
+        return skip("mounts", "a device that is mounted: this machine mounts nothing")
+    status, _, said = run("write", "two.fio", device, "ds", "--torn", "--yes")
+    tell("a mounted one, with --yes", (status, "mounted, or in use" in said), (2, True))
+    subprocess.run(["umount", "mounted"])

@@ -13,7 +13,7 @@ import threading
 from fleets import written
 from hosts import Hosts
 from serving import FLEET, SERVER, TOP, Servers, earliest, fleet, job_file, reports
-from trying import BLOCK, LIAR, QUIET, read, run, tell, write
+from trying import BLOCK, LIAR, QUIET, read, run, skip, tell, write
 
 BAD_LINK = f"{TOP}/tools/bad-link"
 
@@ -56,8 +56,7 @@ def over_tcp():
     """Connections are killed, and end in the middle of a frame: nothing but frames is lost by it, and
     no part of one goes to the next connection."""
     if not shutil.which("socat"):
-        print("over_tcp: skipped: there is no socat")
-        return
+        return skip("socat", "over_tcp: there is no socat")
     job_file("tcp.fio", jobs=2, blocks=128, writes=100_000)
     servers = Servers("tcp", 3)
     listening = Listening(servers)
@@ -112,13 +111,12 @@ def on_hosts():
     """Four hosts, whose wires lose one packet in ten: one target loses writes, and just these are
     faults."""
     if not (shutil.which("socat") and shutil.which("ip")):
-        print("on_hosts: skipped: it wants socat and ip")
-        return
+        return skip("hosts", "on_hosts: it wants socat and ip")
     hosts = Hosts(4, 0.1)
     if hosts.is_up:
         lies_on_hosts(hosts)
     else:
-        print("on_hosts: skipped: there can be no network namespaces, or no /dev/net/tun")
+        skip("hosts", "on_hosts: there can be no network namespaces, or no /dev/net/tun")
     hosts.close()
 
 

@@ -10,7 +10,7 @@ OUT = f"{os.path.dirname(HERE)}/out"
 TARGET, AGENT, WITNESS, LIAR = (f"{OUT}/{it}" for it in ("drive-target", "drive-agent", "drive-witness", "liar.so"))
 BLOCK = 4096
 QUIET = {"stdout": subprocess.DEVNULL, "stderr": subprocess.DEVNULL}
-counts = {"passed": 0, "failed": 0}
+counts = {"passed": 0, "failed": 0, "skipped": 0}
 # How many times as often as the gate has it nodes are killed.
 as_often = {"killed": 1}
 
@@ -20,6 +20,12 @@ def tell(what, got, due):
     counts["passed" if got == due else "failed"] += 1
     if got != due:
         print(f"FAILED: {what}: {got!r}, and not {due!r}", flush=True)
+
+
+def skip(word, why):
+    """Counts what can't be tried on this machine, by its word in tools/skips.py, and says why."""
+    counts["skipped"] += 1
+    print(f"SKIPPED: {word}: {why}", flush=True)
 
 
 def tell_has(what, text, part):
