@@ -2,7 +2,7 @@
 import os
 import shutil
 
-from trying import BLOCK, LIAR, check, job, put, read, report, run, run_of, stamp, tell, tell_has, write
+from trying import BLOCK, LIAR, check, job, put, read, report, run, run_of, stamp, tell, tell_has, whole_run, write
 
 
 def harmed(what, change, faults):
@@ -15,7 +15,6 @@ def harmed(what, change, faults):
 
 def whole_runs():
     """Whole runs, and each kind of damage."""
-    job("two.fio", writes=128)
     status, printed, _ = run("write", "two.fio", "t", "s")
     tell("a whole run", (status, printed), (0, f"run {run_of('s')}: 128 writes were done\n"))
     check("the check of a whole run", "two.fio", "t", "s", [])
@@ -58,6 +57,7 @@ def lies():
 
 def unreadable():
     """One block that can't be read."""
+    whole_run()
     env = {"LD_PRELOAD": LIAR, "LIE_TARGET": "/t", "LIE_UNREADABLE": str(37 * BLOCK + 100)}
     status, printed, said = run("check", "two.fio", "t", "s", env=env)
     tell("a block that can't be read", (status, printed), (2, report([], 37, "read 37")))

@@ -6,7 +6,7 @@ import signal
 import subprocess
 import time
 
-from trying import LIAR, QUIET, TARGET, await_file, job, read, run, tell, tell_has, write
+from trying import HANG, LIAR, QUIET, TARGET, await_file, job, read, run, tell, tell_has, write
 
 
 def failures():
@@ -45,7 +45,7 @@ def held_back():
         time.sleep(0.2)
         tell(f"writes at the target with --queue {queue}", len(read("log").splitlines()), due)
         ran.terminate()
-        tell(f"SIGTERM with --queue {queue}: the status", ended(ran, 20), 0)
+        tell(f"SIGTERM with --queue {queue}: the status", ended(ran, HANG), 0)
 
 
 def stalled(options):
@@ -57,7 +57,7 @@ def stalled(options):
         if not words:
             time.sleep(1)
             ran.terminate()
-        tell(f"a write that never comes back, and {what}: the status", ended(ran, 20), 0)
+        tell(f"a write that never comes back, and {what}: the status", ended(ran, HANG), 0)
         _, printed, _ = run("check", "fail.fio", "failing", "fs")
         tell_has(f"a write that never comes back, and {what}: the check", printed, "faults 0 end whole first -")
     tell("the power was cut while it was out", os.path.exists("cut-at-once"), True)
@@ -77,7 +77,6 @@ def ended(ran, seconds):
 def kills():
     """Who writes is killed at random moments, and the check has no false fault. In memory a job lasts
     as long by so many more writes."""
-    job("long.fio", blocks=4096, writes=8192)
     job("deep.fio", blocks=4096, writes=1_000_000, depth=32)
     killed_writers("long.fio", 50)
     killed_writers("deep.fio", 30, "--cached")
@@ -119,7 +118,7 @@ def threads():
             time.sleep(0.002)
         tell(f"how many threads there are, {options}", len(os.listdir(f"/proc/{ran.pid}/task")), due)
         ran.terminate()
-        tell(f"SIGTERM, {options}: the status", ended(ran, 20), 0)
+        tell(f"SIGTERM, {options}: the status", ended(ran, HANG), 0)
         _, printed, _ = run("check", "deep.fio", "killed", "ks")
         tell_has(f"SIGTERM, {options}: the check", printed, "faults 0 end whole first -")
 
@@ -144,5 +143,5 @@ def killed_drive():
     tell("on one processor", [processors(it) for it in (ran.pid, *children)], [{"0"}, {"0"}])
     for it in children:
         os.kill(int(it), signal.SIGKILL)
-    _, said = ran.communicate(timeout=30)
+    _, said = ran.communicate(timeout=HANG)
     tell("drive is killed", (ran.returncode, "it was killed, and there is no state" in said, os.path.exists("as")), (2, True, False))

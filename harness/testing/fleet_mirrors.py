@@ -10,7 +10,7 @@ import sys
 import time
 
 from serving import FLEET, TOP, Servers, earliest, fleet, job_file, reports
-from trying import BLOCK, QUIET, as_often, read, tell, tell_has, write
+from trying import BLOCK, HANG, QUIET, as_often, read, tell, tell_has, write
 
 BAD_LINK = f"exec {shlex.quote(f'{TOP}/tools/bad-link')}"
 
@@ -107,9 +107,9 @@ def taken_places():
     while not os.path.exists("place.kept.place") and time.monotonic() < until:
         time.sleep(0.01)
     second = subprocess.Popen([FLEET, "mirror", "--note", "place.kept"], **words)
-    tell("who was there before has ended", first.wait(5), 0)
+    tell("who was there before has ended", first.wait(HANG), 0)
     second.stdin.close()
-    tell("and who took its place ends with its link", second.wait(5), 0)
+    tell("and who took its place ends with its link", second.wait(HANG), 0)
     job_file("place.fio", jobs=1, blocks=64, writes=512)
     servers, kept = Servers("place", 1, jobs=1), mirror("place.kept")
     for note in ("early.note", "late.note"):
@@ -141,5 +141,5 @@ def ended_lives():
     """A client whose node is busy saving ends its life: behind that nothing is saved any more, so that
     the next life finds all that was."""
     ways = {**os.environ, "NODE": f"{TOP}/harness/testing/saving_node.py", "PYTHONPATH": f"{TOP}/harness/client", "PYTHONDONTWRITEBYTECODE": "1"}
-    ran = subprocess.run([sys.executable, "-c", LIVES], env=ways, capture_output=True, text=True, timeout=100)
+    ran = subprocess.run([sys.executable, "-c", LIVES], env=ways, capture_output=True, text=True, timeout=HANG)
     tell("no life saves behind its end", (ran.returncode, ran.stdout, ran.stderr), (0, "True\nTrue\n", ""))

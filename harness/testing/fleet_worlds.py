@@ -14,7 +14,7 @@ import threading
 import time
 
 from serving import SERVER, TOP, Servers
-from trying import HERE, LIAR, read, tell, write
+from trying import HANG, HERE, LIAR, read, tell, write
 
 sys.path.insert(0, f"{TOP}/harness/client")
 
@@ -71,7 +71,7 @@ class Story:
     def play(self, reading):
         fleet = client.Fleet("world.note", [self.link])
         stories.write(fleet, "world.fio", stories.Trigger(writes=2), wait=10, acts=True)
-        self.servers.running[0].wait(10)
+        self.servers.running[0].wait(HANG)
         self.servers.start(0, options=["--cached"])
         self.await_link(fleet)
         texts.reading = lambda _: reading

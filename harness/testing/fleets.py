@@ -12,7 +12,7 @@ import subprocess
 import time
 
 from serving import FLEET, SERVER, TOP, Servers, earliest, fleet, fleet_until, job_file, reports
-from trying import BLOCK, LIAR, QUIET, as_often, read, run, tell, tell_has, write
+from trying import BLOCK, HANG, LIAR, QUIET, as_often, read, run, tell, tell_has, write
 
 
 def whole_story():
@@ -192,7 +192,7 @@ def full_server_disk():
     servers = Servers("note", 1, jobs=1)
     os.mkdir("note-0.note.new")
     status, _, said = fleet("write", "note.fio", "--note", "c.note", "--after", "0.1", "--wait", "2", *servers.links())
-    tell("the run isn't begun", (status, re.findall(r"is begun: (.*)", said), servers.running[0].wait(10)), (2, ["server 0 no answer"], 2))
+    tell("the run isn't begun", (status, re.findall(r"is begun: (.*)", said), servers.running[0].wait(HANG)), (2, ["server 0 no answer"], 2))
     os.rmdir("note-0.note.new")
     servers.start(0)
     tell("and then it is", fleet("write", "note.fio", "--note", "c.note", "--after", "0.5", *servers.links())[0], 0)

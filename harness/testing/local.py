@@ -6,7 +6,7 @@ import shlex
 import subprocess
 import time
 
-from trying import LIAR, QUIET, WITNESS, await_file, read, report, run_of, tell, tell_has, write
+from trying import HANG, LIAR, QUIET, WITNESS, await_file, read, report, run_of, tell, tell_has, write
 from witness import PASS_ON, endless, faults_by, kill_agent, link, put_earlier_state, witness
 
 # What a hello and a welcome take of a link, and each notice.
@@ -34,7 +34,7 @@ def local_runs():
 
 def checked(what, words, job_file, state, target):
     """A run that is cut, and its check, which finds no fault."""
-    printed, _ = words.communicate(timeout=60)
+    printed, _ = words.communicate(timeout=HANG)
     tell(f"{what}: the cut is told", bool(re.search(r"\d+ told, \d+ in flight at the cut", printed)), True)
     status, printed, _ = witness("check", job_file, state, *link(target))
     tell(what, (status in (0, 3), "faults 0 end whole first -" in printed), (True, True))
@@ -87,7 +87,7 @@ def local_caches():
         await_file("log")
         time.sleep(0.4)
         kill_agent()
-        tell(f"a lying cache, turn {turn}", ran.wait(30), 0)
+        tell(f"a lying cache, turn {turn}", ran.wait(HANG), 0)
         due = faults_by(read("log"), read("ls"), read("lc"), 512)
         status, printed, _ = witness("check", "cache.fio", "ls", *link("lc"))
         tell(f"a lying cache, turn {turn}: {len(due)} faults", (status, printed), (1, report(due, int(printed.split()[2]))))

@@ -4,7 +4,7 @@ import os
 import pty
 import subprocess
 
-from trying import BLOCK, LIAR, TARGET, job, put, read, report, run, run_of, stamp, tell, tell_has, write
+from trying import BLOCK, HANG, LIAR, TARGET, job, put, read, report, run, run_of, stamp, tell, tell_has, write
 from witness import counted, link, witness
 
 
@@ -93,7 +93,7 @@ def pictures(due):
     """On a terminal a picture of the region stands before the lines."""
     ours, theirs = pty.openpty()
     ran = subprocess.Popen([TARGET, "map", "two.fio", "mapped", "ms"], stdout=theirs, stderr=subprocess.DEVNULL)
-    ran.wait(30)
+    ran.wait(HANG)
     os.close(theirs)
     shown = os.read(ours, 65536).decode().replace("\r", "")
     os.close(ours)

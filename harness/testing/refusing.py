@@ -2,7 +2,7 @@
 import os
 import subprocess
 
-from trying import LIAR, QUIET, TARGET, await_file, check, job, read, report, run, run_of, tell, tell_has, write
+from trying import LIAR, QUIET, TARGET, await_file, check, job, read, report, run, run_of, tell, tell_has, whole_run, write
 
 
 def run_numbers():
@@ -30,6 +30,7 @@ def refusals():
         tell(f"{what}: the status", (status, printed), (2, ""))
         tell_has(f"{what}: what is said", said, part)
 
+    whole_run()
     full = "two.fio"
     refused("a target below /dev that isn't there", ["write", full, "/dev/sdzz", "rs"], "no file is made below /dev")
     tell("and none was made", os.path.exists("/dev/sdzz"), False)
@@ -79,6 +80,7 @@ def folders():
 
 def states():
     """States that can't be kept or read."""
+    whole_run()
     write("long state", bytes(5000))
     status, _, said = run("check", "two.fio", "t", "long state")
     tell("a state that is too long", (status, "too long" in said), (2, True))

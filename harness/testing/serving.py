@@ -5,7 +5,7 @@ import shlex
 import struct
 import subprocess
 
-from trying import BLOCK, OUT, await_file, await_text, read, run, write
+from trying import BLOCK, HANG, OUT, await_file, await_text, read, run, write
 
 TOP = os.path.dirname(os.path.dirname(OUT))
 FLEET, SERVER = f"{TOP}/harness/fleet", f"{OUT}/fleet-server"
@@ -83,7 +83,7 @@ def fleet_until(part, said_by, *words):
         writing = subprocess.Popen([FLEET, "write", *words, "--trigger-file", "pulled"], stdin=subprocess.DEVNULL, stdout=subprocess.PIPE, stderr=said, text=True)
     await_text(said_by, part)
     write("pulled", "")
-    printed = writing.communicate(timeout=100)[0]
+    printed = writing.communicate(timeout=HANG)[0]
     os.remove("pulled")
     return writing.returncode, printed, read("fleet.said").decode()
 

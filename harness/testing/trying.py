@@ -1,5 +1,6 @@
 """What the tests of the harness share: runs of drive-target, the bytes that are due, and the
 counts."""
+import mmap
 import os
 import struct
 import subprocess
@@ -10,21 +11,26 @@ OUT = f"{os.path.dirname(HERE)}/out"
 TARGET, AGENT, WITNESS, LIAR = (f"{OUT}/{it}" for it in ("drive-target", "drive-agent", "drive-witness", "liar.so"))
 BLOCK = 4096
 QUIET = {"stdout": subprocess.DEVNULL, "stderr": subprocess.DEVNULL}
-counts = {"passed": 0, "failed": 0, "skipped": 0}
+# How long is waited for what has to happen, in seconds: a limit that only a hang reaches.
+HANG = 120
+# What passed, failed and was skipped, in memory that a part's process shares with the one that runs
+# all parts: so what it had counted is known also where it is killed.
+PASSED, FAILED, SKIPPED = range(3)
+counts = memoryview(mmap.mmap(-1, 12)).cast("I")
 # How many times as often as the gate has it nodes are killed.
 as_often = {"killed": 1}
 
 
 def tell(what, got, due):
     """Counts a test, and says where what came isn't what was due."""
-    counts["passed" if got == due else "failed"] += 1
+    counts[PASSED if got == due else FAILED] += 1
     if got != due:
         print(f"FAILED: {what}: {got!r}, and not {due!r}", flush=True)
 
 
 def skip(word, why):
     """Counts what can't be tried on this machine, by its word in tools/skips.py, and says why."""
-    counts["skipped"] += 1
+    counts[SKIPPED] += 1
     print(f"SKIPPED: {word}: {why}", flush=True)
 
 
@@ -36,7 +42,7 @@ def tell_has(what, text, part):
 def run(*words, program=TARGET, **more):
     """Runs drive-target, or another program: its status, what it printed, and what it said."""
     env = {**os.environ, **more.pop("env", {})}
-    ran = subprocess.run([program, *words], capture_output=True, text=True, errors="replace", env=env, stdin=subprocess.DEVNULL, timeout=100, **more)
+    ran = subprocess.run([program, *words], capture_output=True, text=True, errors="replace", env=env, stdin=subprocess.DEVNULL, timeout=HANG, **more)
     return ran.returncode, ran.stdout, ran.stderr
 
 
@@ -80,18 +86,28 @@ def check(what, job_file, target, state, faults, *words, **more):
     tell(what, (status, printed), (1 if faults else 0, report(faults)))
 
 
-def await_file(path):
-    """Waits until a file is there, at most twenty seconds."""
-    until = time.time() + 20
-    while time.time() < until and not os.path.exists(path):
+def await_that(holds, what):
+    """Waits until something holds. It raises TimeoutError where that never comes."""
+    until = time.monotonic() + HANG
+    while not holds():
+        if time.monotonic() > until:
+            raise TimeoutError(f"{what} never comes")
         time.sleep(0.002)
 
 
+def await_file(path):
+    """Waits until a file is there."""
+    await_that(lambda: os.path.exists(path), path)
+
+
 def await_text(path, part):
-    """Waits until a file has this part, at most a minute."""
-    until = time.time() + 60
-    while time.time() < until and part not in read(path).decode():
-        time.sleep(0.01)
+    """Waits until a file has this part."""
+    await_that(lambda: part in read(path).decode(), f"{part!r} in {path}")
+
+
+def whole_run():
+    """Writes a whole run of two.fio to t, whose state is s."""
+    tell("a whole run is written", run("write", "two.fio", "t", "s")[0], 0)
 
 
 def put(data, block, bytes_, at=0):

@@ -10,7 +10,7 @@ import struct
 import subprocess
 import time
 
-from trying import AGENT, BLOCK, HERE, LIAR, QUIET, WITNESS, await_file, job, read, report, run, run_of, stamp, tell, tell_has, write
+from trying import AGENT, BLOCK, HANG, HERE, LIAR, QUIET, WITNESS, await_file, job, read, report, run, run_of, stamp, tell, tell_has, write
 
 PASS_ON = f"python3 {shlex.quote(f'{HERE}/pass_on.py')}"
 
@@ -94,7 +94,7 @@ def witness_runs():
     await_file("wl")
     time.sleep(0.2)
     ran.send_signal(signal.SIGINT)
-    printed, _ = ran.communicate(timeout=30)
+    printed, _ = ran.communicate(timeout=HANG)
     tell("SIGINT", (ran.returncode, "at the cut" in printed), (0, False))
     tell_has("its check", witness("check", "long.fio", "wi", *link("wl"))[1], "faults 0 end whole first -")
 
@@ -117,7 +117,7 @@ def random_kills():
         await_file("ks.old")
         time.sleep(chance.uniform(0, 0.15))
         kill_agent()
-        printed, _ = ran.communicate(timeout=30)
+        printed, _ = ran.communicate(timeout=HANG)
         told = re.search(r"(\d+) told, (\d+) in flight at the cut", printed)
         flying += int(told[2]) if told else 0
         _, printed, said = witness("check", "endless.fio", "ks", *link("wk"))
@@ -128,7 +128,6 @@ def random_kills():
 def lying_caches():
     """A cache that tells writes as done which it hasn't written: just the blocks that it lost are
     faults. One that obeys a flush loses none."""
-    job("cache.fio", blocks=512, writes=1_000_000, depth=8)
     for turn in range(8):
         flushes, cached = turn % 2 == 1, turn > 5
         for file in ("agent", "log", "lc"):
@@ -140,7 +139,7 @@ def lying_caches():
         await_file("log")
         time.sleep(0.4)
         kill_agent()
-        tell(f"a lying cache, turn {turn}", ran.wait(30), 0)
+        tell(f"a lying cache, turn {turn}", ran.wait(HANG), 0)
         due = faults_by(read("log"), read("ls"), read("lc"), 512)
         status, printed, _ = witness("check", "cache.fio", "ls", *link("lc"))
         checked = int(printed.split()[2])
@@ -151,6 +150,7 @@ def lying_caches():
 def broken_links():
     """The link ends within an order, a notice, a hello; says what no agent says; falls silent; or
     leads to a wrong one."""
+    tell("a whole run by a witness", witness("write", "two.fio", "ws", *link("wt"))[0], 0)
     ends = {
         "an order": {"before": f"{PASS_ON} 100003 |"},
         "a notice": {"behind": f"| {PASS_ON} 5003"},
