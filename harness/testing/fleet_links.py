@@ -3,8 +3,10 @@ link."""
 import glob
 import io
 import os
+import select
 import socket
 import struct
+import subprocess
 import sys
 import time
 
@@ -117,3 +119,34 @@ def strangers():
     tell("and is said, where it is no frame", read(servers.said(0)).count(b"is no frame"), 3)
     tell("then a fleet writes", fleet("write", "strange.fio", "--note", "strange.note", "--after-writes", "64", *servers.links())[0], 0)
     servers.cut()
+
+
+def brought(of, count=300):
+    """What comes back of so many frames over a bad link, whose other end gives each back: their
+    numbers, in the order in which they come, and whether the link has ended in the middle of one."""
+    shares = [it for name in ("lose", "repeat", "late", "cut") for it in (f"--{name}", str(of.get(name, 0)))]
+    with subprocess.Popen([f"{TOP}/tools/bad-link", *shares, "cat"], stdin=subprocess.PIPE, stdout=subprocess.PIPE) as link:
+        try:
+            os.write(link.stdin.fileno(), b"".join(frame(struct.pack(">I", at)) for at in range(count)))
+        except BrokenPipeError:
+            pass
+        data = b""
+        while select.select([link.stdout], [], [], 1)[0] and (more := os.read(link.stdout.fileno(), 65536)):
+            data += more
+        link.kill()
+    found = frames_in(data)
+    return [struct.unpack(">I", it[16:])[0] for it in found], len(data) > sum(map(len, found))
+
+
+def harmed_links():
+    """A bad link loses, repeats, brings late and ends in the middle of a frame, each by its share, on
+    the way there and back; without any it brings all."""
+    tell("a link that does no harm", brought({}), ([*range(300)], False))
+    tell("each frame is lost", brought({"lose": 1}), ([], False))
+    tell("each frame comes twice, both ways", brought({"repeat": 1}), ([at for at in range(300) for _ in range(4)], False))
+    numbers, _ = brought({"lose": 0.3})
+    tell("some are lost, and the others come in their order", (60 < len(numbers) < 240, numbers == sorted({*numbers})), (True, True))
+    numbers, _ = brought({"late": 0.3})
+    tell("some come late, and none twice", (numbers != sorted(numbers), len(numbers) == len({*numbers}), len(numbers) > 150), (True, True, True))
+    tell("the first frame ends the link", brought({"cut": 1})[0], [])
+    tell("a link ends in the middle of a frame", any(brought({"cut": 0.02})[1] for _ in range(20)), True)
