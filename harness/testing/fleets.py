@@ -35,7 +35,16 @@ def whole_story():
     servers.restart()
     status, printed, said = fleet("check", "fleet.fio", "--note", "story.note", *servers.links())
     tell("one bit of one block at one server", (status, {at: it[3] for at, it in reports(printed).items() if it[1]}), (1, {(1, 0): [block]}))
+    data[block * BLOCK + 77] ^= 4
     servers.cut()
+    write("story-1-0", bytes(data))
+    servers.start(0)
+    servers.start(1)
+    status, printed, said = fleet("check", "fleet.fio", "--note", "story.note", "--wait", "3", *servers.links())
+    tell("one server never comes back, and the others are sound", (status, [it[1] for it in reports(printed).values()]), (2, [0] * 4))
+    tell_has("what is said of the run", printed.splitlines()[-1], "not checked whole")
+    servers.kill(0)
+    servers.kill(1)
 
 
 def written(log):
@@ -92,6 +101,12 @@ def killed_nodes():
     servers.cut()
 
 
+def states_told(number, note, servers):
+    """Whether a check of that run, by that note, tells of each job that it went by a state."""
+    printed = fleet("check", "notes.fio", "--run", number, "--note", note, "--json", *servers.links())[1]
+    return [json.loads(it)["by_state"] for it in printed.splitlines() if "by_state" in it]
+
+
 def lost_notes():
     """The client's note is lost, torn, or another node's; two clients, two servers of one note."""
     job_file("notes.fio", jobs=1, blocks=64, writes=512)
@@ -103,8 +118,10 @@ def lost_notes():
     servers.restart()
     status, printed, _ = fleet("check", "notes.fio", "--note", "notes.note", *servers.links())
     tell("by its own note it is sound", (status, [it[1] for it in reports(printed).values()]), (0, [0, 0]))
+    tell("as JSON, too", states_told(number, "notes.note", servers), [True] * 2)
     status, printed, _ = fleet("check", "notes.fio", "--run", number, "--note", "other.note", *servers.links())
     tell("without the client's note there is no verdict", (status, printed.splitlines()[-1].split(",")[0] if printed else ""), (3, f"run {number}: no verdict"))
+    tell("as JSON it is a full pass", states_told(number, "other.note", servers), [False] * 2)
     note = bytearray(read("notes.note"))
     note[-1] ^= 1
     write("torn.note", bytes(note))
@@ -243,6 +260,11 @@ def cycles_by_a_book():
     tell("it stops at the first with faults", (status, len(told), told[0]["faults"]), (1, 1, len(written(read("cycle.log")))))
     with open("folder/cycles.json", encoding="ascii") as it:
         tell("the folder has all cycles", [json.loads(line)["status"] for line in it], [0, 0, 1])
+    subprocess.run(["sh", "./off"], check=True)
+    subprocess.run(["sh", "./on"], check=True)
+    os.remove("lie")
+    status, printed, _ = fleet(*words, "--keep-going", "--json")
+    tell("a series that goes on behind a cycle with faults", (status, [json.loads(it)["status"] for it in printed.splitlines()]), (1, [1, 0]))
     subprocess.run(["sh", "./off"], check=True)
 
 
