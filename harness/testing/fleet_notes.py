@@ -1,0 +1,71 @@
+"""The notes of a fleet's nodes, durable by order: what a node saves is on the disk before anything
+that it says behind it leaves the machine."""
+import os
+import shlex
+import socket
+import subprocess
+
+from fleet_links import frame
+from serving import FLEET, Servers, fleet, job_file
+from trying import HANG, HERE, LIAR, QUIET, await_file, read, tell, write
+
+SAVED, HEAD = b"S" * 4096, 16
+NODE = f"{HERE}/sending_node.py"
+
+
+def note_at(link, note):
+    """What a note holds as a frame comes over a link: its last bytes, and none where there is none."""
+    link.settimeout(HANG)
+    came = link.recv(HEAD)
+    return came[:2], read(note)[-len(SAVED) :] if os.path.exists(note) else b""
+
+
+def saved_before_sent():
+    """A node says a save, a frame behind it, and no end: as the frame comes, the note holds what was
+    saved. Of a server, a mirror and the client."""
+    job_file("sent.fio", jobs=1, blocks=64, writes=64)
+    servers = Servers("sent", 0, jobs=1)
+    servers.count, servers.running = 1, [None]
+    servers.start(0, {"NODE": NODE, "TO": "8"})
+    with socket.socket(socket.AF_UNIX) as link:
+        link.connect("sent-0.note.socket")
+        link.sendall(frame(b"any"))
+        tell("a server", note_at(link, servers.note(0)), (b"FC", SAVED))
+    servers.cut()
+    ours, theirs = socket.socketpair()
+    mirror = subprocess.Popen([FLEET, "mirror", "--note", "mirror.note"], env={**os.environ, "NODE": NODE, "TO": "8"}, stdin=theirs, stdout=theirs, stderr=subprocess.DEVNULL)
+    ours.sendall(frame(b"any"))
+    tell("a mirror", note_at(ours, "mirror.note"), (b"FC", SAVED))
+    mirror.kill()
+    mirror.wait()
+    write("server", f"#!/bin/sh\nhead -c {HEAD} >frame; cp client.note seen; touch came; exec sleep {HANG}\n")
+    words = [FLEET, "write", "sent.fio", "--note", "client.note", "--server", "exec sh ./server", "--after", "1"]
+    client = subprocess.Popen(words, env={**os.environ, "NODE": NODE, "TO": "0"}, **QUIET)
+    await_file("came")
+    client.kill()
+    client.wait()
+    tell("the client", (read("frame")[:2], read("seen")[-len(SAVED) :] if os.path.exists("seen") else b""), (b"FC", SAVED))
+
+
+def synced(log, note):
+    """Whether each time that this note was kept the file was synced, and then its folder; and how often."""
+    lines = read(log).decode().splitlines()
+    at = [number for number, line in enumerate(lines) if line == f"synced {os.path.abspath(note)}.new"]
+    folders = [lines[it + 1 : it + 2] for it in at]
+    return all(it == [f"synced {os.getcwd()}"] for it in folders), len(at)
+
+
+def synced_notes():
+    """The client's note, a server's and a mirror's are on the disk, and then their names."""
+    job_file("synced.fio", jobs=1, blocks=64, writes=64)
+    way = {"LD_PRELOAD": LIAR, "LIE_SYNCS": "1"}
+    servers = Servers("synced", 0, jobs=1)
+    servers.count, servers.running = 1, [None]
+    servers.start(0, {**way, "LIE_LOG": "server.log"})
+    mirror = f"exec env LD_PRELOAD={shlex.quote(LIAR)} LIE_SYNCS=1 LIE_LOG=mirror.log {shlex.quote(FLEET)} mirror --note mirror.note"
+    status, printed, said = fleet("write", "synced.fio", "--note", "synced.note", "--after", "0.5", "--mirror", mirror, *servers.links(), env={**way, "LIE_LOG": "client.log"})
+    tell("a fleet with a mirror writes", status, 0)
+    servers.cut()
+    for log, note in (("client.log", "synced.note"), ("server.log", servers.note(0)), ("mirror.log", "mirror.note")):
+        kept, count = synced(log, note)
+        tell(f"{note} is synced, and then its folder", (kept, count > 0), (True, True))
