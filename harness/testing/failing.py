@@ -29,6 +29,21 @@ def failures():
     held_back()
 
 
+def failed_flushes():
+    """A flush that fails, by threads and by threads in turns: what was written before it isn't told
+    as done, and the drive, which has lost it, isn't blamed."""
+    env = {"LD_PRELOAD": LIAR, "LIE_TARGET": "/flushed", "LIE": "cached:4096", "LIE_FLUSHES": "1", "LIE_FLUSH_FAILS": "5"}
+    job("flush.fio", blocks=512, writes=512)
+    for options in (("--flush", "8"), ("--flush", "8", "--cached")):
+        what = " ".join(options)
+        status, printed, said = run("write", "flush.fio", "flushed", "fs", *options, env=env)
+        tell(f"{what}: the status", status, 2)
+        tell_has(f"{what}: why", said, "Input/output error")
+        status, printed, _ = run("check", "flush.fio", "flushed", "fs")
+        tell(f"{what}: no false fault, and some was checked", (status, "faults 0 end whole" in printed, int(printed.split()[2]) >= 8), (0, True, True))
+        os.remove("flushed")
+
+
 def held_back():
     """Of a target from which no write comes back so many are at it as --queue says, and never more than
     the depth."""

@@ -5,7 +5,8 @@
  * LIE_HELD further writes; failed, and not made; doubtful, failed but made; short, half of it
  * written and told; stalled, it never comes back. LIE=cached:N is a drive with a volatile cache of
  * N blocks: each write is told at once, whatever O_DSYNC says, and another one, by chance, makes
- * room for it; LIE_FLUSHES has fdatasync empty it. Killed, it loses the rest. LIE_LOG=FILE has a
+ * room for it; LIE_FLUSHES has fdatasync empty it. As its process ends, it loses the rest.
+ * LIE_FLUSH_FAILS=N has the Nth fdatasync of the target empty nothing and fail. LIE_LOG=FILE has a
  * line for each: `KIND BLOCK WRITE`, in the order in which they were told; LIE_SYNCS has it tell
  * each fsync, too: `synced PATH`. LIE_UNREADABLE=BYTE fails each read of the target that has this
  * byte. LIE_TARGET=NAME is the end of the target's path. LIE_PIECES has standard output take five
@@ -18,6 +19,7 @@
 #include <pthread.h>
 #include <sched.h>
 #include <stdarg.h>
+#include <stdbool.h>
 #include <stdint.h>
 #include <stdio.h>
 #include <stdlib.h>
@@ -126,12 +128,15 @@ static void keep_cached(int fd, const void *bytes, size_t length, off_t at) {
 int fdatasync(int fd) {
     static int (*real)(int);
     if (!real) *(void **)&real = dlsym(RTLD_NEXT, "fdatasync");
+    static long flushes;
+    const char *bad = getenv("LIE_FLUSH_FAILS");
     pthread_mutex_lock(&lock);
-    if (getenv("LIE_FLUSHES"))
+    bool fails = bad && is_target(fd) && ++flushes == atol(bad);
+    if (!fails && getenv("LIE_FLUSHES"))
         for (int place = 0; place < held_count; place++) held[place].due = 0;
     let_go();
     pthread_mutex_unlock(&lock);
-    return real(fd);
+    return fails ? (errno = EIO, -1) : real(fd);
 }
 
 int fsync(int fd) {
