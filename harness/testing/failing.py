@@ -6,7 +6,7 @@ import signal
 import subprocess
 import time
 
-from trying import HANG, LIAR, QUIET, TARGET, await_file, job, read, run, tell, tell_has, write
+from trying import HANG, LIAR, QUIET, TARGET, await_file, await_that, job, read, run, tell, tell_has, whole_run, write
 
 
 def failures():
@@ -160,3 +160,39 @@ def killed_drive():
         os.kill(int(it), signal.SIGKILL)
     _, said = ran.communicate(timeout=HANG)
     tell("drive is killed", (ran.returncode, "it was killed, and there is no state" in said, os.path.exists("as")), (2, True, False))
+
+
+def flags_of(pid, target):
+    """How a process has opened a target: with O_DIRECT, and with O_DSYNC. It waits until it has."""
+    found = []
+
+    def is_open():
+        for it in os.listdir(f"/proc/{pid}/fd"):
+            try:
+                if os.readlink(f"/proc/{pid}/fd/{it}") == os.path.abspath(target):
+                    found.append(int(re.search(r"flags:\s+(\d+)", read(f"/proc/{pid}/fdinfo/{it}").decode())[1], 8))
+            except FileNotFoundError:
+                pass # it was closed meanwhile
+        return found
+
+    await_that(is_open, f"that {target} is opened")
+    return bool(found[0] & os.O_DIRECT), bool(found[0] & os.O_DSYNC)
+
+
+def opened_targets():
+    """The target is asked to keep each write as it is made, but where flushes do that behind them, and
+    neither writes nor a check go by the page cache, unless that is asked for."""
+    env = {**os.environ, "LD_PRELOAD": LIAR, "LIE_TARGET": "/opened", "LIE": "stalled:1"}
+    for options, due in (((), (True, True)), (("--flush", "8"), (True, False)), (("--cached",), (False, False))):
+        ran = subprocess.Popen([TARGET, "write", "two.fio", "opened", "os", *options], env=env, **QUIET)
+        tell(f"a write, {options}: O_DIRECT, O_DSYNC", flags_of(ran.pid, "opened"), due)
+        ran.kill()
+        ran.wait()
+    whole_run()
+    write("waits", f"#!/bin/sh\nexec sleep {HANG}\n")
+    os.chmod("waits", 0o755)
+    for options, due in (((), True), (("--cached",), False)):
+        ran = subprocess.Popen([TARGET, "check", "two.fio", "t", "s", *options], env={**os.environ, "DRIVE": os.path.abspath("waits")}, **QUIET)
+        tell(f"a check, {options}: O_DIRECT", flags_of(ran.pid, "t")[0], due)
+        ran.kill()
+        ran.wait()
