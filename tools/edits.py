@@ -7,7 +7,7 @@ from dataclasses import dataclass
 from crates import TOP, read
 
 # Where a crate has its wrong bodies, and where those stand that are harmless, to test what tries them.
-FOLDER, PLANTED = "wrong-bodies", "tools/planted"
+FOLDER, PLANTED = "must-fail-more", "tools/planted"
 EDIT_NAME = re.compile(r"[A-Za-z0-9_-][A-Za-z0-9_.-]*\.edit")
 HEAD = re.compile(r"^( *)(?:pub(?:\([^)]*\))? )?(?:const |unsafe )*fn (\w+)")
 ITEM = re.compile(r"^(?:unsafe )?impl\b(.*)|^(?:pub(?:\([^)]*\))? )?trait (\w+)")
