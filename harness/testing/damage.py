@@ -37,22 +37,22 @@ def whole_runs():
 def lies():
     """Targets that lie, by what a log says that they did."""
     kinds = ("lost:5", "torn:7", "misdirected:6", "flipped:4", "late:9")
-    for depth, *options in ((1,), (8,), (64,), (64, "--queue", "5"), (64, "--cached")):
+    for depth, ring, *options in ((1, ""), (8, ""), (64, ""), (64, "by a ring "), (64, "", "--queue", "5"), (64, "", "--cached")):
         job(f"lie{depth}.fio", writes=192, depth=depth)
         for lie in kinds:
             for file in ("lied", "ls", "log"):
                 if os.path.exists(file):
                     os.remove(file)
-            env = {"LD_PRELOAD": LIAR, "LIE": lie, "LIE_LOG": os.path.abspath("log"), "LIE_TARGET": "/lied"}
-            tell(f"{lie} at depth {depth} is written", run("write", f"lie{depth}.fio", "lied", "ls", *options, env=env)[0], 0)
+            env = {"LD_PRELOAD": LIAR, "LIE": lie, "LIE_LOG": os.path.abspath("log"), "LIE_TARGET": "/lied", **({"LIE_RING": "1"} if ring else {})}
+            tell(f"{lie} {ring}at depth {depth} is written", run("write", f"lie{depth}.fio", "lied", "ls", *options, env=env)[0], 0)
             rows = [line.split() for line in read("log").decode().splitlines()]
             last = {}
             for kind, block, number in rows:
                 last[int(block)] = max(last.get(int(block), 0), int(number))
             data, run_number = read("lied"), run_of("ls")
             faults = [it for it in range(64) if data[it * BLOCK : (it + 1) * BLOCK] != stamp(run_number, 0, last[it], it)]
-            tell(f"{lie} at depth {depth} lied", any(kind != "made" for kind, _, _ in rows) and len(rows) == 192, True)
-            check(f"{lie} at depth {depth}: {len(faults)} faults", f"lie{depth}.fio", "lied", "ls", faults)
+            tell(f"{lie} {ring}at depth {depth} lied", any(kind != "made" for kind, _, _ in rows) and len(rows) == 192, True)
+            check(f"{lie} {ring}at depth {depth}: {len(faults)} faults", f"lie{depth}.fio", "lied", "ls", faults)
 
 
 def unreadable():

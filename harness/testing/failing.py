@@ -9,14 +9,18 @@ import time
 from trying import HANG, LIAR, QUIET, TARGET, await_file, await_that, job, read, run, tell, tell_has, whole_run, write
 
 
+# Has the liar's own io_uring in the place of none.
+RING = {"LIE_RING": "1"}
+
+
 def failures():
-    """Writes that fail, by threads and, in memory, by threads in turns."""
+    """Writes that fail, by threads, by a ring and, in memory, by threads in turns."""
     env = {"LD_PRELOAD": LIAR, "LIE_TARGET": "/failing"}
-    for depth, options in ((8, ()), (32, ("--cached",))):
+    for depth, options, ring in ((8, (), {}), (8, (), RING), (32, ("--cached",), {})):
         job("fail.fio", blocks=64, writes=512, depth=depth)
         for lie in ("failed:100", "doubtful:100", "short:100"):
-            what = " ".join((lie, *options))
-            status, printed, said = run("write", "fail.fio", "failing", "fs", *options, env={**env, "LIE": lie})
+            what = " ".join((lie, *options, *ring))
+            status, printed, said = run("write", "fail.fio", "failing", "fs", *options, env={**env, **ring, "LIE": lie})
             tell(f"{what}: the status", status, 2)
             block = re.search(r"failing: write \d+ to block (\d+) failed: ", said)
             tell(f"{what}: which write it was", bool(block), True)
@@ -25,18 +29,18 @@ def failures():
             _, printed, _ = run("check", "fail.fio", "failing", "fs")
             tell_has(f"{what}: no other fault", printed, f"faults {len(torn)} end whole first {' '.join(torn) or '-'}")
             os.remove("failing")
-        stalled(options)
+        stalled(options, ring)
     held_back()
 
 
 def failed_flushes():
-    """A flush that fails, by threads and by threads in turns: what was written before it isn't told
-    as done, and the drive, which has lost it, isn't blamed."""
+    """A flush that fails, by threads, by a ring and by threads in turns: what was written before it
+    isn't told as done, and the drive, which has lost it, isn't blamed."""
     env = {"LD_PRELOAD": LIAR, "LIE_TARGET": "/flushed", "LIE": "cached:4096", "LIE_FLUSHES": "1", "LIE_FLUSH_FAILS": "5"}
     job("flush.fio", blocks=512, writes=512)
-    for options in (("--flush", "8"), ("--flush", "8", "--cached")):
-        what = " ".join(options)
-        status, printed, said = run("write", "flush.fio", "flushed", "fs", *options, env=env)
+    for options, ring in ((("--flush", "8"), {}), (("--flush", "8"), RING), (("--flush", "8", "--cached"), {})):
+        what = " ".join((*options, *ring))
+        status, printed, said = run("write", "flush.fio", "flushed", "fs", *options, env={**env, **ring})
         tell(f"{what}: the status", status, 2)
         tell_has(f"{what}: why", said, "Input/output error")
         status, printed, _ = run("check", "flush.fio", "flushed", "fs")
@@ -63,12 +67,12 @@ def held_back():
         tell(f"SIGTERM with --queue {queue}: the status", ended(ran, HANG), 0)
 
 
-def stalled(options):
+def stalled(options, ring):
     """A write that never comes back keeps neither the state nor the cut."""
-    env = {**os.environ, "LD_PRELOAD": LIAR, "LIE_TARGET": "/failing", "LIE": "stalled:50"}
+    env = {**os.environ, **ring, "LD_PRELOAD": LIAR, "LIE_TARGET": "/failing", "LIE": "stalled:50"}
     for what, words in (("SIGTERM", []), ("a cut", ["--after", "45", "--cut", "touch cut-at-once"])):
         ran = subprocess.Popen([TARGET, "write", "fail.fio", "failing", "fs", *options, *words], env=env, **QUIET)
-        what = " ".join((what, *options))
+        what = " ".join((what, *options, *ring))
         if not words:
             time.sleep(1)
             ran.terminate()
@@ -151,7 +155,7 @@ def killed_drive():
     """`drive` is killed, and a second harness comes. Both run on one processor, as is asked for."""
     job("longest.fio", blocks=4096, writes=1_000_000)
     ran = subprocess.Popen([TARGET, "write", "longest.fio", "alone", "as", "--cpu", "0"], stdout=subprocess.PIPE, stderr=subprocess.PIPE, text=True)
-    time.sleep(0.1)
+    await_that(lambda: os.path.exists("alone") and any(read("alone")), "a write")
     status, _, said = run("write", "long.fio", "alone", "as2")
     tell("a second harness", (status, "another harness" in said), (2, True))
     children = subprocess.run(["pgrep", "-P", str(ran.pid)], capture_output=True, text=True).stdout.split()

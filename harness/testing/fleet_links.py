@@ -11,7 +11,7 @@ import sys
 import time
 
 from serving import TOP, Servers, fleet, job_file
-from trying import BLOCK, HERE, read, tell
+from trying import BLOCK, HANG, HERE, read, tell
 
 sys.path.insert(0, f"{TOP}/harness/client")
 
@@ -52,21 +52,25 @@ def cut_links():
 
 def frames_given(log, count):
     """The frames that a logging node was given, once they are so many, in hexadecimal."""
-    until = time.monotonic() + 10
+    until = time.monotonic() + HANG / 4
     while read(log).count(b"\n2 ") < count and time.monotonic() < until:
         time.sleep(0.05)
     return [line.split()[1] for line in read(log).decode().splitlines() if line.startswith("2 ")]
 
 
 def full_pipes():
-    """More comes than the node's pipe has room for: it is given all of it, in its order."""
+    """More comes than the node's pipe has room for, and goes on coming while that is given: the node is
+    given all of it, in its order."""
     servers = Servers("full", 0, jobs=1)
     servers.count, servers.running = 1, [None]
     servers.start(0, {"NODE": f"{HERE}/logging_node.py", "LOG": "full.log"})
-    sent = [frame(b"%08d" % at * (1 + at % 300)) for at in range(4000)]
+    sent = [frame(b"%08d" % at * (1 + at * 37 % 5000)) for at in range(1200)]
     with socket.socket(socket.AF_UNIX) as link:
         link.connect("full-0.note.socket")
-        link.sendall(b"".join(sent))
+        try:
+            link.sendall(b"".join(sent))
+        except OSError:
+            pass # (the server has ended)
         tell("a node that is slower than its link", frames_given("full.log", len(sent)) == [it.hex() for it in sent], True)
     servers.cut()
 

@@ -3,15 +3,18 @@
  * LIE=KIND:EVERY[:FROM] harms each EVERYth write of a block, from the FROMth on. Kinds: lost; torn,
  * its first half alone; misdirected, to the block behind it; flipped, its last bit; late, behind
  * LIE_HELD further writes; failed, and not made; doubtful, failed but made; short, half of it
- * written and told; stalled, it never comes back. LIE=cached:N is a drive with a volatile cache of
+ * written and told; slow, it takes a while; stalled, it never comes back. LIE=cached:N is a drive with a volatile cache of
  * N blocks: each write is told at once, whatever O_DSYNC says, and another one, by chance, makes
  * room for it; LIE_FLUSHES has fdatasync empty it. As its process ends, it loses the rest.
  * LIE_FLUSH_FAILS=N has the Nth fdatasync of the target empty nothing and fail. LIE_LOG=FILE has a
  * line for each: `KIND BLOCK WRITE`, in the order in which they were told; LIE_SYNCS has it tell
  * each fsync, too: `synced PATH`. LIE_UNREADABLE=BYTE fails each read of the target that has this
  * byte. LIE_TARGET=NAME is the end of the target's path. LIE_PIECES has standard output take five
- * bytes at a time, with other threads' turn behind them. The kernel's io_uring passes a library by,
- * so there is none here: the harness writes by threads. */
+ * bytes at a time, with other threads' turn behind them. The kernel's io_uring passes a library by:
+ * LIE_RING has one of this library's own in its place (ring_liar.c), and without it there is none, so
+ * that the harness writes by threads. */
+#include "liar.h"
+
 #include <dlfcn.h>
 #include <endian.h>
 #include <errno.h>
@@ -19,15 +22,13 @@
 #include <pthread.h>
 #include <sched.h>
 #include <stdarg.h>
-#include <stdbool.h>
 #include <stdint.h>
 #include <stdio.h>
 #include <stdlib.h>
 #include <string.h>
-#include <sys/syscall.h>
 #include <unistd.h>
 
-enum { MAX_HELD = 4096, WRITE_AT = 16 };
+enum { MAX_HELD = 4096, WRITE_AT = 16, SLOW = 500000 };
 
 typedef ssize_t writer(int, const void *, size_t, off_t);
 typedef ssize_t reader(int, void *, size_t, off_t);
@@ -160,16 +161,18 @@ ssize_t write(int fd, const void *bytes, size_t length) {
 long syscall(long number, ...) {
     static long (*real)(long, ...);
     if (!real) *(void **)&real = dlsym(RTLD_NEXT, "syscall");
-    if (number == SYS_io_uring_setup) return errno = ENOSYS, -1;
     long words[6];
     va_list given;
     va_start(given, number);
     for (int at = 0; at < 6; at++) words[at] = va_arg(given, long);
     va_end(given);
+    long answer;
+    if (answers_for_ring(number, words, &answer)) return answer;
     return real(number, words[0], words[1], words[2], words[3], words[4], words[5]);
 }
 
-ssize_t pwrite64(int fd, const void *bytes, size_t length, off_t at) {
+ssize_t write_or_lie(int fd, const void *bytes, size_t length, off_t at, bool *never) {
+    *never = false;
     if (!is_target(fd)) return real_write(fd, bytes, length, at);
     pthread_mutex_lock(&lock);
     if (!strcmp(kind, "cached")) {
@@ -180,15 +183,23 @@ ssize_t pwrite64(int fd, const void *bytes, size_t length, off_t at) {
     }
     int harms = every && ++count >= from && count % every == 0;
     note(harms ? kind : "made", bytes, length, at);
-    if (harms && !strcmp(kind, "stalled")) {
+    *never = harms && !strcmp(kind, "stalled");
+    if (*never || (harms && !strcmp(kind, "slow"))) {
         pthread_mutex_unlock(&lock);
-        for (;;) sleep(1000);
+        return *never ? 0 : (usleep(SLOW), real_write(fd, bytes, length, at));
     }
     ssize_t told = harms ? lie(fd, bytes, length, at) : real_write(fd, bytes, length, at);
     int why = errno;
     let_go();
     pthread_mutex_unlock(&lock);
     errno = why;
+    return told;
+}
+
+ssize_t pwrite64(int fd, const void *bytes, size_t length, off_t at) {
+    bool never;
+    ssize_t told = write_or_lie(fd, bytes, length, at, &never);
+    while (never) sleep(1000);
     return told;
 }
 

@@ -3,14 +3,15 @@ import os
 import random
 import re
 import shlex
+import signal
 import subprocess
 import time
 
-from trying import HANG, LIAR, QUIET, WITNESS, await_file, read, report, run_of, tell, tell_has, write
-from witness import PASS_ON, endless, faults_by, kill_agent, link, put_earlier_state, witness
+from trying import HANG, LIAR, QUIET, WITNESS, await_file, await_that, comes, read, report, run_of, tell, tell_has, write
+from witness import PASS_ON, WELCOME, endless, faults_by, kill_agent, link, put_earlier_state, witness
 
-# What a hello and a welcome take of a link, and each notice.
-HELLO, WELCOME, NOTICE = 88, 328, 16
+# What a hello takes of a link, and each notice.
+HELLO, NOTICE = 88, 16
 
 
 def local_runs():
@@ -74,6 +75,22 @@ def local_links():
             way = {"before": f"{PASS_ON} {HELLO + text + part} |"}
         ran = begun("cache.fio", "ks", *link("ll", **way), "--quiet", "500")
         checked(f"a local link that ends, turn {turn}", ran, "cache.fio", "ks", "ll")
+
+
+def ended_witness():
+    """An agent that has nothing more to tell ends once its witness is killed, and the next one has its
+    target."""
+    endless()
+    ran = subprocess.Popen([WITNESS, "write", "endless.fio", "es", "--local", *link("le")], **QUIET)
+    await_file("le")
+    await_that(lambda: any(read("le")), "a write")
+    agent = read("agent").decode().strip()
+    ran.send_signal(signal.SIGSTOP)
+    time.sleep(0.5) # (what was ordered by then is told into the link)
+    ran.kill()
+    ran.wait()
+    tell("the agent ends behind its link", comes(lambda: not os.path.exists(f"/proc/{agent}/exe")), True)
+    tell("the next witness has its target", witness("write", "two.fio", "es", "--local", *link("le"))[0], 0)
 
 
 def local_caches():

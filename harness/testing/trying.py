@@ -12,11 +12,17 @@ TARGET, AGENT, WITNESS, LIAR = (f"{OUT}/{it}" for it in ("drive-target", "drive-
 BLOCK = 4096
 QUIET = {"stdout": subprocess.DEVNULL, "stderr": subprocess.DEVNULL}
 # How long is waited for what has to happen, in seconds: a limit that only a hang reaches.
-HANG = 120
-# What passed, failed and was skipped, in memory that a part's process shares with the one that runs
-# all parts: so what it had counted is known also where it is killed.
+HANG = int(os.environ.get("HANG", 120))
 PASSED, FAILED, SKIPPED = range(3)
-counts = memoryview(mmap.mmap(-1, 12)).cast("I")
+
+
+def new_counts():
+    """Returns what passed, failed and was skipped, in memory that a part's process shares with the one
+    that runs all parts: so what it had counted is known also where it is killed."""
+    return memoryview(mmap.mmap(-1, 12)).cast("I")
+
+
+counts = new_counts()
 # How many times as often as the gate has it nodes are killed.
 as_often = {"killed": 1}
 
@@ -40,9 +46,13 @@ def tell_has(what, text, part):
 
 
 def run(*words, program=TARGET, **more):
-    """Runs drive-target, or another program: its status, what it printed, and what it said."""
+    """Runs drive-target, or another program: its status, what it printed, and what it said. One that
+    never ends is killed, and has no status."""
     env = {**os.environ, **more.pop("env", {})}
-    ran = subprocess.run([program, *words], capture_output=True, text=True, errors="replace", env=env, stdin=subprocess.DEVNULL, timeout=HANG, **more)
+    try:
+        ran = subprocess.run([program, *words], capture_output=True, text=True, errors="replace", env=env, stdin=subprocess.DEVNULL, timeout=HANG, **more)
+    except subprocess.TimeoutExpired:
+        return None, "", f"it hasn't ended after {HANG} s"
     return ran.returncode, ran.stdout, ran.stderr
 
 
@@ -71,7 +81,8 @@ def stamp(run_number, job_number, number, block, block_size=BLOCK, server=0):
 
 
 def run_of(state):
-    return struct.unpack(">Q", read(state)[4:12])[0]
+    """The run that a state is of, or None where there is none."""
+    return struct.unpack(">Q", read(state)[4:12])[0] if os.path.exists(state) else None
 
 
 def report(faults, checked=64, end="whole"):
@@ -86,13 +97,20 @@ def check(what, job_file, target, state, faults, *words, **more):
     tell(what, (status, printed), (1 if faults else 0, report(faults)))
 
 
-def await_that(holds, what):
-    """Waits until something holds. It raises TimeoutError where that never comes."""
+def comes(holds):
+    """Waits until something holds, and returns whether it ever does."""
     until = time.monotonic() + HANG
     while not holds():
         if time.monotonic() > until:
-            raise TimeoutError(f"{what} never comes")
+            return False
         time.sleep(0.002)
+    return True
+
+
+def await_that(holds, what):
+    """Waits until something holds. It raises TimeoutError where that never comes."""
+    if not comes(holds):
+        raise TimeoutError(f"{what} never comes")
 
 
 def await_file(path):

@@ -12,6 +12,8 @@ import time
 
 from trying import AGENT, BLOCK, HANG, HERE, LIAR, QUIET, WITNESS, await_file, job, read, report, run, run_of, stamp, tell, tell_has, write
 
+# What a welcome takes of a link, and the head of a piece of what was read.
+WELCOME, CHUNK = 328, 16
 PASS_ON = f"python3 {shlex.quote(f'{HERE}/pass_on.py')}"
 
 
@@ -28,7 +30,11 @@ def witness(*words, **more):
 
 
 def kill_agent():
-    os.kill(int(read("agent")), signal.SIGKILL)
+    """Kills the agent, and counts a failure where it has ended by itself."""
+    try:
+        os.kill(int(read("agent")), signal.SIGKILL)
+    except ProcessLookupError:
+        tell("the agent is there until it is killed", False, True)
 
 
 def put_earlier_state(state):
@@ -127,14 +133,14 @@ def random_kills():
 
 def lying_caches():
     """A cache that tells writes as done which it hasn't written: just the blocks that it lost are
-    faults. One that obeys a flush loses none."""
-    for turn in range(8):
-        flushes, cached = turn % 2 == 1, turn > 5
+    faults. One that obeys a flush loses none. By threads, by a ring, and by threads in turns."""
+    for turn in range(14):
+        flushes, ring, cached = turn % 2 == 1, 3 < turn < 12, turn > 11
         for file in ("agent", "log", "lc"):
             if os.path.exists(file):
                 os.remove(file)
-        env = {**os.environ, "LD_PRELOAD": LIAR, "LIE": "cached:64", "LIE_LOG": os.path.abspath("log"), "LIE_TARGET": "/lc", **({"LIE_FLUSHES": "1"} if flushes else {})}
-        options = (*(("--flush", "8") if flushes else ()), *(("--cached",) if cached else ()))
+        env = {**os.environ, "LD_PRELOAD": LIAR, "LIE": "cached:64", "LIE_LOG": os.path.abspath("log"), "LIE_TARGET": "/lc", **({"LIE_FLUSHES": "1"} if flushes else {}), **({"LIE_RING": "1"} if ring else {})}
+        options = (*(("--flush", "2" if ring else "8") if flushes else ()), *(("--cached",) if cached else ()))
         ran = subprocess.Popen([WITNESS, "write", "cache.fio", "ls", *link("lc", *options)], env=env, **QUIET)
         await_file("log")
         time.sleep(0.4)
@@ -180,6 +186,8 @@ def broken_links():
     refused("other bytes on the target", link("letter2"), "the agent refuses: letter2: it holds other bytes")
     refused("a check of another region", (*link("wt"), "--offset", "4096"), "--offset 0 --stride 4096", "check", "ws")
     refused("a check that ends early", link("wt", behind=f"| {PASS_ON} 100000; kill $$"), "nothing was checked", "check", "ws")
+    whole = WELCOME + CHUNK + 64 * BLOCK # (and what lacks is the end)
+    refused("a check that ends behind a chunk", link("wt", behind=f"| {PASS_ON} {whole}; kill $$"), "nothing was checked", "check", "ws")
     tell("no state was made", os.path.exists("br"), False)
 
 

@@ -1,0 +1,96 @@
+"""What a fleet's client makes of what comes: reports of an earlier check, copies that a mirror doesn't
+keep, numbers that are drawn, links that take a few bytes at a time, and what its options say beside
+an address book."""
+import os
+import shlex
+import struct
+import sys
+import time
+from types import SimpleNamespace
+
+from fleet_links import frame, frames_in
+from fleet_mirrors import number_in
+from serving import FLEET, TOP, Servers, fleet, job_file, reports
+from trying import HERE, await_that, read, tell, tell_has, write
+
+sys.path.insert(0, f"{TOP}/harness/client")
+
+import links
+import note
+import stories
+from records import COPY_OK, GOOD, Report
+
+
+def report_of(attempt, server, faults):
+    """A report of one job, as the node says it: of 64 checked blocks."""
+    return Report(struct.pack(">QQIIIIII", 9, attempt, server, 0, 64, faults, 0, 0) + b"".join(struct.pack(">I", it) for it in range(faults)))
+
+
+def earlier_reports():
+    """Reports of an earlier check of the run don't count for this one."""
+    job_file("again.fio", jobs=1)
+    reports = [report_of(4, 0, 0), report_of(4, 1, 0), report_of(5, 0, 2)]
+    asked = SimpleNamespace(verify=lambda run, text: 5, settle=lambda *_: [GOOD, GOOD], take_reports=lambda: reports, full_passes={(4, 0, 0)})
+    run, outcomes, found = stories.check(asked, "again.fio", 9)
+    tell("reports of the check that was asked for", [(it.server, it.faults, is_full) for it, is_full in found], [(0, 2, False)])
+
+
+def copies_not_kept():
+    """A mirror never says that it keeps the states: they aren't told as kept."""
+    job_file("copies.fio", jobs=1, blocks=64, writes=64)
+    servers = Servers("copies", 1, jobs=1)
+    command = f"exec env DROPS={COPY_OK} {sys.executable} {shlex.quote(f'{HERE}/tapped.py')} mirror.tap {shlex.quote(f'exec {FLEET} mirror --note mirror.note')}"
+    words = ["write", "copies.fio", "--note", "copies.note", "--after", "0.2", "--wait", "2", "--mirror", command, *servers.links()]
+    status, printed, said = fleet(*words)
+    tell("states that the mirror doesn't keep", (status, number_in(printed) != "", "not all states are kept" in printed), (2, True, True))
+    tell_has("how many it keeps", said, "the mirror keeps 0 of 1 states")
+    servers.cut()
+
+
+def drawn_numbers():
+    """Each new client's runs begin behind all earlier ones', and each renewal has a generation of its
+    own."""
+    before = time.time_ns()
+    first, second = (note.numbers_of(note.first_note(0)) for _ in range(2))
+    tell("the first note of a client has no generation, and runs behind the time", (first[0], first[1] > before, first[1] != second[1]), (0, True, True))
+    tell("a run that was begun is among those used", note.numbers_of(note.first_note(1 << 63)), (0, 1 << 63))
+    tell("three renewals, three generations", len({note.new_generation() for _ in range(3)}), 3)
+    job_file("drawn.fio", jobs=1, blocks=64, writes=64)
+    servers, runs = Servers("drawn", 1, jobs=1), []
+    for name in ("first.note", "second.note"):
+        status, printed, _ = fleet("write", "drawn.fio", "--note", name, "--after", "0.1", *servers.links())
+        runs.append(int(number_in(printed) or 0))
+        tell(f"a client on {name} writes", status, 0)
+        time.sleep(1.1) # (what is drawn to the time is at most so many seconds)
+    tell("their runs are later ones", before < runs[0] < runs[1], True)
+    servers.cut()
+
+
+def short_writes():
+    """A link that takes five bytes at a time is given each frame whole."""
+    whole = os.write
+    links.os = SimpleNamespace(**{**vars(os), "write": lambda to, data: whole(to, data[:5])})
+    link, sent = links.Link("cat >>came", lambda _: None), [frame(b"%034d" % at) for at in range(50)]
+    for it in sent:
+        link.send(it)
+    await_that(lambda: os.path.exists("came") and os.path.getsize("came") >= 50 * 5, "what goes over the link")
+    await_that(lambda: link.stream.waiting.empty() and link.stream.begun_writing is None, "the end of what waits")
+    link.close()
+    tell("whole frames", frames_in(read("came")) == sent, True)
+
+
+def options_first():
+    """What the command line says comes before the address book."""
+    job_file("book.fio", jobs=1, blocks=64, writes=64)
+    servers = Servers("book", 1, jobs=1)
+    link = servers.links()[1]
+    write("fleet.toml", f"servers = ['{link}']\nnote = 'book.note'\noff = 'touch book-off'\non = 'touch book-on'\ncut = 'touch book-cut'\n")
+    tell("a write by the book", fleet("write", "book.fio", "--after", "0.1")[0], 0)
+    tell("which has its cut", (os.path.exists("book-cut"), os.path.exists("book.note")), (True, True))
+    os.remove("book-cut")
+    tell("another cut", fleet("write", "book.fio", "--after", "0.1", "--cut", "touch own-cut")[0], 0)
+    tell("is made in the place of the book's", (os.path.exists("own-cut"), os.path.exists("book-cut")), (True, False))
+    status, printed, _ = fleet("check", "book.fio", "--note", "own.note", "--wait", "2")
+    tell("another note, which knows no run", (status != 0, reports(printed), os.path.exists("own.note")), (True, {}, True))
+    tell("another command to check by", fleet("check", "book.fio", "--server", "false", "--wait", "1")[0], 2)
+    servers.cut()

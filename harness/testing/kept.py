@@ -1,0 +1,63 @@
+"""What is kept, in which order, and what stands there where it couldn't be: the states of runs, where
+their blocks lie, and the lines of a series."""
+import os
+import subprocess
+
+from trying import LIAR, QUIET, await_text, read, run, run_of, tell, tell_has, whole_run, write
+from witness import link, witness
+
+SYNCS = {"LD_PRELOAD": LIAR, "LIE_SYNCS": "1"}
+
+
+def lines_of(log):
+    return read(log).decode().splitlines()
+
+
+def kept_in_order():
+    """That the state before is put aside is on the disk before the first write, the state before the
+    cut, and where the blocks lie before the state that goes by it."""
+    whole_run()
+    log = os.path.abspath("aside.log")
+    tell("a second run", run("write", "two.fio", "t", "s", env={**SYNCS, "LIE_LOG": log, "LIE_TARGET": "/t"})[0], 0)
+    first = next((at for at, line in enumerate(lines_of(log)) if line.startswith("made ")), 0)
+    tell("the state before is put aside, and that is kept, before the first write", lines_of(log)[:first], [f"synced {os.getcwd()}"])
+    tell("a run with a cut", run("write", "two.fio", "t", "s", "--cut", "cp s at-the-cut")[0], 0)
+    tell("the state is kept before the cut", os.path.exists("at-the-cut") and read("at-the-cut") == read("s"), True)
+    log = os.path.abspath("apart.log")
+    tell("a run whose blocks lie apart", run("write", "two.fio", "apart", "as", "--offset", "8192", "--stride", "12288", env={**SYNCS, "LIE_LOG": log})[0], 0)
+    kept = [os.path.basename(line) for line in lines_of(log) if line.endswith(".new")]
+    tell("where they lie is kept before the state", kept, ["as.region.new", "as.new"])
+
+
+def stopped_witness():
+    """A witness that is killed once a write is out leaves no state of its run, and not that of the run
+    before in its place."""
+    tell("a run", witness("write", "two.fio", "ss", *link("st"))[0], 0)
+    before = read("ss")
+    env = {**os.environ, "LD_PRELOAD": LIAR, "LIE": "stalled:1", "LIE_TARGET": "/st", "LIE_LOG": os.path.abspath("stopped.log")}
+    ran = subprocess.Popen([f"{os.path.dirname(LIAR)}/drive-witness", "write", "two.fio", "ss", *link("st")], env=env, **QUIET)
+    write("stopped.log", "")
+    await_text("stopped.log", "stalled")
+    ran.kill()
+    ran.wait()
+    tell("the state of the run before is put aside", (os.path.exists("ss"), read("ss.old") == before if os.path.exists("ss.old") else None), (False, True))
+    status, printed, said = witness("check", "two.fio", "ss", *link("st"))
+    tell("its check", (status, printed, "ss: No such file" in said), (2, "", True))
+
+
+OFF = ("--off", "kill -KILL $(cat agent)", "--on", "true", "--every", "0.2..0.2", "--seed", "7")
+
+
+def kept_series():
+    """Each line of a series is on the disk, and so is that there is such a file; and a cycle of which a
+    block can't be read is no sound one."""
+    log = os.path.abspath("series.log")
+    status, printed, _ = witness("cycle", "long.fio", "series", *link("ct"), *OFF, "--cycles", "2", env={**SYNCS, "LIE_LOG": log})
+    tell("two cycles", (status, len(printed.splitlines())), (0, 2))
+    lines, file = lines_of(log), os.path.abspath("series/cycles.json")
+    behind = [lines[at + 1] for at, line in enumerate(lines[:-1]) if line == f"synced {file}"]
+    tell("each line is synced, and its folder behind it", behind, [f"synced {os.path.dirname(file)}"] * 2)
+    env = {"LD_PRELOAD": LIAR, "LIE": "none:1", "LIE_TARGET": "/cu", "LIE_UNREADABLE": "0"}
+    status, printed, said = witness("cycle", "two.fio", "unread", *link("cu"), *OFF, "--cycles", "2", "--keep-going", env=env)
+    tell("a cycle of which a block can't be read", (status, printed), (2, ""))
+    tell_has("which block", said, "block 0 can't be read: Input/output error")

@@ -1,0 +1,141 @@
+/* An io_uring of the liar's own, so that what it does to writes and flushes meets an executor that
+ * writes by a ring. Writes are made as they are given; a flush begins as it is given, and ends only
+ * once nothing else has: so writes that end behind its front are told before it, and it doesn't
+ * cover them. */
+#include "liar.h"
+
+#include <errno.h>
+#include <linux/io_uring.h>
+#include <poll.h>
+#include <pthread.h>
+#include <stdint.h>
+#include <stdlib.h>
+#include <string.h>
+#include <sys/mman.h>
+#include <sys/syscall.h>
+#include <sys/uio.h>
+#include <unistd.h>
+
+/* Where the fields of a ring stand in its memory; and for how many milliseconds a flush lets more
+ * orders come. */
+enum { GIVEN_HEAD = 0, GIVEN_TAIL = 4, GIVEN_MASK = 8, ENDED_HEAD = 24, ENDED_TAIL = 28, ENDED_MASK = 32, ENDS = 64, MAX_RINGS = 64, A_WHILE = 2 };
+
+struct ring {
+    int fd;
+    uint8_t *memory;
+    struct io_uring_sqe *calls;
+    unsigned entries;
+    struct io_uring_sqe read, flush; /* those that are out */
+    bool reads, flushes;
+    int flushed;                     /* what the flush will answer */
+};
+
+static struct ring rings[MAX_RINGS];
+static pthread_mutex_t lock = PTHREAD_MUTEX_INITIALIZER;
+
+static unsigned *field(const struct ring *ring, int at) {
+    return (unsigned *)(void *)(ring->memory + at);
+}
+
+static struct ring *ring_of(int fd) {
+    struct ring *found = NULL;
+    pthread_mutex_lock(&lock);
+    for (int at = 0; at < MAX_RINGS && !found; at++)
+        if (rings[at].memory && rings[at].fd == fd) found = rings + at;
+    pthread_mutex_unlock(&lock);
+    return found;
+}
+
+/* A place for a ring: that of one that had this number, or an unused one. */
+static struct ring *place_for(int fd) {
+    struct ring *found = ring_of(fd);
+    pthread_mutex_lock(&lock);
+    for (int at = 0; at < MAX_RINGS && !found; at++)
+        if (!rings[at].memory) found = rings + at;
+    if (!found) abort();
+    *found = (struct ring){.fd = fd};
+    pthread_mutex_unlock(&lock);
+    return found;
+}
+
+static long set_up(unsigned wanted, struct io_uring_params *params) {
+    unsigned entries = 1;
+    while (entries < wanted) entries *= 2;
+    size_t length = ENDS + 2 * entries * sizeof(struct io_uring_cqe) + entries * sizeof(unsigned);
+    int fd = (int)memfd_create("ring", MFD_CLOEXEC);
+    if (fd < 0 || ftruncate(fd, (off_t)(IORING_OFF_SQES + entries * sizeof(struct io_uring_sqe)))) return -1;
+    struct ring *ring = place_for(fd);
+    ring->entries = entries;
+    ring->calls = mmap(NULL, entries * sizeof *ring->calls, PROT_READ | PROT_WRITE, MAP_SHARED, fd, IORING_OFF_SQES);
+    ring->memory = mmap(NULL, length, PROT_READ | PROT_WRITE, MAP_SHARED, fd, IORING_OFF_SQ_RING);
+    if ((void *)ring->calls == MAP_FAILED || (void *)ring->memory == MAP_FAILED) abort();
+    *field(ring, GIVEN_MASK) = entries - 1, *field(ring, ENDED_MASK) = 2 * entries - 1;
+    params->features = IORING_FEAT_SINGLE_MMAP | IORING_FEAT_NODROP;
+    params->sq_entries = entries, params->cq_entries = 2 * entries;
+    params->sq_off.head = GIVEN_HEAD, params->sq_off.tail = GIVEN_TAIL, params->sq_off.ring_mask = GIVEN_MASK;
+    params->sq_off.array = ENDS + 2 * entries * (unsigned)sizeof(struct io_uring_cqe);
+    params->cq_off.head = ENDED_HEAD, params->cq_off.tail = ENDED_TAIL, params->cq_off.ring_mask = ENDED_MASK, params->cq_off.cqes = ENDS;
+    return fd;
+}
+
+static void end_call(const struct ring *ring, const struct io_uring_sqe *call, int answer) {
+    unsigned tail = *field(ring, ENDED_TAIL);
+    struct io_uring_cqe *ends = (struct io_uring_cqe *)(void *)(ring->memory + ENDS);
+    ends[tail % (2 * ring->entries)] = (struct io_uring_cqe){.user_data = call->user_data, .res = answer};
+    *field(ring, ENDED_TAIL) = tail + 1;
+}
+
+static bool has_ends(const struct ring *ring) {
+    return *field(ring, ENDED_HEAD) != *field(ring, ENDED_TAIL);
+}
+
+static int or_error(long answer) {
+    return answer < 0 ? -errno : (int)answer;
+}
+
+/* Begins a call. A write is made by that, unless it never comes back. */
+static void begin_call(struct ring *ring, const struct io_uring_sqe *call) {
+    bool never = false;
+    if (call->opcode == IORING_OP_READV) {
+        ring->read = *call, ring->reads = true;
+    } else if (call->opcode == IORING_OP_FSYNC) {
+        ring->flushed = or_error(call->fsync_flags & IORING_FSYNC_DATASYNC ? fdatasync(call->fd) : fsync(call->fd));
+        ring->flush = *call, ring->flushes = true;
+    } else {
+        int answer = or_error(write_or_lie(call->fd, (const void *)(uintptr_t)call->addr, call->len, (off_t)call->off, &never));
+        if (!never) end_call(ring, call, answer);
+    }
+}
+
+/* Ends the read, where something comes within so many milliseconds, or for -1 once it comes. */
+static void end_read(struct ring *ring, int milliseconds) {
+    if (!ring->reads || poll(&(struct pollfd){ring->read.fd, POLLIN, 0}, 1, milliseconds) <= 0) return;
+    end_call(ring, &ring->read, or_error(readv(ring->read.fd, (const struct iovec *)(uintptr_t)ring->read.addr, (int)ring->read.len)));
+    ring->reads = false;
+}
+
+static long enter(struct ring *ring, unsigned count, bool waits) {
+    unsigned head = *field(ring, GIVEN_HEAD), *places = field(ring, ENDS + (int)(2 * ring->entries * sizeof(struct io_uring_cqe)));
+    for (unsigned at = 0; at < count; at++) {
+        const struct io_uring_sqe call = ring->calls[places[(head + at) % ring->entries]];
+        begin_call(ring, &call);
+    }
+    *field(ring, GIVEN_HEAD) = head + count;
+    end_read(ring, ring->flushes && !has_ends(ring) ? A_WHILE : 0);
+    if (ring->flushes && !has_ends(ring)) end_call(ring, &ring->flush, ring->flushed), ring->flushes = false;
+    while (waits && !has_ends(ring)) {
+        if (!ring->reads) pause();
+        end_read(ring, -1);
+    }
+    return count;
+}
+
+bool answers_for_ring(long number, const long words[6], long *answer) {
+    if (number == SYS_io_uring_setup) {
+        *answer = getenv("LIE_RING") ? set_up((unsigned)words[0], (struct io_uring_params *)words[1]) : (errno = ENOSYS, -1);
+        return true;
+    }
+    struct ring *ring = number == SYS_io_uring_enter || number == SYS_io_uring_register ? ring_of((int)words[0]) : NULL;
+    if (ring) *answer = number == SYS_io_uring_enter ? enter(ring, (unsigned)words[1], words[2] > 0) : 0;
+    return ring != NULL;
+}
