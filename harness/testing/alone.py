@@ -45,10 +45,14 @@ def state(issued, floor, word):
     return front + fields + struct.pack(">4Q", *PLACE) + struct.pack(">Q4Q", floor, word, 0, 0, 0)
 
 
+def told(*notices):
+    """What `drive write` reads: the job file and these notices."""
+    return struct.pack(">I", len(JOB_FILE)) + JOB_FILE + b"".join(notices)
+
+
 def written(*notices):
-    """What `drive write` answers to the job file and these notices: its status, and its bytes."""
-    told = struct.pack(">I", len(JOB_FILE)) + JOB_FILE + b"".join(notices)
-    ran = subprocess.run([os.environ["DRIVE"], "write", str(RUN), str(JOB)], input=told, stdout=subprocess.PIPE)
+    """What `drive write` answers to that: its status, and its bytes."""
+    ran = subprocess.run([os.environ["DRIVE"], "write", str(RUN), str(JOB)], input=told(*notices), stdout=subprocess.PIPE)
     return ran.returncode, ran.stdout
 
 

@@ -12,6 +12,7 @@ mod map_servers;
 mod map_units;
 mod maps;
 mod reads;
+mod run_failures;
 mod runs;
 mod stamps;
 mod words;

@@ -2,13 +2,16 @@
 
 use super::inputs::Tell::*;
 use super::inputs::{TWO_BLOCKS, Tell, input_of, push_text};
+use super::map_inputs::Comes::{Byte, Sector as Bytes};
+use super::map_inputs::Sector::*;
+use super::map_inputs::{Comes, key_of, map_input};
 use super::stamps::{RUN, target_of};
 use fake_io::{Held, held_output, in_steps, source_of};
 use fc_base::{JobNo, RunNo};
 use std::alloc::Global;
 use std::io::BufReader;
 use std::test::Fail;
-use targets::{check_job, write_job};
+use targets::{check_job, map_job, write_job};
 
 /// What is told, how often the output is flushed where each byte comes by itself, and how many bytes are shown
 /// then: once before each notice is waited for, and once behind the state or the line of a refusal.
@@ -73,13 +76,70 @@ fn reports_are_flushed(rt: HostRuntime) -> Result<(), Fail> {
     }
 }
 
+/// What comes of a target in a full pass over both blocks, the status, and all that is shown once the
+/// map has ended.
+static MAPS: [(&[Comes], u8, &str); 4] = [
+    (
+        &[
+            Byte(1),
+            Bytes(Stamp(RUN, 0, 2, 0, 0)),
+            Byte(1),
+            Bytes(Stamp(RUN, 0, 3, 1, 0)),
+        ],
+        0,
+        "unchecked\nreport checked 2 faults 0 end whole first -\n",
+    ),
+    (
+        &[Byte(1), Bytes(Filled(0)), Byte(1), Bytes(Filled(0))],
+        1,
+        "block 0 unwritten: wants write 2\nblock 1 unwritten: wants write 3\n\
+         unchecked\nreport checked 2 faults 2 end whole first 0 1 unwritten 2\n",
+    ),
+    (
+        &[Byte(0)],
+        2,
+        "block 0 unread: wants write 2\n\
+         unchecked\nreport checked 0 faults 0 end read 1 first - unread 1\n",
+    ),
+    (
+        &[Byte(0), Byte(2)],
+        2,
+        "block 0 unread: wants write 2\nrefused 94 BadNotice\n",
+    ),
+];
+
+/// A map of a target, to this output.
+fn map(alloc: Global, target: &[Comes], output: &mut Held) -> Option<u8> {
+    let input = map_input(alloc, TWO_BLOCKS, &[], target)?;
+    map_job(alloc, key_of(RUN, 0), None, &mut source_of(&input), output).ok()
+}
+
+/// Whether a map ends with this status, just these lines are shown then, and nothing is kept back.
+fn shows_map(alloc: Global, target: &[Comes], status: u8, lines: &str) -> bool {
+    let mut output = held_output(alloc);
+    map(alloc, target, &mut output) == Some(status)
+        && output.held.is_empty()
+        && output.shown.as_slice() == lines.as_bytes()
+}
+
+#[test]
+fn maps_are_flushed(rt: HostRuntime) -> Result<(), Fail> {
+    for (target, status, lines) in &MAPS {
+        if !shows_map(rt.alloc(), target, *status, lines) {
+            return Err(Fail::new(*lines));
+        }
+    }
+    Ok(())
+}
+
 #[test]
 fn failed_flushes(rt: HostRuntime) -> Result<(), Fail> {
     let mut output = held_output(rt.alloc());
     output.fails = true;
     let written = write(rt.alloc(), &[Take], &mut output);
     let checked = check(rt.alloc(), &mut output);
-    if (written, checked) == (None, None) {
+    let mapped = map(rt.alloc(), &[Byte(0), Byte(0)], &mut output);
+    if (written, checked, mapped) == (None, None, None) {
         Ok(())
     } else {
         Err(Fail::new("a flush"))
