@@ -63,6 +63,7 @@ static void welcome_witness(const struct settings *settings, const struct target
     uint8_t bytes[WELCOME_BYTES];
     struct welcome welcome = {.size = target->size, .whole = target->whole, .flush = settings->flush, .cached = settings->opening.cached, .block_size = hello->region.block_size,
                               .blocks = hello->region.blocks};
+    tell_drive(target, welcome.drive), tell_boot(welcome.boot);
     if (!strcmp(target->cache, "write back")) welcome.cache = CACHE_WRITE_BACK;
     if (!strcmp(target->cache, "write through")) welcome.cache = CACHE_WRITE_THROUGH;
     write_welcome(bytes, &welcome);
@@ -135,11 +136,13 @@ static void read_for(const struct settings *settings, const struct hello *hello)
 
 int main(int count, char **words) {
     speak_as("drive-agent");
-    const struct settings settings = read_settings(count, words);
+    struct settings settings = read_settings(count, words);
     signal(SIGPIPE, SIG_IGN);
     if (settings.cpu) stay_on(number_of("--cpu", settings.cpu));
     also_tell_end(tell_refusal);
     struct hello hello = await_hello();
+    settings.opening.drive = *hello.drive ? hello.drive : NULL;
+    settings.opening.yes = settings.opening.yes || (hello.owns && settings.opening.drive);
     if (hello.writes) write_for(&settings, &hello);
     else read_for(&settings, &hello);
     return STATUS_SOUND;

@@ -22,7 +22,7 @@ struct child start_drive(const char *command, uint64_t run, const struct job *jo
     snprintf(run_word, sizeof run_word, "%" PRIu64, run);
     snprintf(job_word, sizeof job_word, "%" PRIu64, job->number);
     snprintf(unit_word, sizeof unit_word, "%" PRIu64, job->unit);
-    struct child child = start_child(own ? own : name, (char *[]){name, word, run_word, job_word, has_unit ? option : NULL, unit_word, NULL}, pipes);
+    struct child child = start_child(own ? own : name, (char *[]){name, word, run_word, job_word, has_unit ? option : NULL, unit_word, NULL}, pipes | CHILD_APART);
     feed(&child, job->text, job->text_length);
     return child;
 }

@@ -21,16 +21,18 @@ void write_hello(uint8_t bytes[HELLO_BYTES], const struct hello *hello) {
     const struct region *region = &hello->region;
     memcpy(bytes, HELLO_MAGIC, MAGIC);
     const uint64_t numbers[HELLO_NUMBERS] = {hello->writes,  hello->depth,    region->block_size, region->blocks, region->offset,
-                                             region->stride, hello->is_local, hello->run,         hello->job,     hello->text_length};
+                                             region->stride, hello->is_local, hello->run,         hello->job,     hello->text_length, hello->owns};
     put_numbers(bytes + MAGIC, numbers, HELLO_NUMBERS);
+    memcpy(bytes + MAGIC + 8 * HELLO_NUMBERS, hello->drive, MAX_DRIVE);
 }
 
 bool read_hello(const uint8_t bytes[HELLO_BYTES], struct hello *hello) {
     uint64_t numbers[HELLO_NUMBERS];
     if (memcmp(bytes, HELLO_MAGIC, MAGIC)) return false;
     take_numbers(bytes + MAGIC, numbers, HELLO_NUMBERS);
-    *hello = (struct hello){numbers[0] == 1, numbers[1], {numbers[2], numbers[3], numbers[4], numbers[5]}, numbers[6] == 1, numbers[7], numbers[8], numbers[9]};
-    return numbers[0] <= 1 && numbers[6] <= 1;
+    *hello = (struct hello){numbers[0] == 1, numbers[1], {numbers[2], numbers[3], numbers[4], numbers[5]}, numbers[6] == 1, numbers[7], numbers[8], numbers[9], "", numbers[10] == 1};
+    memcpy(hello->drive, bytes + MAGIC + 8 * HELLO_NUMBERS, MAX_DRIVE - 1);
+    return numbers[0] <= 1 && numbers[6] <= 1 && numbers[10] <= 1;
 }
 
 void write_welcome(uint8_t bytes[WELCOME_BYTES], const struct welcome *welcome) {
@@ -38,15 +40,18 @@ void write_welcome(uint8_t bytes[WELCOME_BYTES], const struct welcome *welcome) 
                                                welcome->flush,      welcome->cached, welcome->block_size, welcome->blocks};
     memcpy(bytes, WELCOME_MAGIC, MAGIC);
     put_numbers(bytes + MAGIC, numbers, WELCOME_NUMBERS);
-    memcpy(bytes + MAGIC + 8 * WELCOME_NUMBERS, welcome->why, MAX_WHY);
+    uint8_t *texts = bytes + MAGIC + 8 * WELCOME_NUMBERS;
+    memcpy(texts, welcome->why, MAX_WHY), memcpy(texts + MAX_WHY, welcome->drive, MAX_DRIVE);
+    memcpy(texts + MAX_WHY + MAX_DRIVE, welcome->boot, MAX_BOOT);
 }
 
 bool read_welcome(const uint8_t bytes[WELCOME_BYTES], struct welcome *welcome) {
     uint64_t numbers[WELCOME_NUMBERS];
     if (memcmp(bytes, WELCOME_MAGIC, MAGIC)) return false;
     take_numbers(bytes + MAGIC, numbers, WELCOME_NUMBERS);
-    *welcome = (struct welcome){numbers[0] != 0, numbers[1], numbers[2], (enum cache)(numbers[3] < 3 ? numbers[3] : 0), numbers[4], numbers[5] != 0, numbers[6], numbers[7], ""};
-    memcpy(welcome->why, bytes + MAGIC + 8 * WELCOME_NUMBERS, MAX_WHY);
-    welcome->why[MAX_WHY - 1] = 0;
+    *welcome = (struct welcome){numbers[0] != 0, numbers[1], numbers[2], (enum cache)(numbers[3] < 3 ? numbers[3] : 0), numbers[4], numbers[5] != 0, numbers[6], numbers[7], "", "", ""};
+    const uint8_t *texts = bytes + MAGIC + 8 * WELCOME_NUMBERS;
+    memcpy(welcome->why, texts, MAX_WHY - 1), memcpy(welcome->drive, texts + MAX_WHY, MAX_DRIVE - 1);
+    memcpy(welcome->boot, texts + MAX_WHY + MAX_DRIVE, MAX_BOOT - 1);
     return true;
 }

@@ -3,18 +3,18 @@
 #ifndef HELLO_H
 #define HELLO_H
 
+#include "identity.h"
 #include "region.h"
-#include "target.h"
 
 #include <stdbool.h>
 #include <stdint.h>
 
 /* The last byte of each magic is the version of all that goes over the link. */
-#define HELLO_MAGIC "FCHELLO2"
-#define WELCOME_MAGIC "FCAGENT2"
+#define HELLO_MAGIC "FCHELLO3"
+#define WELCOME_MAGIC "FCAGENT3"
 
-enum { MAGIC = 8, HELLO_NUMBERS = 10, WELCOME_NUMBERS = 8, MAX_WHY = 256 };
-enum { HELLO_BYTES = MAGIC + 8 * HELLO_NUMBERS, WELCOME_BYTES = MAGIC + 8 * WELCOME_NUMBERS + MAX_WHY };
+enum { MAGIC = 8, HELLO_NUMBERS = 11, WELCOME_NUMBERS = 8, MAX_WHY = 256 };
+enum { HELLO_BYTES = MAGIC + 8 * HELLO_NUMBERS + MAX_DRIVE, WELCOME_BYTES = MAGIC + 8 * WELCOME_NUMBERS + MAX_WHY + MAX_DRIVE + MAX_BOOT };
 
 /* The witness's: what it wants. */
 struct hello {
@@ -25,6 +25,10 @@ struct hello {
      * text of so many bytes, which follows. */
     bool is_local;
     uint64_t run, job, text_length;
+    /* The drive that it has to be, or nothing for any. Where it is that one, its bytes are these runs'
+     * own, and aren't looked at before it is written. */
+    char drive[MAX_DRIVE];
+    bool owns;
 };
 
 /* What a device says of its cache. */
@@ -40,6 +44,7 @@ struct welcome {
     bool cached;
     uint64_t block_size, blocks; /* those of the hello */
     char why[MAX_WHY];
+    char drive[MAX_DRIVE], boot[MAX_BOOT]; /* which drive it has, and the start of its machine */
 };
 
 void write_hello(uint8_t bytes[HELLO_BYTES], const struct hello *hello);

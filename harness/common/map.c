@@ -3,7 +3,6 @@
 #include "bytes.h"
 #include "drive.h"
 #include "kinds.h"
-#include "report.h"
 #include "say.h"
 
 #include <errno.h>
@@ -83,12 +82,10 @@ bool map_missed(struct map *map) {
     return write_all(map->drive.to, "", 1) == 0;
 }
 
-int await_map(struct map *map) {
+void await_map(struct map *map) {
     end_input(&map->drive);
     pthread_join(map->reader, NULL);
-    int status = wait_for(&map->drive);
-    if (status < 0) give_up("drive", "it was killed");
-    return status;
+    if (wait_for(&map->drive) < 0) give_up("drive", "it was killed");
 }
 
 const char *report_of_map(const struct map *map) {
@@ -96,13 +93,9 @@ const char *report_of_map(const struct map *map) {
     return end ? end + 1 : map->text;
 }
 
-int tell_map(const struct map *map, int status) {
-    const char *last = report_of_map(map);
-    if (isatty(STDOUT_FILENO) && !strncmp(last, "report ", 7)) print_picture(map->text, map->total);
-    fwrite(map->text, 1, (size_t)(last - map->text), stdout);
-    struct report report = {.status = status};
-    snprintf(report.text, sizeof report.text, "%s", last);
-    return tell_report(&report);
+void print_map(const struct map *map, bool as_picture) {
+    if (as_picture && isatty(STDOUT_FILENO) && !strncmp(report_of_map(map), "report ", 7)) print_picture(map->text, map->total);
+    fwrite(map->text, 1, map->length, stdout);
 }
 
 void free_map(struct map *map) {

@@ -29,12 +29,11 @@ void open_map(struct map *map, uint64_t run, const struct job *job, const struct
 bool map_blocks(struct map *map, const void *bytes, size_t length);
 bool map_missed(struct map *map);
 
-/* Ends its input, and waits for all that it says. Returns its status. Where a signal ended it, the
- * harness gives up. */
-int await_map(struct map *map);
+/* Ends its input, and waits for all that it says. Where a signal ended it, the harness gives up. */
+void await_map(struct map *map);
 
-/* Prints it, on a terminal behind a picture of the region. Returns the status that it comes to. */
-int tell_map(const struct map *map, int status);
+/* Prints it, on a terminal behind a picture of the region where that is asked for. */
+void print_map(const struct map *map, bool as_picture);
 
 /* The last line of what it said: the report, or why there is none. */
 const char *report_of_map(const struct map *map);

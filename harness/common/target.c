@@ -2,6 +2,7 @@
 
 #include "bytes.h"
 #include "contents.h"
+#include "identity.h"
 #include "say.h"
 
 #include <errno.h>
@@ -44,7 +45,7 @@ static int way_to_open(const struct opening *opening, bool writes, bool *is_new)
     how |= writes ? O_RDWR | (opening->cached || opening->flushed ? 0 : O_DSYNC) : O_RDONLY;
     struct stat is;
     *is_new = stat(opening->name, &is) != 0;
-    if (*is_new && (!writes || errno != ENOENT)) give_up_by_errno(opening->name);
+    if (*is_new && (!writes || errno != ENOENT || opening->drive)) give_up_by_errno(opening->name);
     if (*is_new) {
         refuse_below_dev(opening->name);
         return how | O_CREAT | O_EXCL;
@@ -75,6 +76,15 @@ static void lock_target(const struct target *target, bool writes) {
     }
 }
 
+/* Refuses another drive than the one that it has to be, where both are known. */
+static void refuse_other(const struct target *target, const char *wanted) {
+    char drive[MAX_DRIVE], why[MAX_DRIVE + 40];
+    tell_drive(target, drive);
+    if (!*drive || !strcmp(drive, wanted)) return;
+    snprintf(why, sizeof why, "it is another drive (%s)", drive);
+    give_up(target->name, why);
+}
+
 static struct target open_target(const struct opening *opening, bool writes, bool *is_new) {
     struct target target = {.name = opening->name, .is_direct = !opening->cached};
     struct stat is;
@@ -84,6 +94,7 @@ static struct target open_target(const struct opening *opening, bool writes, boo
     if (target.fd < 0 || fstat(target.fd, &is)) give_up_by_errno(target.name);
     lock_target(&target, writes);
     look_at(&target, &is);
+    if (opening->drive) refuse_other(&target, opening->drive);
     return target;
 }
 

@@ -14,6 +14,7 @@ struct opening {
     bool flushed; /* without O_DSYNC: who writes makes it keep what was written */
     bool yes;     /* over what it holds */
     bool torn;    /* also for blocks larger than what it writes whole */
+    const char *drive; /* the drive that it has to be, as `tell_drive` tells it; NULL: any */
 };
 
 struct target {

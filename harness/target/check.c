@@ -1,76 +1,56 @@
 #include "commands.h"
 
 #include "bytes.h"
-#include "drive.h"
+#include "identity.h"
 #include "map.h"
 #include "reading.h"
-#include "report.h"
 #include "say.h"
 #include "state.h"
+#include "verdict.h"
 
 #include <inttypes.h>
 
 /* What a target is checked by, and the target. */
 struct subject {
-    uint8_t state[MAX_STATE];
-    size_t length; /* of the state; 0 in a full pass */
-    uint64_t run;
+    struct kept kept; /* of no state in a full pass */
     struct region region;
     struct target target;
-    struct child drive;
     struct map map;
 };
 
 static void open_subject(struct subject *subject, const struct options *options, const struct job *job) {
     bool is_full = is_full_pass(options);
-    subject->length = is_full ? 0 : read_state(options->state, subject->state);
-    subject->run = options->run ? options->run : run_of_state(subject->state);
-    subject->region = is_full ? region_of(job, options->offset, options->stride) : region_of_state(options->state, job, options->offset, options->stride);
+    if (!is_full) read_kept(options->state, &subject->kept);
+    subject->region = is_full ? region_of(job, options->offset, options->stride) : region_to_check(options->state, &subject->kept, job, options->offset, options->stride);
+    if (options->run) subject->kept.run = options->run;
     subject->target = open_to_read(&options->opening);
+    char drive[MAX_DRIVE];
+    tell_drive(&subject->target, drive);
+    if (!options->other_drive) refuse_other_drive(options->state, &subject->kept, drive);
     if (subject->target.size < end_of(&subject->region))
         say("%s: it ends after %" PRIu64 " bytes, before the job's region does", subject->target.name, subject->target.size);
-}
-
-static void say_unread(const struct subject *subject, uint64_t block, const char *why) {
-    say("%s: block %" PRIu64 " can't be read: %s", subject->target.name, block, why);
-}
-
-static bool give_bytes(void *subject, const void *bytes, size_t length) {
-    return write_all(((const struct subject *)subject)->drive.to, bytes, length) == 0;
-}
-
-/* `drive` says where its bytes end; this says why. */
-static bool end_bytes(void *subject, uint64_t block, const char *why) {
-    say_unread(subject, block, why);
-    return false;
-}
-
-int check_target(const struct options *options, const struct job *job) {
-    static struct subject subject;
-    struct report report;
-    open_subject(&subject, options, job);
-    subject.drive = start_drive("check", subject.run, job, CHILD_READS | CHILD_WRITES);
-    feed(&subject.drive, subject.state, subject.length);
-    read_region(&subject.target, &subject.region, &(struct sink){&subject, give_bytes, end_bytes});
-    await_report(&subject.drive, &report);
-    return tell_report(&report);
 }
 
 static bool give_blocks(void *subject, const void *bytes, size_t length) {
     return map_blocks(&((struct subject *)subject)->map, bytes, length);
 }
 
-static bool pass_over(void *subject, uint64_t block, const char *why) {
-    say_unread(subject, block, why);
-    return map_missed(&((struct subject *)subject)->map);
+static bool pass_over(void *given, uint64_t block, const char *why) {
+    struct subject *subject = given;
+    say("%s: block %" PRIu64 " can't be read: %s", subject->target.name, block, why);
+    return map_missed(&subject->map);
 }
 
-int map_target(const struct options *options, const struct job *job) {
+int check_target(const struct options *options, const struct job *job) {
     static struct subject subject;
+    char boot[MAX_BOOT];
     open_subject(&subject, options, job);
-    open_map(&subject.map, subject.run, job, &subject.region, subject.state, subject.length);
+    open_map(&subject.map, subject.kept.run, job, &subject.region, subject.kept.state, subject.kept.length);
     read_region(&subject.target, &subject.region, &(struct sink){&subject, give_blocks, pass_over});
-    int status = tell_map(&subject.map, await_map(&subject.map));
+    await_map(&subject.map);
+    print_map(&subject.map, options->command == MAP);
+    tell_boot(boot);
+    int status = tell_verdict(&subject.map, options->state, &subject.kept, boot);
     free_map(&subject.map);
     return status;
 }

@@ -9,11 +9,8 @@
 /* Writes a job to a target, and keeps the state that is taken of it. */
 int write_target(const struct options *options, const struct job *job);
 
-/* Checks a target by a state, or in a full pass. */
+/* Checks a target by a state, or in a full pass, and tells of each faulty block what it holds. A block
+ * that can't be read costs no other. */
 int check_target(const struct options *options, const struct job *job);
-
-/* The same, and tells of each faulty block what it holds. A block that can't be read costs no
- * other. */
-int map_target(const struct options *options, const struct job *job);
 
 #endif

@@ -15,9 +15,5 @@ int main(int count, char **words) {
     if (options.cpu) stay_on(number_of("--cpu", options.cpu));
     struct job job = read_job(options.job_file, options.job);
     job.unit = options.unit;
-    switch (options.command) {
-    case WRITE: return write_target(&options, &job);
-    case CHECK: return check_target(&options, &job);
-    default: return map_target(&options, &job);
-    }
+    return options.command == WRITE ? write_target(&options, &job) : check_target(&options, &job);
 }

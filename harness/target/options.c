@@ -9,8 +9,9 @@
 
 static const char USAGE[] =
     "usage: drive-target write JOBFILE TARGET STATE [OPTIONS]     writes, and keeps the state in the file STATE\n"
-    "       drive-target check JOBFILE TARGET STATE|- [OPTIONS]   checks the target by that state; `-`: a full pass\n"
-    "       drive-target map JOBFILE TARGET STATE|- [OPTIONS]     the same, and tells what each faulty block holds\n"
+    "       drive-target check JOBFILE TARGET STATE|- [OPTIONS]   checks the target by that state, and tells what each faulty block\n"
+    "                                                             holds; `-`: a full pass\n"
+    "       drive-target map JOBFILE TARGET STATE|- [OPTIONS]     the same, on a terminal with a picture of the region\n"
     "  --job N           job N of the file, from 0\n"
     "write:\n"
     "  --after N         takes the state once N writes are done\n"
@@ -24,12 +25,12 @@ static const char USAGE[] =
     "  --torn            takes blocks that are larger than what the device writes whole\n"
     "check, map:\n"
     "  --run N           checks as run N, which a full pass has to say\n"
-    "map:\n"
     "  --unit BYTES      the target writes so many bytes whole, and not a block\n"
+    "  --other-drive     checks another drive than the one that the run wrote to, as one with a copy of it\n"
     "all:\n"
     "  --offset BYTES    where the first block begins, 0 else; --stride BYTES: from one block's front to the next\n"
     "  --cached          without O_DIRECT and O_DSYNC\n"
-    "FIOCUT and DRIVE name the two programs. It takes the state at SIGTERM and SIGINT, too.\n"
+    "FIOCUT and DRIVE name the two programs. It takes the state at SIGINT, SIGTERM and SIGHUP, too.\n"
     "status: 0; 1 the check found faults; 2 something failed or was refused; 3 the check checked no block\n";
 
 /* The command of this name, or 0. */
@@ -53,7 +54,8 @@ struct options read_options(int count, char **words) {
         {"--yes", 0, 0, &read.opening.yes, WRITE},
         {"--torn", 0, 0, &read.opening.torn, WRITE},
         {"--run", 0, &read.run, 0, CHECK | MAP},
-        {"--unit", 0, &read.unit, 0, MAP},
+        {"--unit", 0, &read.unit, 0, CHECK | MAP},
+        {"--other-drive", 0, 0, &read.other_drive, CHECK | MAP},
         {"--offset", 0, &read.offset, 0, WRITE | CHECK | MAP},
         {"--stride", 0, &read.stride, 0, WRITE | CHECK | MAP},
         {"--cached", 0, 0, &read.opening.cached, WRITE | CHECK | MAP},

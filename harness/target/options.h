@@ -18,6 +18,7 @@ struct options {
     uint64_t flush; /* 0: no write waits for a flush */
     uint64_t queue; /* 0: as many writes at once as the job's depth */
     uint64_t unit;  /* 0: a block */
+    bool other_drive; /* a check takes another drive than the run's */
 };
 
 /* Reads the command line. Where it can't be read, the harness says how it goes, or what is wrong,

@@ -29,8 +29,10 @@ static void refuse_old_trigger(const char *trigger) {
 }
 
 /* Has the state kept elsewhere, and has the power cut, where that is asked for. */
-static void keep_and_cut(const struct options *options, const struct drive *drive) {
-    if (options->keep && run_command(options->keep, drive->last, drive->last_length)) give_up(options->keep, "it didn't keep the state");
+static void keep_and_cut(const struct options *options, struct kept *kept) {
+    uint8_t bytes[MAX_KEPT];
+    size_t length = spell_kept(kept, bytes);
+    if (options->keep && run_command(options->keep, bytes, length)) give_up(options->keep, "it didn't keep the state");
     if (options->cut && run_command(options->cut, NULL, 0)) give_up(options->cut, "it didn't cut the power");
 }
 
@@ -63,23 +65,28 @@ int write_target(const struct options *options, const struct job *job) {
     static struct watch watch;
     struct region region = region_of(job, options->offset, options->stride);
     refuse_old_trigger(options->trigger);
+    refuse_place(options->state, options->job_file, options->opening.name);
     target = open_to_write(&options->opening, &region);
     warn_of_one_drive(options, &target);
-    uint64_t run = draw_number();
+    static struct kept kept;
+    kept = kept_of(draw_number(), job, &region);
+    tell_drive(&target, kept.drive), tell_boot(kept.boot);
     put_aside(options->state);
     hold_signals();
-    open_drive(&drive, run, job, options->after, way_of_orders(job->depth, options->opening.cached));
+    open_drive(&drive, kept.run, job, options->after, way_of_orders(job->depth, options->opening.cached));
     executor = (struct executor){.target = &target, .region = region, .depth = job->depth, .flush = options->flush, .queue = options->queue, .may_share = true, .orders = drive.child.from, .whose = &drive,
                                  .tell = tell_these, .tell_last = tell_last};
     watch = (struct watch){&drive, job, options->trigger};
     start_executor(&executor);
     start_watch(&watch);
     await_state(&drive); /* and not the writes that are still out: they are to be cut */
-    keep_state(options->state, drive.last, drive.last_length, &region);
+    kept.length = drive.last_length;
+    memcpy(kept.state, drive.last, kept.length);
+    keep_state(options->state, &kept);
     let_signals_through();
-    printf("run %" PRIu64 ": %" PRIu64 " writes were done\n", run, drive.done);
+    printf("run %" PRIu64 ": %" PRIu64 " writes were done\n", kept.run, drive.done);
     fflush(stdout);
-    keep_and_cut(options, &drive);
+    keep_and_cut(options, &kept);
     if (drive.failed) say("a write failed, and the state was taken there: %s", options->state);
     return drive.failed ? STATUS_FAILED : STATUS_SOUND;
 }

@@ -10,7 +10,7 @@ def harmed(what, change, faults):
     data = bytearray(read("t"))
     change(data)
     write("harmed", bytes(data))
-    check(what, "two.fio", "harmed", "s", faults)
+    check(what, "two.fio", "harmed", "s", faults, "--other-drive")
 
 
 def whole_runs():
@@ -22,7 +22,7 @@ def whole_runs():
     shutil.copy("t", "earlier")
     tell("the next run", run("write", "two.fio", "t", "s")[0], 0)
     old, new = read("earlier"), read("t")
-    check("the run before", "two.fio", "earlier", "s", list(range(64)))
+    check("the run before", "two.fio", "earlier", "s", list(range(64)), "--other-drive")
     harmed("one bit", lambda data: put(data, 5, bytes([new[5 * BLOCK + 777] ^ 4]), 777), [5])
     harmed("one sector", lambda data: put(data, 63, bytes(512), 3584), [63])
     harmed("one block", lambda data: put(data, 0, bytes(BLOCK)), [0])
@@ -60,14 +60,14 @@ def unreadable():
     whole_run()
     env = {"LD_PRELOAD": LIAR, "LIE_TARGET": "/t", "LIE_UNREADABLE": str(37 * BLOCK + 100)}
     status, printed, said = run("check", "two.fio", "t", "s", env=env)
-    tell("a block that can't be read", (status, printed), (2, report([], 37, "read 37")))
+    tell("a block that can't be read is a fault, and costs no other", (status, printed), (1, report([], 63)))
     tell_has("its number is told", said, "block 37 can't be read: Input/output error")
     data = bytearray(read("t"))
     put(data, 12, bytes(512))
     write("harmed", bytes(data))
-    status, printed, said = run("check", "two.fio", "harmed", "s", env={**env, "LIE_TARGET": "/harmed"})
-    tell("a fault before it", (status, printed), (2, report([12], 37, "read 37")))
+    status, printed, said = run("check", "two.fio", "harmed", "s", "--other-drive", env={**env, "LIE_TARGET": "/harmed"})
+    tell("a fault before it", (status, printed), (1, report([12], 63)))
     write("short", read("t")[:20000])
-    status, printed, said = run("check", "two.fio", "short", "s", "--cached")
-    tell("a target that ends early", (status, printed), (2, report([], 4, "read 4")))
+    status, printed, said = run("check", "two.fio", "short", "s", "--cached", "--other-drive")
+    tell("a target that ends early", (status, printed), (1, report([], 4)))
     tell_has("what is said of it", said, "it ends after 20000 bytes")

@@ -4,7 +4,7 @@ import os
 import shutil
 import subprocess
 
-from trying import QUIET, TARGET, check, job, report, run, skip, tell, write
+from trying import QUIET, TARGET, check, job, report, report_in, run, skip, tell, write
 
 
 def no_dev_fd():
@@ -14,7 +14,7 @@ def no_dev_fd():
         return skip("namespace", "a root without /dev/fd: this machine gives no namespace")
     for words in (["write", "two.fio", "apart", "as"], ["check", "two.fio", "apart", "as"]):
         ran = subprocess.run([*apart, TARGET, *words], capture_output=True, text=True)
-        tell(f"{words[0]} without /dev/fd", (ran.returncode, ran.stdout == report([])), (0, words[0] == "check"))
+        tell(f"{words[0]} without /dev/fd", (ran.returncode, report_in(words[0], ran.stdout) == report([])), (0, words[0] == "check"))
 
 
 def mounts():

@@ -109,7 +109,7 @@ def killed_writers(job_file, turns, *options):
         for file in ("ks", "ks.old", "trigger"):
             if os.path.exists(file):
                 os.remove(file)
-        write("ks", "of an earlier run")
+        write("ks", "FCV of an earlier run")
         ran = subprocess.Popen([TARGET, "write", job_file, "killed", "ks", "--trigger", "trigger", *options], **QUIET)
         await_file("ks.old")
         time.sleep(chance.uniform(0.01, 0.15))

@@ -4,7 +4,7 @@ import os
 import subprocess
 
 from trying import LIAR, QUIET, await_text, read, run, run_of, tell, tell_has, whole_run, write
-from witness import link, witness
+from witness import cycles_in, link, witness
 
 SYNCS = {"LD_PRELOAD": LIAR, "LIE_SYNCS": "1"}
 
@@ -14,8 +14,8 @@ def lines_of(log):
 
 
 def kept_in_order():
-    """That the state before is put aside is on the disk before the first write, the state before the
-    cut, and where the blocks lie before the state that goes by it."""
+    """That the state before is put aside is on the disk before the first write, and the state before the
+    cut."""
     whole_run()
     log = os.path.abspath("aside.log")
     tell("a second run", run("write", "two.fio", "t", "s", env={**SYNCS, "LIE_LOG": log, "LIE_TARGET": "/t"})[0], 0)
@@ -23,10 +23,6 @@ def kept_in_order():
     tell("the state before is put aside, and that is kept, before the first write", lines_of(log)[:first], [f"synced {os.getcwd()}"])
     tell("a run with a cut", run("write", "two.fio", "t", "s", "--cut", "cp s at-the-cut")[0], 0)
     tell("the state is kept before the cut", os.path.exists("at-the-cut") and read("at-the-cut") == read("s"), True)
-    log = os.path.abspath("apart.log")
-    tell("a run whose blocks lie apart", run("write", "two.fio", "apart", "as", "--offset", "8192", "--stride", "12288", env={**SYNCS, "LIE_LOG": log})[0], 0)
-    kept = [os.path.basename(line) for line in lines_of(log) if line.endswith(".new")]
-    tell("where they lie is kept before the state", kept, ["as.region.new", "as.new"])
 
 
 def stopped_witness():
@@ -45,7 +41,7 @@ def stopped_witness():
     tell("its check", (status, printed, "ss: No such file" in said), (2, "", True))
 
 
-OFF = ("--off", "kill -KILL $(cat agent)", "--on", "true", "--every", "0.2..0.2", "--seed", "7")
+OFF = ("--off", "kill -KILL $(cat agent)", "--on", "true", "--every", "0.2..0.2", "--seed", "7", "--trust-off")
 
 
 def kept_series():
@@ -53,11 +49,11 @@ def kept_series():
     block can't be read is no sound one."""
     log = os.path.abspath("series.log")
     status, printed, _ = witness("cycle", "long.fio", "series", *link("ct"), *OFF, "--cycles", "2", env={**SYNCS, "LIE_LOG": log})
-    tell("two cycles", (status, len(printed.splitlines())), (0, 2))
+    tell("two cycles", (status, len(cycles_in(printed))), (0, 2))
     lines, file = lines_of(log), os.path.abspath("series/cycles.json")
     behind = [lines[at + 1] for at, line in enumerate(lines[:-1]) if line == f"synced {file}"]
     tell("each line is synced, and its folder behind it", behind, [f"synced {os.path.dirname(file)}"] * 2)
-    env = {"LD_PRELOAD": LIAR, "LIE": "none:1", "LIE_TARGET": "/cu", "LIE_UNREADABLE": "0"}
+    env = {"LD_PRELOAD": LIAR, "LIE_TARGET": "/cu", "LIE_UNREADABLE": "0"}
     status, printed, said = witness("cycle", "two.fio", "unread", *link("cu"), *OFF, "--cycles", "2", "--keep-going", env=env)
-    tell("a cycle of which a block can't be read", (status, printed), (2, ""))
+    tell("cycles of which a block can't be read", (status, [it.partition(" checked, ")[2].partition(",")[0] for it in cycles_in(printed)]), (1, ["1 faults: unread 1"] * 2))
     tell_has("which block", said, "block 0 can't be read: Input/output error")

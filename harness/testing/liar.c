@@ -2,7 +2,7 @@
  *
  * LIE=KIND:EVERY[:FROM] harms each EVERYth write of a block, from the FROMth on. Kinds: lost; torn,
  * its first half alone; misdirected, to the block behind it; flipped, its last bit; late, behind
- * LIE_HELD further writes; failed, and not made; doubtful, failed but made; short, half of it
+ * LIE_HELD further writes; failed, and not made; fallen, failed once the file LIE_UNTIL is there; doubtful, failed but made; short, half of it
  * written and told; slow, it takes a while; stalled, it never comes back. LIE=cached:N is a drive with a volatile cache of
  * N blocks: each write is told at once, whatever O_DSYNC says, and another one, by chance, makes
  * room for it; LIE_FLUSHES has fdatasync empty it. As its process ends, it loses the rest.
@@ -89,6 +89,8 @@ static void let_go(void) {
 }
 
 static ssize_t lie(int fd, const void *bytes, size_t length, off_t at) {
+    const char *until = getenv("LIE_UNTIL");
+    if (!strcmp(kind, "fallen")) return until && access(until, F_OK) == 0 ? (errno = EIO, -1) : real_write(fd, bytes, length, at);
     if (!strcmp(kind, "lost")) return (ssize_t)length;
     if (!strcmp(kind, "torn")) return real_write(fd, bytes, length / 2, at), (ssize_t)length;
     if (!strcmp(kind, "misdirected")) return real_write(fd, bytes, length, at + (off_t)length), (ssize_t)length;

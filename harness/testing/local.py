@@ -7,11 +7,11 @@ import signal
 import subprocess
 import time
 
-from trying import HANG, LIAR, QUIET, WITNESS, await_file, await_that, comes, read, report, run_of, tell, tell_has, write
+from trying import HANG, LIAR, QUIET, WITNESS, await_file, await_that, comes, read, report, run_of, state_in, tell, tell_has, write
 from witness import PASS_ON, WELCOME, endless, faults_by, kill_agent, link, put_earlier_state, witness
 
 # What a hello takes of a link, and each notice.
-HELLO, NOTICE = 88, 16
+HELLO, NOTICE = 352, 16
 
 
 def local_runs():
@@ -23,7 +23,7 @@ def local_runs():
     data = bytearray(read("lt"))
     data[7 * 4096 + 9] ^= 1
     write("lh", bytes(data))
-    tell("one bit", witness("check", "two.fio", "ls", *link("lh"))[:2], (1, report([7])))
+    tell("one bit", witness("check", "two.fio", "ls", *link("lh"), "--other-drive")[:2], (1, report([7])))
     status, printed, _ = witness("write", "two.fio", "ls", "--local", "--after", "50", *link("lt"))
     tell("taken after 50", (status, " 50 told" in printed), (0, True))
     tell("no fault", witness("check", "two.fio", "ls", *link("lt"))[0], 0)
@@ -101,11 +101,10 @@ def local_caches():
                 os.remove(file)
         env = {**os.environ, "LD_PRELOAD": LIAR, "LIE": "cached:64", "LIE_LOG": os.path.abspath("log"), "LIE_TARGET": "/lc"}
         ran = subprocess.Popen([WITNESS, "write", "cache.fio", "ls", "--local", *link("lc")], env=env, **QUIET)
-        await_file("log")
-        time.sleep(0.4)
+        await_that(lambda: os.path.exists("log") and read("log").count(b"\n") > 1000, "a thousand writes")
         kill_agent()
         tell(f"a lying cache, turn {turn}", ran.wait(HANG), 0)
-        due = faults_by(read("log"), read("ls"), read("lc"), 512)
+        due = faults_by(read("log"), state_in("ls"), read("lc"), 512)
         status, printed, _ = witness("check", "cache.fio", "ls", *link("lc"))
         tell(f"a lying cache, turn {turn}: {len(due)} faults", (status, printed), (1, report(due, int(printed.split()[2]))))
         tell(f"a lying cache, turn {turn}: it lost some", bool(due), True)

@@ -4,7 +4,7 @@ import os
 import pty
 import subprocess
 
-from trying import BLOCK, HANG, LIAR, TARGET, job, put, read, report, run, run_of, stamp, tell, tell_has, write
+from trying import BLOCK, HANG, LIAR, TARGET, job, put, read, report, run, run_of, stamp, state_in, tell, tell_has, write
 from witness import counted, link, witness
 
 
@@ -82,7 +82,7 @@ def maps():
         ("drive-target", run("map", "two.fio", "mapped", "ms", env=env)),
         ("a witness", witness("map", "two.fio", "ms", *link("mapped"), env=env)),
     ):
-        tell(f"an unreadable block costs no other, by {what}", (status, printed), (2, mapped(due, 63, f"{KINDS} unread 1")))
+        tell(f"an unreadable block costs no other, by {what}", (status, printed), (1, mapped(due, 63, f"{KINDS} unread 1")))
         tell_has(f"and why, by {what}", said, "block 10 can't be read: Input/output error")
     write("killed", "#!/bin/sh\nkill -KILL $$\n")
     os.chmod("killed", 0o755)
@@ -111,7 +111,7 @@ def unchecked():
     """Blocks that no write has completed to are told as unchecked; and the kinds of a cycle."""
     env = {"LD_PRELOAD": LIAR, "LIE_LOG": "few-log", "LIE_TARGET": "/few"}
     tell("a few writes", run("write", job("few.fio", writes=64), "few", "fs2", "--after", "20", env=env)[0], 0)
-    _, done = counted(read("fs2"))
+    _, done = counted(state_in("fs2"))
     checked = {block for block, numbers in written(read("few-log")).items() if set(numbers) & done}
     extents = ""
     for block in range(64):
@@ -120,7 +120,7 @@ def unchecked():
             extents += f"-{block}" if block == 63 or block + 1 in checked else ""
     tell("blocks that aren't checked", run("map", "few.fio", "few", "fs2")[:2], (0, mapped({}, len(checked), "", extents)))
     env = {"LD_PRELOAD": LIAR, "LIE": "lost:3", "LIE_TARGET": "/cm"}
-    off = ("--off", "kill -KILL $(cat agent)", "--on", "true", "--every", "0.2..0.3", "--seed", "5")
+    off = ("--off", "kill -KILL $(cat agent)", "--on", "true", "--every", "0.2..0.3", "--seed", "5", "--trust-off")
     _, printed, _ = witness("cycle", "long.fio", "kinds", *link("cm"), *off, "--cycles", "1", "--json", env=env)
     row = json.loads(printed)
     tell("a cycle tells the kinds of its faults", (sum(row["kinds"].values()), row["kinds"].get("unwritten", 0) > 0), (row["faults"], True))
@@ -132,7 +132,7 @@ def units():
     env = {"LD_PRELOAD": LIAR, "LIE_TARGET": "/units"}
     words = ("write", job("unit.fio", blocks=8, writes=64, order="write", block_size=2 * BLOCK), "units", "us", "--torn", "--after", "20")
     tell("a run to be mapped by units", run(*words, env=env)[0], 0)
-    issued, done = counted(read("us"))
+    issued, done = counted(state_in("us"))
     number, flying = run_of("us"), next(it for it in range(issued) if it not in done and it - 8 in done)
     block, data = flying % 8, bytearray(read("units"))
     older, newer = (stamp(number, 0, it, block, 2 * BLOCK) for it in (flying - 8, flying))

@@ -2,7 +2,7 @@
 import os
 import subprocess
 
-from trying import LIAR, QUIET, TARGET, await_file, check, job, read, report, run, run_of, tell, tell_has, whole_run, write
+from trying import LIAR, QUIET, TARGET, await_file, check, job, read, report, run, run_of, state_in, tell, tell_has, whole_run, write
 
 
 def run_numbers():
@@ -84,12 +84,15 @@ def states():
     write("long state", bytes(5000))
     status, _, said = run("check", "two.fio", "t", "long state")
     tell("a state that is too long", (status, "too long" in said), (2, True))
-    write("cut", read("s")[:135])
+    write("cut", state_in("s")[:135])
     status, printed, _ = run("check", "two.fio", "t", "cut")
     tell("a state that is cut short", (status, printed), (2, "refused 30 Short\n"))
     job("larger.fio", blocks=32, writes=64, block_size=8192)
-    status, printed, _ = run("check", "larger.fio", "t", "s")
-    tell("another job", (status, printed), (2, "refused 37 OtherJob\n"))
+    status, printed, said = run("check", "larger.fio", "t", "s")
+    tell("another job", (status, printed, "another job file" in said), (2, "", True))
+    write("bare", state_in("s"))
+    tell("another job, by a bare state", run("check", "larger.fio", "t", "bare")[:2], (2, "refused 37 OtherJob\n"))
+    check("the job, by a bare state", "two.fio", "t", "bare", [])
     status, _, said = run("write", "two.fio", "kept", "ks", "--keep", "false", "--cut", "touch was-cut")
     tell("a state that isn't kept elsewhere: no cut", (status, os.path.exists("was-cut")), (2, False))
     status, _, said = run("write", "two.fio", "kept", "ks", "--keep", "cat >elsewhere", "--cut", "touch was-cut")
@@ -102,4 +105,4 @@ def states():
     tell("all writes fail", run("write", "none.fio", "none", "ns", env=env)[0], 2)
     status, printed, said = run("check", "none.fio", "none", "ns")
     tell("a check that checks nothing", (status, printed), (3, report([], 0)))
-    tell_has("what is said of it", said, "this is no verdict")
+    tell("its last line", run("check", "none.fio", "none", "ns", whole=True)[1].splitlines()[-1], "no verdict: by that state no block had to hold anything")

@@ -2,6 +2,7 @@
 counts."""
 import mmap
 import os
+import re
 import struct
 import subprocess
 import time
@@ -10,6 +11,7 @@ HERE = os.path.dirname(os.path.realpath(__file__))
 OUT = f"{os.path.dirname(HERE)}/out"
 TARGET, AGENT, WITNESS, LIAR = (f"{OUT}/{it}" for it in ("drive-target", "drive-agent", "drive-witness", "liar.so"))
 BLOCK = 4096
+REPORT = re.compile(r"^(report checked \d+ faults \d+ end (?:whole|fault|read \d+) first (?:-|\d+(?: \d+)*))(?: [a-z][^\n]*)?$", re.M)
 QUIET = {"stdout": subprocess.DEVNULL, "stderr": subprocess.DEVNULL}
 # How long is waited for what has to happen, in seconds: a limit that only a hang reaches.
 HANG = int(os.environ.get("HANG", 120))
@@ -45,9 +47,24 @@ def tell_has(what, text, part):
     tell(what, part if part in text else text, part)
 
 
-def run(*words, program=TARGET, **more):
-    """Runs drive-target, or another program: its status, what it printed, and what it said. One that
-    never ends is killed, and has no status."""
+def report_in(word, printed):
+    """Of what a check or a map printed: the line of its report without the kinds, or all up to it. Where
+    there is none, what `drive` said in its place."""
+    found = REPORT.search(printed)
+    if not found:
+        return printed.replace("not checked whole\n", "")
+    return f"{found[1]}\n" if word == "check" else printed[: found.end() + 1]
+
+
+def run(*words, program=TARGET, whole=False, **more):
+    """Runs drive-target, or another program: its status, what it printed, and what it said; of a check
+    its report alone, unless the whole is asked for. One that never ends is killed, and has no status."""
+    status, printed, said = run_whole(*words, program=program, **more)
+    is_report = not whole and program in (TARGET, WITNESS) and words and words[0] in ("check", "map")
+    return status, report_in(words[0], printed) if is_report else printed, said
+
+
+def run_whole(*words, program, **more):
     env = {**os.environ, **more.pop("env", {})}
     try:
         ran = subprocess.run([program, *words], capture_output=True, text=True, errors="replace", env=env, stdin=subprocess.DEVNULL, timeout=HANG, **more)
@@ -80,9 +97,16 @@ def stamp(run_number, job_number, number, block, block_size=BLOCK, server=0):
     return b"".join(front + struct.pack(">I", sector) + tail for sector in range(block_size // 512))
 
 
+def state_in(path):
+    """The bare state in a file that keeps one: its last bytes, as many as a line says."""
+    data = read(path)
+    found = re.search(rb"^state (\d+)\n\n", data, re.M)
+    return data[-int(found[1]) :] if data.startswith(b"fiocut state 1\n") else data
+
+
 def run_of(state):
     """The run that a state is of, or None where there is none."""
-    return struct.unpack(">Q", read(state)[4:12])[0] if os.path.exists(state) else None
+    return struct.unpack(">Q", state_in(state)[4:12])[0] if os.path.exists(state) else None
 
 
 def report(faults, checked=64, end="whole"):

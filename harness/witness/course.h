@@ -26,8 +26,9 @@ struct course {
     uint64_t goal; /* the state is taken once so many writes are told */
     uint64_t began, last_heard, next_line, told_before;
     uint64_t cut_at; /* 0: no cut, or it was begun */
-    /* The command that cuts has begun; its process is 0 once it has ended. */
+    /* The command that cuts has begun; its process is 0 once it has ended, at that moment. */
     bool is_off;
+    uint64_t off_ended;
     bool is_taken, is_over;
 };
 

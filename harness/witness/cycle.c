@@ -1,12 +1,13 @@
 #include "commands.h"
 
-#include "bytes.h"
 #include "folder.h"
 #include "map.h"
 #include "say.h"
+#include "verdict.h"
 
 #include <inttypes.h>
 #include <stdio.h>
+#include <string.h>
 #include <unistd.h>
 
 /* splitmix64: a number that depends on the seed and the cycle alone, so that a series which is
@@ -18,11 +19,6 @@ static uint64_t drawn(uint64_t seed, uint64_t cycle) {
     return x ^ (x >> 31);
 }
 
-/* Reads the numbers of a report's line; a refusal has none. */
-static bool read_report(struct cycle *cycle) {
-    return sscanf(cycle->report.text, "report checked %" SCNu64 " faults %" SCNu64, &cycle->checked, &cycle->faults) == 2;
-}
-
 /* Keeps what is told of each faulty block, and the report. */
 static void keep_report(const struct folder *folder, const struct cycle *cycle, const struct map *map) {
     char name[PATH_MAX];
@@ -31,70 +27,95 @@ static void keep_report(const struct folder *folder, const struct cycle *cycle, 
     if (!kept || fputs(map->text, kept) < 0 || fflush(kept) || fsync(fileno(kept)) || fclose(kept)) give_up_by_errno(name);
 }
 
-/* Gives the power back, and checks. Returns whether there is a report of the whole region: no
- * checked block of it that couldn't be read. */
-static bool check_cycle(const struct options *options, const struct job *job, const struct region *region, const struct folder *folder, struct cycle *cycle) {
-    const struct hello hello = {.depth = job->depth, .region = *region};
-    if (run_command(options->on, NULL, 0)) give_up(options->on, "it didn't give the power back");
-    struct link link = open_link(options->link, &hello, job, options->wait);
-    static struct map map;
-    cycle->report.status = map_job(job, &link, cycle->tally.state, cycle->tally.state_length, &map);
-    snprintf(cycle->report.text, sizeof cycle->report.text, "%s", report_of_map(&map));
-    keep_report(folder, cycle, &map);
-    kinds_of(cycle->report.text, cycle->kinds);
-    free_map(&map);
-    bool is_whole = cycle->report.status == STATUS_SOUND || cycle->report.status == STATUS_FAULTS;
-    return read_report(cycle) && is_whole;
+/* What shows that the power was cut. Until the machine is there again, its old start is known
+ * alone. */
+static enum cut shown_cut(const struct options *options, const struct tally *tally, const char *before, const char *behind) {
+    if (!tally->is_cut || tally->was_early) return NO_CUT;
+    if (*before && *behind && strcmp(before, behind)) return CUT_BY_START;
+    if (options->drive_only && tally->has_fallen) return CUT_BY_FALL;
+    return options->trust_off ? CUT_BY_WORD : NO_CUT;
 }
 
-/* Writes, and has the power cut. */
-static void write_cycle(const struct options *options, const struct job *job, const struct region *region, const struct folder *folder, struct cycle *cycle) {
-    const struct hello hello = hello_to_write(options, job, region);
+/* Gives the power back, and checks. Returns whether there is a report of the whole region. */
+static bool check_cycle(const struct options *options, const struct job *job, const struct region *region, const struct folder *folder, const struct kept *kept, struct cycle *cycle) {
+    static struct map map;
+    struct welcome welcome;
+    if (run_command(options->on, NULL, 0)) give_up(options->on, "it didn't give the power back");
+    check_by_link(options, job, region, kept, &map, &welcome);
+    cycle->cut = shown_cut(options, &cycle->tally, kept->boot, welcome.boot);
+    keep_report(folder, cycle, &map);
+    const struct verdict verdict = verdict_of(&map);
+    cycle->checked = verdict.checked, cycle->faults = verdict.faults;
+    memcpy(cycle->kinds, verdict.kinds, sizeof cycle->kinds);
+    if (!verdict.is_report) fputs(report_of_map(&map), stderr);
+    free_map(&map);
+    return verdict.is_report;
+}
+
+/* Writes, and has the power cut. What is stopped before that leaves no state. */
+static void write_cycle(const struct options *options, const struct job *job, const struct region *region, struct folder *folder, struct kept *kept, struct cycle *cycle) {
+    struct hello hello = hello_to_write(options, job, region);
     char name[PATH_MAX];
+    hello.owns = *folder->drive;
+    if (!options->other_drive) memcpy(hello.drive, folder->drive, MAX_DRIVE);
+    take_room(folder);
     struct link link = open_link(options->link, &hello, job, options->wait);
-    if (cycle->number == 1) tell_welcome(&link);
+    if (!*folder->drive || strcmp(folder->drive, link.welcome.drive)) {
+        tell_welcome(&link);
+        keep_drive(folder, link.welcome.drive);
+    }
     cycle->cut_after = options->least + drawn(folder->seed, cycle->number) % (options->most - options->least + 1);
     cycle->tally = run_job(options, job, &link, cycle->cut_after ? cycle->cut_after : 1);
-    name_of(folder, cycle->number, "state", name);
-    keep_state(name, cycle->tally.state, cycle->tally.state_length, region);
+    *kept = kept_by(&cycle->tally, job, &link);
+    give_room(folder);
+    name_of(folder, cycle->number, cycle->tally.is_cut || cycle->tally.failed ? "state" : "stopped", name);
+    keep_state(name, kept);
 }
 
-/* A cycle whose state was kept, and which was stopped before its check: it is checked first. */
-static bool has_unchecked(const struct folder *folder, struct cycle *cycle) {
+/* A cycle whose state was kept, and which was stopped before its check: it is checked first. What it
+ * had ordered, and was told, its state says. */
+static bool has_unchecked(const struct folder *folder, struct kept *kept, struct cycle *cycle) {
     char name[PATH_MAX];
     name_of(folder, cycle->number, "state", name);
     if (access(name, F_OK)) return false;
-    cycle->tally.state_length = read_state(name, cycle->tally.state);
-    cycle->tally.run = run_of_state(cycle->tally.state);
+    read_kept(name, kept);
+    cycle->tally.run = kept->run, cycle->tally.is_cut = true;
+    count_state(kept, &cycle->tally.ordered, &cycle->tally.told);
     return true;
 }
 
-static int end_series(const struct folder *folder, int status) {
-    say("%" PRIu64 " cycles, %" PRIu64 " with faults, %" PRIu64 " with nothing to check", folder->cycles, folder->faulty, folder->unchecked);
-    if (status) return status;
-    if (folder->faulty) return STATUS_FAULTS;
-    return folder->cycles == folder->unchecked ? STATUS_NO_VERDICT : STATUS_SOUND;
+/* Prints what the series comes to, and what that says of the drive. */
+static int end_series(const struct folder *folder, int status, bool json) {
+    const struct totals *totals = &folder->totals;
+    FILE *to = json ? stderr : stdout;
+    char cuts[160];
+    snprintf(cuts, sizeof cuts, "%" PRIu64 " cuts%s, %" PRIu64 " with writes in flight (%" PRIu64 " in all), %" PRIu64 " cycles without a cut", totals->cuts, totals->trusted ? " by the word of --off" : "", totals->flying_cuts, totals->in_flight,
+             totals->cycles - totals->cuts);
+    if (!status) status = totals->faulty ? STATUS_FAULTS : totals->cuts && totals->checked ? STATUS_SOUND : STATUS_NO_VERDICT;
+    if (totals->faulty) fprintf(to, "faults: %" PRIu64 " of %" PRIu64 " blocks checked, in %" PRIu64 " of %" PRIu64 " cycles; %s\n", totals->faults, totals->checked, totals->faulty, totals->cycles, cuts);
+    else if (status == STATUS_SOUND) fprintf(to, "sound: %" PRIu64 " blocks checked, 0 faults; %s\n", totals->checked, cuts);
+    else fprintf(to, "%s: %" PRIu64 " blocks checked, 0 faults; %s\n", status == STATUS_NO_VERDICT ? "no verdict" : "not checked whole", totals->checked, cuts);
+    if (!totals->faulty && totals->flying_cuts) fprintf(to, "0 of %" PRIu64 " cuts with writes in flight: with 95 %% fewer than 3 in %" PRIu64 " such cuts lose a write\n", totals->flying_cuts, totals->flying_cuts);
+    if (fflush(to)) give_up_by_errno("standard output");
+    return status;
 }
 
 int cycle_by_agent(const struct options *options, const struct job *job) {
     const struct region region = region_of(job, options->offset, options->stride);
     struct folder folder = open_folder(options, job, &region);
-    while (!options->cycles || folder.cycles < options->cycles) {
+    if (options->resume && run_command(options->on, NULL, 0)) give_up(options->on, "it didn't give the power back");
+    while (!options->cycles || folder.totals.cycles < options->cycles) {
         static struct cycle cycle;
-        cycle = (struct cycle){.number = folder.cycles + 1};
-        bool is_stopped = false;
-        if (!has_unchecked(&folder, &cycle)) {
-            write_cycle(options, job, &region, &folder, &cycle);
-            is_stopped = !cycle.tally.is_cut && !cycle.tally.failed;
+        static struct kept kept;
+        cycle = (struct cycle){.number = folder.totals.cycles + 1};
+        if (!has_unchecked(&folder, &kept, &cycle)) {
+            write_cycle(options, job, &region, &folder, &kept, &cycle);
+            if (!cycle.tally.is_cut && !cycle.tally.failed) break; /* (it was stopped) */
         }
-        if (is_stopped) return end_series(&folder, STATUS_SOUND);
-        if (!check_cycle(options, job, &region, &folder, &cycle)) {
-            fputs(cycle.report.text, stderr);
-            return end_series(&folder, STATUS_FAILED);
-        }
+        if (!check_cycle(options, job, &region, &folder, &kept, &cycle)) return end_series(&folder, STATUS_FAILED, options->json);
         keep_cycle(&folder, &cycle, options->json);
-        if (cycle.tally.failed) return end_series(&folder, STATUS_FAILED);
+        if (cycle.tally.failed) return end_series(&folder, STATUS_FAILED, options->json);
         if (cycle.faults && !options->keep_going) break;
     }
-    return end_series(&folder, STATUS_SOUND);
+    return end_series(&folder, STATUS_SOUND, options->json);
 }

@@ -1,6 +1,7 @@
 #include "folder.h"
 
 #include "bytes.h"
+#include "keeping.h"
 #include "say.h"
 #include "state.h"
 
@@ -11,11 +12,12 @@
 #include <stdlib.h>
 #include <string.h>
 #include <sys/stat.h>
+#include <time.h>
 #include <unistd.h>
 
-enum { MAX_LINE = 512, MAX_SETTINGS = 1 << 17 };
+enum { MAX_LINE = 1024, MAX_SETTINGS = 1 << 17, MAX_ROOM = 1 << 20 };
 
-static const char LINES[] = "cycles.json", SETTINGS[] = "settings";
+static const char LINES[] = "cycles.json", SETTINGS[] = "settings", DRIVE[] = "drive", ROOM[] = "room";
 
 void name_of(const struct folder *folder, uint64_t cycle, const char *ending, char name[PATH_MAX]) {
     int length = snprintf(name, PATH_MAX, "%s/cycle-%06" PRIu64 ".%s", folder->path, cycle, ending);
@@ -34,21 +36,75 @@ static size_t settings_of(const struct job *job, const struct region *region, ui
     return (size_t)front + job->text_length;
 }
 
-/* Counts the cycles that are over, by their lines. */
+/* The number behind a name in a line, or 0. */
+static uint64_t number_in(const char *line, const char *name) {
+    const char *found = strstr(line, name);
+    return found ? strtoull(found + strlen(name), NULL, 10) : 0;
+}
+
+static void count_cycle(struct totals *totals, uint64_t checked, uint64_t faults, enum cut cut, uint64_t flying) {
+    totals->cycles++;
+    totals->checked += checked, totals->faults += faults;
+    totals->faulty += faults > 0, totals->unchecked += checked == 0;
+    totals->cuts += cut != NO_CUT, totals->trusted += cut == CUT_BY_WORD;
+    totals->flying_cuts += cut != NO_CUT && flying, totals->in_flight += cut != NO_CUT ? flying : 0;
+}
+
+/* What a line says of its cut. */
+static const char *const SHOWN[] = {"none", "word", "fall", "start"};
+
+static enum cut cut_in(const char *line) {
+    const char *found = strstr(line, "\"cut\": \"");
+    for (int cut = CUT_BY_START; found && cut > NO_CUT; cut--)
+        if (!strncmp(found + 8, SHOWN[cut], strlen(SHOWN[cut]))) return (enum cut)cut;
+    return NO_CUT;
+}
+
+/* Counts the cycles that are over, by their lines. A line that was cut short is of a cycle that isn't
+ * over, and is taken away. */
 static void count_cycles(struct folder *folder) {
     char name[PATH_MAX], line[MAX_LINE];
     name_file(folder, LINES, name);
-    FILE *lines = fopen(name, "r");
+    FILE *lines = fopen(name, "r+");
+    long end = 0;
     if (!lines && errno != ENOENT) give_up_by_errno(name);
-    while (lines && fgets(line, sizeof line, lines)) {
-        const char *checked = strstr(line, "\"checked\": "), *faults = strstr(line, "\"faults\": ");
-        /* (cut short when it was written: that cycle isn't over) */
-        if (!strchr(line, '\n') || !checked || !faults) break;
-        folder->cycles++;
-        folder->faulty += strtoull(faults + 10, NULL, 10) > 0;
-        folder->unchecked += strtoull(checked + 11, NULL, 10) == 0;
+    while (lines && fgets(line, sizeof line, lines) && strchr(line, '\n')) {
+        count_cycle(&folder->totals, number_in(line, "\"checked\": "), number_in(line, "\"faults\": "), cut_in(line), number_in(line, "\"in_flight\": "));
+        end = ftell(lines);
     }
+    if (lines && (ftruncate(fileno(lines), end) || fsync(fileno(lines)))) give_up_by_errno(name);
     if (lines) fclose(lines);
+}
+
+static void read_drive(struct folder *folder) {
+    char name[PATH_MAX];
+    name_file(folder, DRIVE, name);
+    ssize_t length = read_file(name, folder->drive, sizeof folder->drive - 1);
+    if (length < 0 && errno != ENOENT) give_up_by_errno(name);
+    folder->drive[length < 0 ? 0 : length] = 0;
+    folder->drive[strcspn(folder->drive, "\n")] = 0;
+}
+
+void keep_drive(struct folder *folder, const char drive[MAX_DRIVE]) {
+    char name[PATH_MAX], line[MAX_DRIVE + 2];
+    name_file(folder, DRIVE, name);
+    snprintf(folder->drive, sizeof folder->drive, "%s", drive);
+    keep_file(name, line, (size_t)snprintf(line, sizeof line, "%s\n", drive));
+}
+
+void take_room(const struct folder *folder) {
+    char name[PATH_MAX];
+    name_file(folder, ROOM, name);
+    int fd = open(name, O_WRONLY | O_CREAT | O_CLOEXEC, 0644);
+    int error = fd < 0 ? errno : posix_fallocate(fd, 0, MAX_ROOM);
+    if (error) give_up(name, strerror(error));
+    close(fd);
+}
+
+void give_room(const struct folder *folder) {
+    char name[PATH_MAX];
+    name_file(folder, ROOM, name);
+    unlink(name);
 }
 
 static void keep_settings(const struct folder *folder, const char *name, const char *text, size_t length) {
@@ -73,28 +129,31 @@ struct folder open_folder(const struct options *options, const struct job *job, 
     if (sscanf(kept, "seed %" SCNu64, &folder.seed) != 1) give_up(name, "it says no seed");
     if ((size_t)length != settings_of(job, region, folder.seed, text) || memcmp(text, kept, (size_t)length)) give_up(name, "that series has another job or region");
     count_cycles(&folder);
+    read_drive(&folder);
     return folder;
 }
 
 /* The kinds of a cycle's faults as an object of JSON. */
-static void spell_kinds(const char *kinds, char text[MAX_LINE / 2]) {
+static void spell_kinds(const char *kinds, char text[MAX_LINE / 4]) {
     size_t length = 0;
     char kind[32];
     uint64_t count;
     int used;
     for (; sscanf(kinds, " %31s %" SCNu64 "%n", kind, &count, &used) == 2; kinds += used)
-        length += (size_t)snprintf(text + length, MAX_LINE / 2 - length, "%s\"%s\": %" PRIu64, length ? ", " : "", kind, count);
+        length += (size_t)snprintf(text + length, MAX_LINE / 4 - length, "%s\"%s\": %" PRIu64, length ? ", " : "", kind, count);
     text[length] = 0;
 }
 
 static size_t line_of(const struct cycle *cycle, char line[MAX_LINE]) {
     const struct tally *tally = &cycle->tally;
-    char kinds[MAX_LINE / 2];
+    char kinds[MAX_LINE / 4], when[32];
+    time_t now = time(NULL);
     spell_kinds(cycle->kinds, kinds);
+    strftime(when, sizeof when, "%Y-%m-%dT%H:%M:%SZ", gmtime(&now));
     return (size_t)snprintf(line, MAX_LINE,
-                            "{\"cycle\": %" PRIu64 ", \"run\": \"%" PRIu64 "\", \"cut_after\": %.3f, \"seconds\": %.3f, \"cut\": %s, \"ordered\": %" PRIu64
+                            "{\"cycle\": %" PRIu64 ", \"run\": \"%" PRIu64 "\", \"time\": \"%s\", \"cut_after\": %.3f, \"seconds\": %.3f, \"cut\": \"%s\", \"ordered\": %" PRIu64
                             ", \"told\": %" PRIu64 ", \"failed\": %" PRIu64 ", \"in_flight\": %" PRIu64 ", \"checked\": %" PRIu64 ", \"faults\": %" PRIu64 ", \"kinds\": {%s}}\n",
-                            cycle->number, tally->run, (double)cycle->cut_after / 1000, (double)tally->milliseconds / 1000, tally->is_cut ? "true" : "false", tally->ordered,
+                            cycle->number, tally->run, when, (double)cycle->cut_after / 1000, (double)tally->milliseconds / 1000, SHOWN[cycle->cut], tally->ordered,
                             tally->told, tally->failed, in_flight(tally), cycle->checked, cycle->faults, kinds);
 }
 
@@ -105,13 +164,11 @@ void keep_cycle(struct folder *folder, const struct cycle *cycle, bool json) {
     name_file(folder, LINES, name);
     int fd = open(name, O_WRONLY | O_CREAT | O_APPEND | O_CLOEXEC, 0644);
     if (fd < 0 || write_all(fd, line, length) || fsync(fd) || close(fd) || sync_folder(name)) give_up_by_errno(name);
-    folder->cycles++;
-    folder->faulty += cycle->faults > 0;
-    folder->unchecked += cycle->checked == 0;
+    count_cycle(&folder->totals, cycle->checked, cycle->faults, cycle->cut, in_flight(tally));
     if (json) fputs(line, stdout);
     else
-        printf("cycle %" PRIu64 ": run %" PRIu64 ", %" PRIu64 " ordered, %" PRIu64 " told, %" PRIu64 " in flight, %" PRIu64 " checked, %" PRIu64 " faults%s%s, %.1f s\n",
+        printf("cycle %" PRIu64 ": run %" PRIu64 ", %" PRIu64 " ordered, %" PRIu64 " told, %" PRIu64 " in flight, %" PRIu64 " checked, %" PRIu64 " faults%s%s%s, %.1f s\n",
                cycle->number, tally->run, tally->ordered, tally->told, in_flight(tally), cycle->checked, cycle->faults, *cycle->kinds ? ": " : "", cycle->kinds,
-               (double)tally->milliseconds / 1000);
+               cycle->cut == NO_CUT ? ", no cut" : "", (double)tally->milliseconds / 1000);
     fflush(stdout);
 }

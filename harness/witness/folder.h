@@ -1,39 +1,55 @@
-/* The folder of a series of cycles: its settings, and of each cycle the state, the report and a
- * line. */
+/* The folder of a series of cycles: its settings, which drive it is of, and of each cycle the state,
+ * the report and a line. */
 #ifndef FOLDER_H
 #define FOLDER_H
 
 #include "job.h"
 #include "kinds.h"
 #include "options.h"
-#include "report.h"
 #include "run.h"
 
 #include <limits.h>
+
+/* What showed that the power was cut, weakest first. */
+enum cut { NO_CUT, CUT_BY_WORD, CUT_BY_FALL, CUT_BY_START };
 
 /* A cycle that is over. */
 struct cycle {
     uint64_t number, cut_after;
     struct tally tally;
-    struct report report;
+    enum cut cut;
     uint64_t checked, faults;
     char kinds[KIND_WORDS]; /* of the faults, and how many of each: `lost 4 torn 1` */
 };
 
+/* What all cycles of a series come to that are over. */
+struct totals {
+    uint64_t cycles, checked, faults;
+    uint64_t faulty, unchecked;        /* cycles that had faults, and that had nothing to check */
+    uint64_t cuts, trusted;            /* cycles with a cut, and those of them by the word of --off alone */
+    uint64_t flying_cuts, in_flight;   /* cuts with writes in flight, and these writes in all */
+};
+
 struct folder {
     const char *path;
-    uint64_t seed;  /* by which the moments of the cuts are drawn */
-    uint64_t cycles; /* how many are over */
-    /* Of these, how many had faults, and how many had nothing to check. */
-    uint64_t faulty, unchecked;
+    uint64_t seed; /* by which the moments of the cuts are drawn */
+    char drive[MAX_DRIVE]; /* the drive that its first cycle wrote to; nothing before that */
+    struct totals totals;
 };
 
 /* Makes the folder, or opens it again with --resume, which wants the job file, the region and the
  * seed of its beginning. */
 struct folder open_folder(const struct options *options, const struct job *job, const struct region *region);
 
+/* Keeps which drive it is of. */
+void keep_drive(struct folder *folder, const char drive[MAX_DRIVE]);
+
 /* The name of a file of a cycle. */
 void name_of(const struct folder *folder, uint64_t cycle, const char *ending, char name[PATH_MAX]);
+
+/* Takes room for what a cycle keeps, before its power is cut; and gives it back, for that. */
+void take_room(const struct folder *folder);
+void give_room(const struct folder *folder);
 
 /* Keeps the line of a cycle that is over, counts it, and prints it. */
 void keep_cycle(struct folder *folder, const struct cycle *cycle, bool json);

@@ -10,8 +10,8 @@
 #include <string.h>
 #include <unistd.h>
 
-/* Reads so many bytes, for so long at most. Returns how many came. */
-static size_t read_until(int fd, uint8_t *bytes, size_t length, uint64_t until) {
+size_t read_until(int fd, void *given, size_t length, uint64_t until) {
+    uint8_t *bytes = given;
     size_t have = 0;
     while (have < length) {
         uint64_t now = milliseconds();
@@ -42,26 +42,39 @@ static uint64_t end_of_start(uint64_t until) {
     return one < until ? one : until;
 }
 
-struct link open_link(const char *command, const struct hello *hello, const struct job *job, uint64_t seconds) {
+/* Whether what an agent refuses is worth another try: its target may still be in use, or, where it
+ * was there before, not be there yet. */
+static bool may_change(const char *why, const struct hello *hello) {
+    return strstr(why, "in use") || strstr(why, "at work") || (*hello->drive && !strstr(why, "another drive"));
+}
+
+bool try_link(struct link *link, const char *command, const struct hello *hello, const struct job *job, uint64_t until, char why[MAX_WHY]) {
     uint8_t said[HELLO_BYTES], heard[WELCOME_BYTES];
-    uint64_t until = milliseconds() + seconds * 1000;
-    const char *why;
-    struct link link = {.hello = *hello};
+    *link = (struct link){.hello = *hello};
     write_hello(said, hello);
+    why[0] = 0;
     do {
-        link.child = start_command(command, CHILD_READS | CHILD_WRITES | CHILD_APART);
-        write_all(link.child.to, said, sizeof said); /* (where nobody reads it, nobody answers) */
-        if (hello->is_local) write_all(link.child.to, job->text, job->text_length);
-        size_t have = read_until(link.child.from, heard, sizeof heard, end_of_start(until));
-        bool is_agent = have == sizeof heard && read_welcome(heard, &link.welcome);
-        if (is_agent && is_welcome(&link.welcome, hello)) return link;
+        link->child = start_command(command, CHILD_READS | CHILD_WRITES | CHILD_APART);
+        write_all(link->child.to, said, sizeof said); /* (where nobody reads it, nobody answers) */
+        if (hello->is_local) write_all(link->child.to, job->text, job->text_length);
+        size_t have = read_until(link->child.from, heard, sizeof heard, end_of_start(until));
+        bool is_agent = have == sizeof heard && read_welcome(heard, &link->welcome);
+        if (is_agent && is_welcome(&link->welcome, hello)) return true;
         if (have >= MAGIC && memcmp(heard, WELCOME_MAGIC, MAGIC)) give_up("the link", "what answers there is no agent of this version");
-        end_link(&link);
-        if (is_agent && !strstr(link.welcome.why, "in use") && !strstr(link.welcome.why, "at work")) give_up("the agent refuses", link.welcome.why);
-        why = is_agent ? "its target stays in use" : "no agent answers";
+        end_link(link);
+        if (is_agent) memcpy(why, link->welcome.why, MAX_WHY);
+        if (is_agent && !may_change(why, hello)) return false;
         if (milliseconds() + 1000 < until) pause_for(1000);
     } while (milliseconds() + 1000 < until);
-    give_up("the link", why);
+    return false;
+}
+
+struct link open_link(const char *command, const struct hello *hello, const struct job *job, uint64_t seconds) {
+    struct link link;
+    char why[MAX_WHY];
+    if (try_link(&link, command, hello, job, milliseconds() + seconds * 1000, why)) return link;
+    if (*why) give_up("the agent refuses", why);
+    give_up("the link", "no agent answers");
 }
 
 void tell_welcome(const struct link *link) {

@@ -12,6 +12,9 @@
 /* So long a notice may be of a write that `drive` hasn't ordered yet: milliseconds. */
 enum { ORDER_COMES = 5000 };
 
+/* So long notices may still come once the command that cuts has ended: milliseconds. */
+enum { STILL_THERE = 5000 };
+
 void take(struct course *course) {
     uint8_t notice[NOTICE_BYTES];
     put_notice(notice, TAKE, 0);
@@ -26,11 +29,16 @@ void note_cut(struct course *course, const char *why) {
     take(course);
 }
 
-/* Whether a notice is of an open write; then it is counted, and open no more. */
+/* Whether a notice is of an open write, and tells what became of it; then it is counted, and open no
+ * more. One that failed once the power was to be cut tells that it is. */
 static bool count_notice(struct course *course, struct told told) {
     uint64_t block;
     if ((told.kind != DONE && told.kind != FAILED) || !close_order(&course->outbox, told.write, &block)) return false;
     if (block != told.block) give_up("the link", "what the agent writes isn't what is ordered here: is its `drive` another one?");
+    if (told.kind == FAILED && course->is_off) {
+        course->tally->has_fallen = true; /* (it may have been made: it stays in flight) */
+        return false;
+    }
     course->tally->told += told.kind == DONE;
     course->tally->failed += told.kind == FAILED;
     if (told.kind == FAILED) say("write %" PRIu64 " to block %" PRIu64 " failed at the agent", told.write, told.block);
@@ -61,6 +69,7 @@ void hand_on(struct course *course) {
     if (course->link->hello.is_local && at) write_all(course->link->child.to, course->heard, at);
     memmove(course->heard, course->heard + at, course->heard_length - at);
     course->heard_length -= at;
+    if (course->tally->has_fallen) note_cut(course, "a write failed once the power was to be cut: taken as the cut");
     if (is_known) course->unknown_since = 0;
     if (is_last) take(course);
     else if (!is_known) note_unknown(course);
@@ -74,6 +83,7 @@ void take_notices(struct course *course) {
         return;
     }
     course->last_heard = milliseconds();
+    if (course->off_ended && course->last_heard - course->off_ended > STILL_THERE) give_up(course->options->off, "the power is still there: writes are told as done seconds after this has ended");
     course->heard_length += (size_t)count;
     hand_on(course);
 }

@@ -20,8 +20,9 @@ static const char USAGE[] =
     "  --quiet MS        silence so long, while writes are out, is the cut; in a cycle 10000 where nothing else is said\n"
     "write, cycle:\n"
     "  --local           the agent has a drive of its own, DRIVE there: for a link too slow for the blocks\n"
-    "map, cycle:\n"
+    "check, map, cycle:\n"
     "  --unit BYTES      the target writes so many bytes whole, and not a block\n"
+    "  --other-drive     takes another drive than the one that was written, as one with a copy of it\n"
     "write:\n"
     "  --after N         takes the state once N writes are done\n"
     "cycle:\n"
@@ -29,11 +30,13 @@ static const char USAGE[] =
     "  --cycles N        so many cycles; else until SIGINT\n"
     "  --every A..B      the cut comes after A to B seconds, drawn each time: 1..10\n"
     "  --seed S          draws them by this number\n"
+    "  --trust-off       takes the word of --off that the power was cut; else the machine has to be started anew by it\n"
+    "  --drive-only      the drive alone loses its power: it is cut where its writes fail once --off has begun\n"
     "  --keep-going      goes on behind a cycle that had faults\n"
     "  --resume          goes on with the cycles in FOLDER\n"
     "  --json            a line of JSON for each cycle\n"
-    "FIOCUT and DRIVE name the two programs. SIGINT takes the state, without a cut.\n"
-    "status: 0; 1 faults were found; 2 something failed or was refused; 3 nothing could be checked\n";
+    "FIOCUT and DRIVE name the two programs. SIGINT, SIGTERM and SIGHUP take the state, without a cut.\n"
+    "status: 0; 1 faults were found; 2 something failed or was refused; 3 nothing was checked, or no cut was seen\n";
 
 /* A number of seconds, as milliseconds; -1 where it is none. */
 static double milliseconds_of(const char *text, size_t length) {
@@ -81,7 +84,10 @@ struct options read_options(int count, char **words) {
         {"--wait", 0, &read.wait, 0, all_commands},
         {"--quiet", 0, &read.quiet, 0, all_commands},
         {"--local", 0, 0, &read.local, WRITE | CYCLE},
-        {"--unit", 0, &read.unit, 0, MAP | CYCLE},
+        {"--unit", 0, &read.unit, 0, CHECK | MAP | CYCLE},
+        {"--other-drive", 0, 0, &read.other_drive, CHECK | MAP | CYCLE},
+        {"--trust-off", 0, 0, &read.trust_off, CYCLE},
+        {"--drive-only", 0, 0, &read.drive_only, CYCLE},
         {"--after", 0, &read.after, 0, WRITE},
         {"--off", &read.off, 0, 0, CYCLE},
         {"--on", &read.on, 0, 0, CYCLE},

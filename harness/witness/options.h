@@ -22,6 +22,10 @@ struct options {
     uint64_t unit;     /* 0: a block */
     bool local; /* the orders are given by the agent's own `drive`, too */
     bool keep_going, resume, json;
+    bool other_drive; /* a check takes another drive than the run's */
+    /* What shows a cut: the word of `off` alone, or that the drive fell, and else that the agent's
+     * machine was started anew. */
+    bool trust_off, drive_only;
 };
 
 /* Reads the command line. Where it can't be read, the program says how it goes, or what is wrong,

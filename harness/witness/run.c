@@ -36,7 +36,7 @@ static void look_at_cut(struct course *course, uint64_t now) {
         course->is_off = true, course->cut_at = 0, course->last_heard = now;
     }
     if (course->is_off && course->off.pid && has_ended(&course->off, &status)) {
-        course->off.pid = 0;
+        course->off.pid = 0, course->off_ended = now;
         if (status) give_up(course->options->off, "it didn't cut the power");
     }
 }
@@ -80,17 +80,18 @@ static void follow(struct course *course, int signals) {
 
 /* Awaits what cuts the power, where the link ended while it did. */
 static void end_cut(struct course *course) {
-    if (!course->is_off && course->options->command == CYCLE && course->tally->is_cut) say("the link ended by itself, before the cut");
+    course->tally->was_early = course->tally->is_cut && !course->is_off;
+    if (course->tally->was_early && course->options->command == CYCLE) say("the link ended by itself, before the cut");
     if (course->off.pid && wait_for(&course->off)) give_up(course->options->off, "it didn't cut the power");
 }
 
 static sigset_t stops(void) {
     sigset_t set;
-    sigemptyset(&set), sigaddset(&set, SIGINT), sigaddset(&set, SIGTERM);
+    sigemptyset(&set), sigaddset(&set, SIGINT), sigaddset(&set, SIGTERM), sigaddset(&set, SIGHUP);
     return set;
 }
 
-/* From now on SIGINT and SIGTERM are read here, and end nothing. */
+/* From now on SIGINT, SIGTERM and SIGHUP are read here, and end nothing. */
 static int open_signals(void) {
     const sigset_t set = stops();
     sigprocmask(SIG_BLOCK, &set, NULL);
@@ -112,6 +113,14 @@ uint64_t in_flight(const struct tally *tally) {
 struct hello hello_to_write(const struct options *options, const struct job *job, const struct region *region) {
     return (struct hello){.writes = true, .depth = job->depth, .region = *region, .is_local = options->local,
                           .run = draw_number(), .job = job->number, .text_length = job->text_length};
+}
+
+struct kept kept_by(const struct tally *tally, const struct job *job, const struct link *link) {
+    struct kept kept = kept_of(tally->run, job, &link->hello.region);
+    memcpy(kept.drive, link->welcome.drive, MAX_DRIVE), memcpy(kept.boot, link->welcome.boot, MAX_BOOT);
+    kept.length = tally->state_length;
+    memcpy(kept.state, tally->state, kept.length);
+    return kept;
 }
 
 struct tally run_job(const struct options *options, const struct job *job, struct link *link, uint64_t cut_after) {

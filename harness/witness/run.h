@@ -14,7 +14,9 @@
 /* What becomes of one. */
 struct tally {
     uint64_t run, ordered, told, failed;
-    bool is_cut; /* the link ended or fell silent, and else the state was taken without */
+    bool is_cut;    /* the link ended or fell silent, and else the state was taken without */
+    bool was_early; /* and did so before the power was to be cut */
+    bool has_fallen; /* once the power was to be cut, a write failed */
     uint64_t milliseconds;
     size_t state_length;
     uint8_t state[MAX_STATE];
@@ -22,6 +24,9 @@ struct tally {
 
 /* The writes that were out at the end. */
 uint64_t in_flight(const struct tally *tally);
+
+/* What is to be kept of a run. */
+struct kept kept_by(const struct tally *tally, const struct job *job, const struct link *link);
 
 /* What a run of a job wants of its agent: a number of its own, among the rest. */
 struct hello hello_to_write(const struct options *options, const struct job *job, const struct region *region);
@@ -31,13 +36,11 @@ struct hello hello_to_write(const struct options *options, const struct job *job
  * first order. The state stays in the tally, for the caller to keep. */
 struct tally run_job(const struct options *options, const struct job *job, struct link *link, uint64_t cut_after);
 
-/* Checks by a state what the agent of a link gives back, and ends the link. */
-struct report;
-void check_job(const struct job *job, struct link *link, const uint8_t *state, size_t length, struct report *report);
-
-
-/* The same, and keeps what `drive map` says of each faulty block. Returns its status. */
+/* Checks by a state what an agent gives back of the region, and keeps what `drive map` says of each
+ * faulty block. Where the link ends or falls silent within that, it is tried again, until the options'
+ * wait is over; a target of the run's that isn't there by then counts as blocks that can't be read.
+ * The welcome is the agent's, and empty where it had no target. */
 struct map;
-int map_job(const struct job *job, struct link *link, const uint8_t *state, size_t length, struct map *map);
+void check_by_link(const struct options *options, const struct job *job, const struct region *region, const struct kept *kept, struct map *map, struct welcome *welcome);
 
 #endif
