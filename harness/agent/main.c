@@ -9,6 +9,7 @@
 #include "local.h"
 #include "reading.h"
 #include "say.h"
+#include "way.h"
 #include "words.h"
 
 #include <endian.h>
@@ -21,6 +22,8 @@
 static const char USAGE[] =
     "usage: drive-agent TARGET [OPTIONS]    on the machine under test; started by drive-witness --link\n"
     "  --flush N    tells writes as done behind a flush: N of them, or fewer where no other is out\n"
+    "  --promise P  what the drive has to promise: fua, flush (with --flush) or through; as drive-target has it\n"
+    "  --by WORD    writes by ring, which is io_uring, or by threads; without it by a ring where there is one\n"
     "  --queue N    has N writes at the target at once, at most: what else is ordered waits for one of them to end\n"
     "  --cpu N      runs on processor N alone, with its own `drive` where it has one\n"
     "  --yes        writes over what the target holds; what is mounted or in use it never writes\n"
@@ -30,14 +33,17 @@ static const char USAGE[] =
 
 struct settings {
     struct opening opening;
-    uint64_t flush, queue;
+    struct way way;
+    enum by by;
+    char words[MAX_WAY]; /* what writes rest on */
+    uint64_t queue;
     const char *cpu;
 };
 
 static struct settings read_settings(int count, char **words) {
     struct settings read = {0};
     const struct option all[] = {
-        {"--flush", 0, &read.flush, 0, 1}, {"--queue", 0, &read.queue, 0, 1}, {"--cpu", &read.cpu, 0, 0, 1}, {"--yes", 0, 0, &read.opening.yes, 1}, {"--torn", 0, 0, &read.opening.torn, 1}, {"--cached", 0, 0, &read.opening.cached, 1}, {0, 0, 0, 0, 0},
+        {"--flush", 0, &read.way.flush, 0, 1}, {"--promise", &read.way.promise, 0, 0, 1}, {"--by", &read.way.by, 0, 0, 1}, {"--queue", 0, &read.queue, 0, 1}, {"--cpu", &read.cpu, 0, 0, 1}, {"--yes", 0, 0, &read.opening.yes, 1}, {"--torn", 0, 0, &read.opening.torn, 1}, {"--cached", 0, 0, &read.opening.cached, 1}, {0, 0, 0, 0, 0},
     };
     bool asks = asks_for_help(count, words);
     if (asks || count < 2) {
@@ -46,7 +52,7 @@ static struct settings read_settings(int count, char **words) {
     }
     read_words(all, 1, count - 2, words + 2);
     read.opening.name = words[1];
-    read.opening.flushed = read.flush > 0;
+    read.by = settle_way(&read.way, &read.opening, read.words);
     return read;
 }
 
@@ -61,9 +67,9 @@ static void tell_refusal(const char *line) {
 
 static void welcome_witness(const struct settings *settings, const struct target *target, const struct hello *hello) {
     uint8_t bytes[WELCOME_BYTES];
-    struct welcome welcome = {.size = target->size, .whole = target->whole, .flush = settings->flush, .cached = settings->opening.cached, .block_size = hello->region.block_size,
+    struct welcome welcome = {.size = target->size, .whole = target->whole, .flush = settings->way.flush, .cached = settings->opening.cached, .block_size = hello->region.block_size,
                               .blocks = hello->region.blocks};
-    tell_drive(target, welcome.drive), tell_boot(welcome.boot);
+    tell_drive(target, welcome.drive), tell_boot(welcome.boot), memcpy(welcome.way, settings->words, MAX_WAY);
     if (!strcmp(target->cache, "write back")) welcome.cache = CACHE_WRITE_BACK;
     if (!strcmp(target->cache, "write through")) welcome.cache = CACHE_WRITE_THROUGH;
     write_welcome(bytes, &welcome);
@@ -120,7 +126,7 @@ static void write_for(const struct settings *settings, struct hello *hello) {
         orders = drive.from;
         hand_back(&drive);
     }
-    struct executor executor = {.target = &target, .region = hello->region, .depth = hello->depth, .flush = settings->flush, .queue = settings->queue, .may_share = true, .orders = orders,
+    struct executor executor = {.target = &target, .region = hello->region, .depth = hello->depth, .flush = settings->way.flush, .queue = settings->queue, .by = settings->by, .may_share = true, .orders = orders,
                                 .whose = hello, .tell = tell_witness, .tell_last = take_last};
     welcome_witness(settings, &target, hello);
     carry_out(&executor);

@@ -5,7 +5,8 @@
 #include "target.h"
 
 /* Gives up where its first mebibyte or its last, where file systems, volumes and partition tables
- * say what they are, hold anything but zeros and stamps of an earlier run. */
-void refuse_other_bytes(const struct target *target);
+ * say what they are, hold anything but zeros and stamps of an earlier run; or the first or the last
+ * mebibyte of the region, or one of some 256 blocks between them, where a region is given. */
+void refuse_other_bytes(const struct target *target, const struct region *region);
 
 #endif

@@ -33,10 +33,12 @@ void carry_out(struct executor *executor) {
     if (executor->queue == 0 || executor->queue > executor->depth) executor->queue = executor->depth;
     if (!executor->target->is_direct)
         carry_out_by_turns(executor);
-    else if (open_ring(&ring, calls, executor->slots.blocks, executor->slots.count * executor->region.block_size)) {
+    else if (executor->by != BY_THREADS && open_ring(&ring, calls, executor->slots.blocks, executor->slots.count * executor->region.block_size)) {
         carry_out_by_ring(executor, &ring);
         close_ring(&ring);
-    } else
+    } else if (executor->by == BY_RING)
+        give_up("--by ring", "the kernel gives no io_uring here");
+    else
         carry_out_by_threads(executor);
     free_slots(&executor->slots);
 }

@@ -7,6 +7,7 @@
 
 #include "region.h"
 #include "ring.h"
+#include "way.h"
 #include "slots.h"
 #include "target.h"
 
@@ -29,6 +30,7 @@ struct executor {
     /* So many writes are at the target at once, at most; what else was ordered waits here, and goes
      * there as soon as one of them has ended. 0: as many as the depth. */
     uint64_t queue;
+    enum by by;     /* BY_ANY: by a ring where the kernel gives one, and else by threads */
     bool may_share; /* two threads may share what goes to memory: the depth is a job's, and the only one's */
     int orders;     /* the stream that they come on */
     void *whose;    /* is given to these two */

@@ -42,16 +42,16 @@ void write_welcome(uint8_t bytes[WELCOME_BYTES], const struct welcome *welcome) 
     put_numbers(bytes + MAGIC, numbers, WELCOME_NUMBERS);
     uint8_t *texts = bytes + MAGIC + 8 * WELCOME_NUMBERS;
     memcpy(texts, welcome->why, MAX_WHY), memcpy(texts + MAX_WHY, welcome->drive, MAX_DRIVE);
-    memcpy(texts + MAX_WHY + MAX_DRIVE, welcome->boot, MAX_BOOT);
+    memcpy(texts + MAX_WHY + MAX_DRIVE, welcome->boot, MAX_BOOT), memcpy(texts + MAX_WHY + MAX_DRIVE + MAX_BOOT, welcome->way, MAX_WAY);
 }
 
 bool read_welcome(const uint8_t bytes[WELCOME_BYTES], struct welcome *welcome) {
     uint64_t numbers[WELCOME_NUMBERS];
     if (memcmp(bytes, WELCOME_MAGIC, MAGIC)) return false;
     take_numbers(bytes + MAGIC, numbers, WELCOME_NUMBERS);
-    *welcome = (struct welcome){numbers[0] != 0, numbers[1], numbers[2], (enum cache)(numbers[3] < 3 ? numbers[3] : 0), numbers[4], numbers[5] != 0, numbers[6], numbers[7], "", "", ""};
+    *welcome = (struct welcome){numbers[0] != 0, numbers[1], numbers[2], (enum cache)(numbers[3] < 3 ? numbers[3] : 0), numbers[4], numbers[5] != 0, numbers[6], numbers[7], "", "", "", ""};
     const uint8_t *texts = bytes + MAGIC + 8 * WELCOME_NUMBERS;
     memcpy(welcome->why, texts, MAX_WHY - 1), memcpy(welcome->drive, texts + MAX_WHY, MAX_DRIVE - 1);
-    memcpy(welcome->boot, texts + MAX_WHY + MAX_DRIVE, MAX_BOOT - 1);
+    memcpy(welcome->boot, texts + MAX_WHY + MAX_DRIVE, MAX_BOOT - 1), memcpy(welcome->way, texts + MAX_WHY + MAX_DRIVE + MAX_BOOT, MAX_WAY - 1);
     return true;
 }

@@ -5,6 +5,7 @@
 
 #include "identity.h"
 #include "region.h"
+#include "way.h"
 
 #include <stdbool.h>
 #include <stdint.h>
@@ -14,7 +15,7 @@
 #define WELCOME_MAGIC "FCAGENT3"
 
 enum { MAGIC = 8, HELLO_NUMBERS = 11, WELCOME_NUMBERS = 8, MAX_WHY = 256 };
-enum { HELLO_BYTES = MAGIC + 8 * HELLO_NUMBERS + MAX_DRIVE, WELCOME_BYTES = MAGIC + 8 * WELCOME_NUMBERS + MAX_WHY + MAX_DRIVE + MAX_BOOT };
+enum { HELLO_BYTES = MAGIC + 8 * HELLO_NUMBERS + MAX_DRIVE, WELCOME_BYTES = MAGIC + 8 * WELCOME_NUMBERS + MAX_WHY + MAX_DRIVE + MAX_BOOT + MAX_WAY };
 
 /* The witness's: what it wants. */
 struct hello {
@@ -45,6 +46,7 @@ struct welcome {
     uint64_t block_size, blocks; /* those of the hello */
     char why[MAX_WHY];
     char drive[MAX_DRIVE], boot[MAX_BOOT]; /* which drive it has, and the start of its machine */
+    char way[MAX_WAY];                     /* what its writes rest on */
 };
 
 void write_hello(uint8_t bytes[HELLO_BYTES], const struct hello *hello);

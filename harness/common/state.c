@@ -25,8 +25,8 @@ enum { RUN_AT = 4, SHORTEST = RUN_AT + 8 };
 enum { FRONT = sizeof MAGIC - 1 + 9 };
 
 /* What stands behind that: lines, and behind the last one the job file and the state. */
-#define FORM "run %" PRIu64 "\njob %" PRIu64 "\nregion offset %" PRIu64 " stride %" PRIu64 " block %" PRIu64 " blocks %" PRIu64 "\ndrive %s\nboot %s\nkept %s\ntext %zu\nstate %zu\n\n"
-#define SCANNED "run %" SCNu64 "\njob %" SCNu64 "\nregion offset %" SCNu64 " stride %" SCNu64 " block %" SCNu64 " blocks %" SCNu64 "\ndrive%*1[ ]%255[^\n]\nboot%*1[ ]%39[^\n]\nkept %31[^\n]\ntext %zu\nstate %zu\n%n"
+#define FORM "run %" PRIu64 "\njob %" PRIu64 "\nregion offset %" PRIu64 " stride %" PRIu64 " block %" PRIu64 " blocks %" PRIu64 "\ndrive %s\nboot %s\nway %s\nkept %s\ntext %zu\nstate %zu\n\n"
+#define SCANNED "run %" SCNu64 "\njob %" SCNu64 "\nregion offset %" SCNu64 " stride %" SCNu64 " block %" SCNu64 " blocks %" SCNu64 "\ndrive%*1[ ]%255[^\n]\nboot%*1[ ]%39[^\n]\nway%*1[ ]%63[^\n]\nkept %31[^\n]\ntext %zu\nstate %zu\n%n"
 
 uint64_t draw_number(void) {
     uint64_t number = 0;
@@ -82,7 +82,7 @@ size_t spell_kept(struct kept *kept, uint8_t bytes[MAX_KEPT]) {
     char *lines = (char *)bytes + FRONT;
     time_t now = time(NULL);
     if (!*kept->when) strftime(kept->when, sizeof kept->when, "%Y-%m-%dT%H:%M:%SZ", gmtime(&now));
-    size_t length = (size_t)snprintf(lines, MAX_KEPT - FRONT, FORM, kept->run, kept->job, region->offset, region->stride, region->block_size, region->blocks, or_dash(kept->drive), or_dash(kept->boot), kept->when,
+    size_t length = (size_t)snprintf(lines, MAX_KEPT - FRONT, FORM, kept->run, kept->job, region->offset, region->stride, region->block_size, region->blocks, or_dash(kept->drive), or_dash(kept->boot), or_dash(kept->way), kept->when,
                                      kept->text_length, kept->length);
     memcpy(lines + length, kept->text, kept->text_length);
     memcpy(lines + length + kept->text_length, kept->state, kept->length);
@@ -103,11 +103,11 @@ static bool take_lines(char *lines, size_t length, struct kept *kept) {
     struct region *region = &kept->region;
     int used = 0;
     lines[length] = 0; /* (there is room for it, and numbers end before the job file does) */
-    int count = sscanf(lines, SCANNED, &kept->run, &kept->job, &region->offset, &region->stride, &region->block_size, &region->blocks, kept->drive, kept->boot, kept->when, &kept->text_length, &kept->length, &used);
-    if (count != 11 || kept->text_length > sizeof kept->text || kept->length > sizeof kept->state || (size_t)used + kept->text_length + kept->length != length) return false;
+    int count = sscanf(lines, SCANNED, &kept->run, &kept->job, &region->offset, &region->stride, &region->block_size, &region->blocks, kept->drive, kept->boot, kept->way, kept->when, &kept->text_length, &kept->length, &used);
+    if (count != 12 || kept->text_length > sizeof kept->text || kept->length > sizeof kept->state || (size_t)used + kept->text_length + kept->length != length) return false;
     memcpy(kept->text, lines + used, kept->text_length);
     memcpy(kept->state, lines + used + kept->text_length, kept->length);
-    take_dash(kept->drive), take_dash(kept->boot);
+    take_dash(kept->drive), take_dash(kept->boot), take_dash(kept->way);
     return true;
 }
 

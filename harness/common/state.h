@@ -5,6 +5,7 @@
 #include "identity.h"
 #include "job.h"
 #include "region.h"
+#include "way.h"
 
 #include <stdbool.h>
 #include <stddef.h>
@@ -19,6 +20,7 @@ struct kept {
     struct region region;
     char drive[MAX_DRIVE]; /* as `tell_drive` tells it; nothing where that isn't known */
     char boot[MAX_BOOT];   /* of the machine that wrote, by then; nothing where that isn't known */
+    char way[MAX_WAY];     /* what its writes rested on; nothing where that isn't known */
     char when[32];         /* when it was kept */
     bool is_bare;          /* the file has the state alone, and none of the rest but the run */
     size_t text_length, length;

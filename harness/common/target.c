@@ -2,6 +2,7 @@
 
 #include "bytes.h"
 #include "contents.h"
+#include "guard.h"
 #include "identity.h"
 #include "say.h"
 
@@ -111,8 +112,8 @@ bool may_tear(const struct target *target, uint64_t block_size) {
 static void refuse_torn(const struct target *target, uint64_t block_size, bool torn) {
     if (target->whole == 0) say("nobody tells how many bytes %s writes whole", target->name);
     if (may_tear(target, block_size) && !torn) {
-        char why[160];
-        snprintf(why, sizeof why, "a block of %" PRIu64 " bytes may be torn, as it writes %" PRIu64 " whole; --torn takes that", block_size, target->whole);
+        char why[200];
+        snprintf(why, sizeof why, "a block of %" PRIu64 " bytes may be torn, as it writes %" PRIu64 " whole: take bs=%" PRIu64 ", or --torn, and --unit %" PRIu64 " for the check", block_size, target->whole, target->whole, target->whole);
         give_up(target->name, why);
     }
 }
@@ -123,23 +124,25 @@ static void make_room(struct target *target, uint64_t bytes) {
     target->size = bytes;
 }
 
-/* Opens it, and looks at what it holds. */
-static struct target open_guarded(const struct opening *opening, bool *is_new) {
+/* Opens it, and looks at whether it may be written, and what it holds, also where the region is that
+ * is to be written, if that is known. */
+static struct target open_guarded(const struct opening *opening, const struct region *region, bool *is_new) {
     struct target target = open_target(opening, true, is_new);
-    if (!*is_new && !opening->yes) refuse_other_bytes(&target);
+    refuse_unfit(&target, opening, region ? region->block_size : 0);
+    if (!*is_new && !opening->yes) refuse_other_bytes(&target, region);
     return target;
 }
 
 struct target open_for_later(const struct opening *opening) {
     bool is_new;
-    struct target target = open_guarded(opening, &is_new);
+    struct target target = open_guarded(opening, NULL, &is_new);
     if (is_new) make_room(&target, 0);
     return target;
 }
 
 struct target open_to_write(const struct opening *opening, const struct region *region) {
     bool is_new;
-    struct target target = open_guarded(opening, &is_new);
+    struct target target = open_guarded(opening, region, &is_new);
     if (is_device(&target) && target.size < end_of(region)) give_up(target.name, "it is shorter than the job's region");
     refuse_torn(&target, region->block_size, opening->torn);
     if (target.size < end_of(region)) make_room(&target, end_of(region));

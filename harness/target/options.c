@@ -19,6 +19,9 @@ static const char USAGE[] =
     "  --keep COMMAND    has a shell run COMMAND with the state on its input, too\n"
     "  --cut COMMAND     has a shell run COMMAND once the state is kept\n"
     "  --flush N         tells writes as done behind a flush: N of them, or fewer where no other is out\n"
+    "  --promise WORD    what the drive has to promise: fua, that it keeps each write as it tells it as done (O_DSYNC); flush, what it\n"
+    "                    told before a flush, with --flush; through, each write that it tells as done, without being asked\n"
+    "  --by WORD         writes by ring, which is io_uring, or by threads; without it by a ring where there is one\n"
     "  --queue N         has N writes at the target at once, at most: what else is ordered waits for one of them to end\n"
     "  --cpu N           runs on processor N alone, with `drive`: the turns between the two are cheaper\n"
     "  --yes             writes over what the target holds; what is mounted or in use it never writes\n"
@@ -48,7 +51,9 @@ struct options read_options(int count, char **words) {
         {"--trigger", &read.trigger, 0, 0, WRITE},
         {"--keep", &read.keep, 0, 0, WRITE},
         {"--cut", &read.cut, 0, 0, WRITE},
-        {"--flush", 0, &read.flush, 0, WRITE},
+        {"--flush", 0, &read.way.flush, 0, WRITE},
+        {"--promise", &read.way.promise, 0, 0, WRITE},
+        {"--by", &read.way.by, 0, 0, WRITE},
         {"--queue", 0, &read.queue, 0, WRITE},
         {"--cpu", &read.cpu, 0, 0, WRITE},
         {"--yes", 0, 0, &read.opening.yes, WRITE},
@@ -72,7 +77,6 @@ struct options read_options(int count, char **words) {
     }
     read.job_file = words[2], read.opening.name = words[3], read.state = words[4];
     read_words(all, (int)read.command, count - 5, words + 5);
-    read.opening.flushed = read.flush > 0;
     if (read.command != WRITE && is_full_pass(&read) && read.run == 0) give_up("-", "a full pass wants --run, the number of the run that wrote");
     if (read.command == WRITE && is_full_pass(&read)) give_up("-", "a state is kept in a file");
     return read;

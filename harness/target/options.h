@@ -3,6 +3,7 @@
 #define OPTIONS_H
 
 #include "target.h"
+#include "way.h"
 
 #include <stdbool.h>
 #include <stdint.h>
@@ -15,9 +16,9 @@ struct options {
     uint64_t job, offset, stride;
     uint64_t after; /* 0: at no number of writes */
     uint64_t run;   /* 0: the run of the state */
-    uint64_t flush; /* 0: no write waits for a flush */
     uint64_t queue; /* 0: as many writes at once as the job's depth */
     uint64_t unit;  /* 0: a block */
+    struct way way; /* of a write: what it rests on */
     bool other_drive; /* a check takes another drive than the run's */
 };
 

@@ -1,9 +1,9 @@
 #include "watch.h"
 
 #include "say.h"
+#include "signals.h"
 
 #include <inttypes.h>
-#include <signal.h>
 #include <string.h>
 #include <time.h>
 #include <unistd.h>
@@ -11,28 +11,19 @@
 /* It looks a hundred times a second. */
 enum { NANOSECONDS = 10000000, LOOKS = 100 };
 
-static sigset_t triggers(void) {
-    sigset_t set;
-    sigemptyset(&set);
-    sigaddset(&set, SIGTERM);
-    sigaddset(&set, SIGINT);
-    sigaddset(&set, SIGHUP);
-    return set;
-}
-
 void hold_signals(void) {
-    sigset_t set = triggers();
+    sigset_t set = stops();
     pthread_sigmask(SIG_BLOCK, &set, NULL);
 }
 
 void let_signals_through(void) {
-    sigset_t set = triggers();
+    sigset_t set = stops();
     pthread_sigmask(SIG_UNBLOCK, &set, NULL);
 }
 
 static void *look_out(void *given) {
     const struct watch *watch = given;
-    const sigset_t set = triggers();
+    const sigset_t set = stops();
     uint64_t before = 0;
     bool is_taken = false;
     for (int look = 1; !is_taken; look++) {

@@ -66,15 +66,19 @@ int write_target(const struct options *options, const struct job *job) {
     struct region region = region_of(job, options->offset, options->stride);
     refuse_old_trigger(options->trigger);
     refuse_place(options->state, options->job_file, options->opening.name);
-    target = open_to_write(&options->opening, &region);
+    struct opening opening = options->opening;
+    char way[MAX_WAY];
+    enum by by = settle_way(&options->way, &opening, way);
+    target = open_to_write(&opening, &region);
     warn_of_one_drive(options, &target);
     static struct kept kept;
     kept = kept_of(draw_number(), job, &region);
-    tell_drive(&target, kept.drive), tell_boot(kept.boot);
+    tell_drive(&target, kept.drive), tell_boot(kept.boot), memcpy(kept.way, way, MAX_WAY);
+    say("writes rest on this: %s", way);
     put_aside(options->state);
     hold_signals();
     open_drive(&drive, kept.run, job, options->after, way_of_orders(job->depth, options->opening.cached));
-    executor = (struct executor){.target = &target, .region = region, .depth = job->depth, .flush = options->flush, .queue = options->queue, .may_share = true, .orders = drive.child.from, .whose = &drive,
+    executor = (struct executor){.target = &target, .region = region, .depth = job->depth, .flush = options->way.flush, .queue = options->queue, .by = by, .may_share = true, .orders = drive.child.from, .whose = &drive,
                                  .tell = tell_these, .tell_last = tell_last};
     watch = (struct watch){&drive, job, options->trigger};
     start_executor(&executor);

@@ -11,7 +11,7 @@ from types import SimpleNamespace
 from fleet_links import frame, frames_in
 from fleet_mirrors import number_in
 from serving import FLEET, TOP, Servers, fleet, job_file, reports
-from trying import HERE, await_that, read, tell, tell_has, write
+from trying import HERE, comes, read, tell, tell_has, write
 
 sys.path.insert(0, f"{TOP}/harness/client")
 
@@ -73,8 +73,7 @@ def short_writes():
     link, sent = links.Link("cat >>came", lambda _: None), [frame(b"%034d" % at) for at in range(50)]
     for it in sent:
         link.send(it)
-    await_that(lambda: os.path.exists("came") and os.path.getsize("came") >= 50 * 5, "what goes over the link")
-    await_that(lambda: link.stream.waiting.empty() and link.stream.begun_writing is None, "the end of what waits")
+    comes(lambda: os.path.exists("came") and os.path.getsize("came") == sum(map(len, sent)))
     link.close()
     tell("whole frames", frames_in(read("came")) == sent, True)
 

@@ -22,6 +22,8 @@ def at_terminal(words):
     ours, theirs = pty.openpty()
 
     def take():
+        for it in (signal.SIGINT, signal.SIGTERM, signal.SIGHUP): # (which who runs the tests may ignore)
+            signal.signal(it, signal.SIG_DFL)
         os.setsid()
         fcntl.ioctl(theirs, termios.TIOCSCTTY, 0)
 
@@ -201,9 +203,9 @@ def nights_that_go_on():
     """What the drive didn't do ends no night: a link that breaks or falls silent within a check, a target
     that comes late, bytes that its own runs have written."""
     tell("a run", witness("write", "two.fio", "gs", *link("gt"))[0], 0)
-    for what, way in (("breaks", "100000"), ("falls silent", "100000 silent")):
+    for what, behind in (("breaks", f"| {PASS_ON} 100000"), ("falls silent", f"| {{ {PASS_ON} 100000; exec sleep {9 * HANG}; }}")):
         once = f"[ -e once ] && exec {shlex.quote(AGENT)} gt; touch once; "
-        own = link("gt", behind=f"| {PASS_ON} {way}")[1]
+        own = link("gt", behind=behind)[1]
         status, printed, said = witness("check", "two.fio", "gs", "--link", once + own, "--quiet", "500", "--wait", "30")
         tell(f"a link that {what} once within a check", (status, printed, "the check begins anew" in said), (0, report([]), True))
         os.remove("once")
@@ -232,6 +234,13 @@ def kept_nights():
     tell("resumed, with the power first", (status, os.path.exists("on-first"), len(cycles_in(printed))), (0, True, 1))
     tell("its lines are whole again", [it["cycle"] for it in rows_of("kn")], [1, 2])
     tell("what was ordered and told is known", [rows_of("kn")[1][it] for it in ("run", "ordered", "told", "in_flight")], [rows[1][it] for it in ("run", "ordered", "told", "in_flight")])
+    powered = ("--link", f"[ -e power ] || exit; {link('kp')[1]}")
+    off = ("--off", "rm power; kill -KILL $(cat agent)", "--on", "touch power", *CUT[4:], "--trust-off", "--wait", "10")
+    write("power", "")
+    tell("a cycle on a machine that has power", witness("cycle", "long.fio", "kp-series", *powered, *off, "--cycles", "1")[0], 0)
+    os.remove("power")
+    status, printed, _ = witness("cycle", "long.fio", "kp-series", *powered, *off, "--cycles", "2", "--resume")
+    tell("a series that was stopped without power", (status, len(cycles_in(printed))), (0, 1))
     full = os.path.abspath("full")
     os.mkdir(full)
     if os.geteuid() != 0 or subprocess.run(["mount", "-t", "tmpfs", "-o", "size=256k", "none", full], stderr=subprocess.DEVNULL).returncode:

@@ -43,6 +43,7 @@ static bool check_cycle(const struct options *options, const struct job *job, co
     if (run_command(options->on, NULL, 0)) give_up(options->on, "it didn't give the power back");
     check_by_link(options, job, region, kept, &map, &welcome);
     cycle->cut = shown_cut(options, &cycle->tally, kept->boot, welcome.boot);
+    memcpy(cycle->way, kept->way, MAX_WAY);
     keep_report(folder, cycle, &map);
     const struct verdict verdict = verdict_of(&map);
     cycle->checked = verdict.checked, cycle->faults = verdict.faults;

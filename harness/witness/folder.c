@@ -152,9 +152,9 @@ static size_t line_of(const struct cycle *cycle, char line[MAX_LINE]) {
     strftime(when, sizeof when, "%Y-%m-%dT%H:%M:%SZ", gmtime(&now));
     return (size_t)snprintf(line, MAX_LINE,
                             "{\"cycle\": %" PRIu64 ", \"run\": \"%" PRIu64 "\", \"time\": \"%s\", \"cut_after\": %.3f, \"seconds\": %.3f, \"cut\": \"%s\", \"ordered\": %" PRIu64
-                            ", \"told\": %" PRIu64 ", \"failed\": %" PRIu64 ", \"in_flight\": %" PRIu64 ", \"checked\": %" PRIu64 ", \"faults\": %" PRIu64 ", \"kinds\": {%s}}\n",
+                            ", \"told\": %" PRIu64 ", \"failed\": %" PRIu64 ", \"in_flight\": %" PRIu64 ", \"checked\": %" PRIu64 ", \"faults\": %" PRIu64 ", \"kinds\": {%s}, \"way\": \"%s\"}\n",
                             cycle->number, tally->run, when, (double)cycle->cut_after / 1000, (double)tally->milliseconds / 1000, SHOWN[cycle->cut], tally->ordered,
-                            tally->told, tally->failed, in_flight(tally), cycle->checked, cycle->faults, kinds);
+                            tally->told, tally->failed, in_flight(tally), cycle->checked, cycle->faults, kinds, cycle->way);
 }
 
 void keep_cycle(struct folder *folder, const struct cycle *cycle, bool json) {

@@ -18,6 +18,7 @@ struct cycle {
     uint64_t number, cut_after;
     struct tally tally;
     enum cut cut;
+    char way[MAX_WAY]; /* what its writes rested on */
     uint64_t checked, faults;
     char kinds[KIND_WORDS]; /* of the faults, and how many of each: `lost 4 torn 1` */
 };

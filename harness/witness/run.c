@@ -4,12 +4,12 @@
 #include "clock.h"
 #include "drive.h"
 #include "say.h"
+#include "signals.h"
 
 #include <errno.h>
 #include <fcntl.h>
 #include <inttypes.h>
 #include <poll.h>
-#include <signal.h>
 #include <stdlib.h>
 #include <string.h>
 #include <sys/signalfd.h>
@@ -85,12 +85,6 @@ static void end_cut(struct course *course) {
     if (course->off.pid && wait_for(&course->off)) give_up(course->options->off, "it didn't cut the power");
 }
 
-static sigset_t stops(void) {
-    sigset_t set;
-    sigemptyset(&set), sigaddset(&set, SIGINT), sigaddset(&set, SIGTERM), sigaddset(&set, SIGHUP);
-    return set;
-}
-
 /* From now on SIGINT, SIGTERM and SIGHUP are read here, and end nothing. */
 static int open_signals(void) {
     const sigset_t set = stops();
@@ -117,7 +111,7 @@ struct hello hello_to_write(const struct options *options, const struct job *job
 
 struct kept kept_by(const struct tally *tally, const struct job *job, const struct link *link) {
     struct kept kept = kept_of(tally->run, job, &link->hello.region);
-    memcpy(kept.drive, link->welcome.drive, MAX_DRIVE), memcpy(kept.boot, link->welcome.boot, MAX_BOOT);
+    memcpy(kept.drive, link->welcome.drive, MAX_DRIVE), memcpy(kept.boot, link->welcome.boot, MAX_BOOT), memcpy(kept.way, link->welcome.way, MAX_WAY);
     kept.length = tally->state_length;
     memcpy(kept.state, tally->state, kept.length);
     return kept;
