@@ -66,7 +66,14 @@ def last_lines(printed):
 
 
 def rows_of(folder):
-    return [json.loads(it) for it in read(f"{folder}/cycles.json").decode().splitlines()]
+    """The lines of a series, of what is none nothing."""
+    def row(line):
+        try:
+            return json.loads(line)
+        except ValueError:
+            return {}
+
+    return [row(it) for it in read(f"{folder}/cycles.json").decode().splitlines()]
 
 
 def no_cuts():
@@ -232,8 +239,8 @@ def kept_nights():
     write("kn/cycles.json", b"".join(read("kn/cycles.json").splitlines(True)[:1]) + b'{"cycle": 2, "ru')
     status, printed, _ = witness("cycle", "long.fio", "kn", *link("kt"), "--off", "false", "--on", "touch on-first", *CUT[4:], "--cycles", "2", "--trust-off", "--resume")
     tell("resumed, with the power first", (status, os.path.exists("on-first"), len(cycles_in(printed))), (0, True, 1))
-    tell("its lines are whole again", [it["cycle"] for it in rows_of("kn")], [1, 2])
-    tell("what was ordered and told is known", [rows_of("kn")[1][it] for it in ("run", "ordered", "told", "in_flight")], [rows[1][it] for it in ("run", "ordered", "told", "in_flight")])
+    tell("its lines are whole again", [it.get("cycle") for it in rows_of("kn")], [1, 2])
+    tell("what was ordered and told is known", [rows_of("kn")[1].get(it) for it in ("run", "ordered", "told", "in_flight")], [rows[1][it] for it in ("run", "ordered", "told", "in_flight")])
     powered = ("--link", f"[ -e power ] || exit; {link('kp')[1]}")
     off = ("--off", "rm power; kill -KILL $(cat agent)", "--on", "touch power", *CUT[4:], "--trust-off", "--wait", "10")
     write("power", "")
