@@ -8,7 +8,7 @@
 #include <unistd.h>
 
 /* So many notices are told in one write, which a pipe keeps whole. */
-enum { AT_ONCE = 256 };
+enum { AT_ONCE = 4096 / TOLD_BYTES };
 
 void answer(const void *bytes, size_t length) {
     static pthread_mutex_t lock = PTHREAD_MUTEX_INITIALIZER;
@@ -18,7 +18,7 @@ void answer(const void *bytes, size_t length) {
 }
 
 void tell_witness(void *none, const struct ending *endings, size_t count) {
-    uint8_t notices[AT_ONCE][NOTICE_BYTES];
+    uint8_t notices[AT_ONCE][TOLD_BYTES];
     (void)none;
     for (size_t at = 0, here = 0; at < count; at++) {
         put_told(notices[here++], (struct told){endings[at].is_done ? DONE : FAILED, endings[at].write, endings[at].block});

@@ -27,11 +27,12 @@ struct child start_own_drive(const struct hello *hello, bool cached) {
 /* Each notice that came back is one that this agent has told. */
 static void *hand_all_back(void *given) {
     const struct child *drive = given;
-    uint8_t bytes[NOTICE_BYTES];
+    uint8_t bytes[TOLD_BYTES];
     while (read_all(STDIN_FILENO, bytes, sizeof bytes) == sizeof bytes) {
         const struct told told = read_told(bytes);
+        if (told.kind != DONE && told.kind != FAILED) break; /* (it came otherwise than it was sent) */
         put_notice(bytes, told.kind, told.write);
-        if (write_all(drive->to, bytes, sizeof bytes)) break;
+        if (write_all(drive->to, bytes, NOTICE_BYTES)) break;
     }
     has_ended_link = true;
     close(drive->to);

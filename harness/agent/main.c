@@ -12,7 +12,6 @@
 #include "way.h"
 #include "words.h"
 
-#include <endian.h>
 #include <signal.h>
 #include <stdio.h>
 #include <stdlib.h>
@@ -100,7 +99,7 @@ static void take_last(void *hello, const void *bytes, size_t length) {
 }
 
 static bool give_back_bytes(void *none, const void *bytes, size_t length) {
-    struct chunk chunk = {htobe64(CHUNK_BYTES), htobe64(length)};
+    const struct chunk chunk = chunk_of(CHUNK_BYTES, length, bytes, length);
     (void)none;
     answer(&chunk, sizeof chunk);
     answer(bytes, length);
@@ -108,10 +107,10 @@ static bool give_back_bytes(void *none, const void *bytes, size_t length) {
 }
 
 static bool tell_missed(void *none, uint64_t block, const char *why) {
-    struct chunk chunk = {htobe64(CHUNK_MISSED), htobe64(block)};
     char words[MAX_WHY] = "";
     (void)none;
     snprintf(words, sizeof words, "%s", why);
+    const struct chunk chunk = chunk_of(CHUNK_MISSED, block, words, sizeof words);
     answer(&chunk, sizeof chunk);
     answer(words, sizeof words);
     return true;
@@ -126,7 +125,7 @@ static void write_for(const struct settings *settings, struct hello *hello) {
         orders = drive.from;
         hand_back(&drive);
     }
-    struct executor executor = {.target = &target, .region = hello->region, .depth = hello->depth, .flush = settings->way.flush, .queue = settings->queue, .by = settings->by, .may_share = true, .orders = orders,
+    struct executor executor = {.target = &target, .region = hello->region, .depth = hello->depth, .flush = settings->way.flush, .queue = settings->queue, .by = settings->by, .may_share = true, .orders = orders, .summed = !hello->is_local,
                                 .whose = hello, .tell = tell_witness, .tell_last = take_last};
     welcome_witness(settings, &target, hello);
     carry_out(&executor);
@@ -134,7 +133,7 @@ static void write_for(const struct settings *settings, struct hello *hello) {
 
 static void read_for(const struct settings *settings, const struct hello *hello) {
     struct target target = open_to_read(&settings->opening);
-    struct chunk end = {htobe64(CHUNK_END), 0};
+    const struct chunk end = chunk_of(CHUNK_END, 0, NULL, 0);
     welcome_witness(settings, &target, hello);
     read_region(&target, &hello->region, &(struct sink){NULL, give_back_bytes, tell_missed});
     answer(&end, sizeof end);

@@ -1,8 +1,9 @@
-/* The parts in which an agent gives back what the target holds: two numbers of 8 bytes, the high
- * byte first, and what they announce. */
+/* The parts in which an agent gives back what the target holds: three numbers of 8 bytes, the high
+ * byte first, and what they announce. The third is the sum of all the others. */
 #ifndef CHUNK_H
 #define CHUNK_H
 
+#include <stddef.h>
 #include <stdint.h>
 
 enum chunk_kind {
@@ -12,7 +13,10 @@ enum chunk_kind {
 };
 
 struct chunk {
-    uint64_t kind, number;
+    uint64_t kind, number, sum;
 };
+
+/* The head of a part, of what it announces. */
+struct chunk chunk_of(enum chunk_kind kind, uint64_t number, const void *bytes, size_t length);
 
 #endif

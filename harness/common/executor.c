@@ -28,7 +28,7 @@ void end_stream(const struct executor *executor) {
 void carry_out(struct executor *executor) {
     struct ring ring;
     /* (one more than are out at once: what stands behind the last order needs a place, too) */
-    make_slots(&executor->slots, executor->region.block_size, executor->depth + 1);
+    make_slots(&executor->slots, executor->region.block_size, executor->depth + 1, executor->summed ? SUMMED_HEAD : PLAIN_HEAD);
     unsigned calls = (unsigned)executor->depth + 2; /* a read and a flush */
     if (executor->queue == 0 || executor->queue > executor->depth) executor->queue = executor->depth;
     if (!executor->target->is_direct)

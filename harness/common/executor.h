@@ -33,6 +33,7 @@ struct executor {
     enum by by;     /* BY_ANY: by a ring where the kernel gives one, and else by threads */
     bool may_share; /* two threads may share what goes to memory: the depth is a job's, and the only one's */
     int orders;     /* the stream that they come on */
+    bool summed;    /* it is a link, on which each has its sum */
     void *whose;    /* is given to these two */
     void (*tell)(void *whose, const struct ending *endings, size_t count);
     /* The stream has ended, and this stood behind its last order. */

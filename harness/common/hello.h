@@ -1,5 +1,5 @@
 /* What a witness and an agent say to each other first, so that a wrong pair refuses at once. Behind
- * the magic all are numbers of 8 bytes, the high byte first. */
+ * the magic come numbers of 8 bytes, the high byte first, texts, and the sum of all that. */
 #ifndef HELLO_H
 #define HELLO_H
 
@@ -15,7 +15,7 @@
 #define WELCOME_MAGIC "FCAGENT3"
 
 enum { MAGIC = 8, HELLO_NUMBERS = 11, WELCOME_NUMBERS = 8, MAX_WHY = 256 };
-enum { HELLO_BYTES = MAGIC + 8 * HELLO_NUMBERS + MAX_DRIVE, WELCOME_BYTES = MAGIC + 8 * WELCOME_NUMBERS + MAX_WHY + MAX_DRIVE + MAX_BOOT + MAX_WAY };
+enum { SUM = 4, HELLO_BYTES = MAGIC + 8 * HELLO_NUMBERS + MAX_DRIVE + SUM, WELCOME_BYTES = MAGIC + 8 * WELCOME_NUMBERS + MAX_WHY + MAX_DRIVE + MAX_BOOT + MAX_WAY + SUM };
 
 /* The witness's: what it wants. */
 struct hello {

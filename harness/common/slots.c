@@ -1,6 +1,7 @@
 #include "slots.h"
 
 #include "say.h"
+#include "sum.h"
 
 #include <endian.h>
 #include <errno.h>
@@ -11,17 +12,17 @@
 enum { PAGE = 4096 };
 
 static size_t frame_of(const struct slots *slots) {
-    return sizeof *slots->orders + slots->block_size;
+    return slots->head + slots->block_size;
 }
 
 static size_t spare(const struct slots *slots, size_t index) {
     return slots->spares[(slots->first + index) % slots->count];
 }
 
-void make_slots(struct slots *slots, uint64_t block_size, size_t count) {
+void make_slots(struct slots *slots, uint64_t block_size, size_t count, size_t head) {
     void *blocks;
     if (posix_memalign(&blocks, PAGE, count * block_size)) give_up("memory", strerror(ENOMEM));
-    *slots = (struct slots){.block_size = block_size, .count = count, .blocks = blocks, .free = count};
+    *slots = (struct slots){.block_size = block_size, .count = count, .blocks = blocks, .free = count, .head = head};
     slots->orders = calloc(count, sizeof *slots->orders);
     slots->spares = calloc(count, sizeof *slots->spares);
     if (!slots->orders || !slots->spares) give_up("memory", strerror(ENOMEM));
@@ -41,7 +42,7 @@ static int add_piece(struct iovec *piece, void *bytes, size_t length, size_t fro
 
 int next_room(const struct slots *slots, struct iovec *pieces, int most) {
     int count = 0;
-    size_t frame = frame_of(slots), head = sizeof *slots->orders;
+    size_t frame = frame_of(slots), head = slots->head;
     for (size_t index = slots->part / frame; index < slots->free && count + 2 <= most; index++) {
         size_t slot = spare(slots, index), from = index == slots->part / frame ? slots->part % frame : 0;
         count += add_piece(pieces + count, &slots->orders[slot], head, from);
@@ -55,9 +56,15 @@ static bool begins_order(const struct slots *slots) {
     return *(const uint8_t *)&slots->orders[spare(slots, 0)] == 0;
 }
 
+static bool is_as_sent(const struct slots *slots, size_t slot) {
+    const struct order_head *head = &slots->orders[slot];
+    return be32toh(head->sum) == sum_over(sum_over(0, &head->order, sizeof head->order), block_of(slots, slot), slots->block_size);
+}
+
 bool next_order(struct slots *slots, size_t *slot) {
     if (slots->part < frame_of(slots) || !begins_order(slots)) return false;
     *slot = spare(slots, 0);
+    if (slots->head == SUMMED_HEAD && !is_as_sent(slots, *slot)) give_up("the link", "an order came otherwise than it was sent");
     slots->first = (slots->first + 1) % slots->count;
     slots->free--;
     slots->part -= frame_of(slots);
@@ -65,7 +72,7 @@ bool next_order(struct slots *slots, size_t *slot) {
 }
 
 struct order order_of(const struct slots *slots, size_t slot) {
-    return (struct order){be64toh(slots->orders[slot].write), be64toh(slots->orders[slot].block)};
+    return (struct order){be64toh(slots->orders[slot].order.write), be64toh(slots->orders[slot].order.block)};
 }
 
 uint8_t *block_of(const struct slots *slots, size_t slot) {
@@ -78,7 +85,7 @@ void give_back(struct slots *slots, size_t slot) {
 }
 
 size_t what_is_left(const struct slots *slots, void *bytes, size_t most) {
-    size_t have = slots->part < frame_of(slots) ? slots->part : frame_of(slots), head = sizeof *slots->orders;
+    size_t have = slots->part < frame_of(slots) ? slots->part : frame_of(slots), head = slots->head;
     if (have > most) have = most;
     if (have == 0) return 0;
     memcpy(bytes, &slots->orders[spare(slots, 0)], have < head ? have : head);

@@ -8,4 +8,7 @@
 /* The sum of what gave `sum`, 0 for nothing, with these bytes behind it. */
 uint32_t sum_over(uint32_t sum, const void *bytes, size_t length);
 
+/* The same on any processor, which takes longer. */
+uint32_t sum_by_steps(uint32_t sum, const void *bytes, size_t length);
+
 #endif

@@ -11,7 +11,7 @@ from trying import HANG, LIAR, QUIET, WITNESS, await_file, await_that, comes, re
 from witness import PASS_ON, WELCOME, endless, faults_by, kill_agent, link, put_earlier_state, witness
 
 # What a hello takes of a link, and each notice.
-HELLO, NOTICE = 352, 16
+HELLO, NOTICE = 356, 24
 
 
 def local_runs():

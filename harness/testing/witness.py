@@ -13,7 +13,7 @@ import time
 from trying import AGENT, BLOCK, HANG, HERE, LIAR, QUIET, WITNESS, await_file, await_that, job, read, report, run, run_of, stamp, state_in, tell, tell_has, write
 
 # What a welcome takes of a link, and the head of a piece of what was read.
-WELCOME, CHUNK = 688, 16
+WELCOME, CHUNK = 692, 24
 PASS_ON = f"python3 {shlex.quote(f'{HERE}/pass_on.py')}"
 
 

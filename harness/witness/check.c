@@ -25,31 +25,27 @@ static bool read_piece(const struct source *source, void *bytes, size_t length) 
     return read_until(source->link->child.from, bytes, length, milliseconds() + source->quiet) == length;
 }
 
-/* The bytes of one chunk. False where the link ends before they do. */
-static bool read_bytes(const struct source *source, uint8_t *bytes, uint64_t length) {
-    return length <= MAX_CHUNK && read_piece(source, bytes, (size_t)length);
+/* What stands behind the head of a part. False where the link ends before it does, or it is other
+ * bytes than were sent. */
+static bool read_rest(const struct source *source, const struct chunk *chunk, uint8_t *bytes, size_t *length) {
+    uint64_t kind = be64toh(chunk->kind), number = be64toh(chunk->number);
+    *length = kind == CHUNK_BYTES ? (size_t)number : kind == CHUNK_MISSED ? MAX_WHY : 0;
+    if (*length > MAX_CHUNK || !read_piece(source, bytes, *length)) return false;
+    return chunk_of((enum chunk_kind)kind, number, bytes, *length).sum == chunk->sum;
 }
 
-static bool read_why(const struct source *source, uint64_t block) {
-    char why[MAX_WHY];
-    if (!read_piece(source, why, sizeof why)) return false;
-    why[MAX_WHY - 1] = 0;
-    say("block %" PRIu64 " can't be read: %s", block, why);
-    return true;
-}
-
-/* Hands all that the agent reads on, until no more is wanted. False where the link ends or falls
- * silent before the region does. */
+/* Hands all that the agent reads on, until no more is wanted. False where the link ends, falls silent
+ * or brings other bytes than were sent before the region ends. */
 static bool pass_region_on(const struct source *source, struct map *map) {
     static uint8_t bytes[MAX_CHUNK];
     struct chunk chunk;
+    size_t length;
     bool goes_on = true;
-    while (goes_on && read_piece(source, &chunk, sizeof chunk)) {
+    while (goes_on && read_piece(source, &chunk, sizeof chunk) && read_rest(source, &chunk, bytes, &length)) {
         uint64_t kind = be64toh(chunk.kind), number = be64toh(chunk.number);
         if (kind == CHUNK_END) return true;
-        if (kind == CHUNK_BYTES && read_bytes(source, bytes, number)) goes_on = map_blocks(map, bytes, (size_t)number);
-        else if (kind == CHUNK_MISSED && read_why(source, number)) goes_on = map_missed(map);
-        else return false;
+        if (kind == CHUNK_MISSED) say("block %" PRIu64 " can't be read: %.*s", number, MAX_WHY - 1, (const char *)bytes);
+        goes_on = kind == CHUNK_MISSED ? map_missed(map) : kind == CHUNK_BYTES && map_blocks(map, bytes, length);
     }
     return !goes_on;
 }

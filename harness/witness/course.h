@@ -20,7 +20,7 @@ struct course {
     struct tally *tally;
     struct child drive, off;
     struct outbox outbox; /* what `drive` has ordered */
-    uint8_t heard[NOTICES * NOTICE_BYTES]; /* notices that came, and perhaps a part of one */
+    uint8_t heard[NOTICES * TOLD_BYTES]; /* notices that came, and perhaps a part of one */
     size_t heard_length;
     uint64_t unknown_since; /* 0, or since when the first of these is of no open write */
     uint64_t goal; /* the state is taken once so many writes are told */

@@ -54,17 +54,17 @@ static void note_unknown(struct course *course) {
 
 void hand_on(struct course *course) {
     uint8_t notices[NOTICES * NOTICE_BYTES];
-    size_t at = 0;
+    size_t at = 0, length = 0; /* of what was heard, and of what `drive` is told of it */
     bool is_known = true, is_last = false;
-    while (is_known && !is_last && at + NOTICE_BYTES <= course->heard_length) {
+    while (is_known && !is_last && at + TOLD_BYTES <= course->heard_length) {
         const struct told told = read_told(course->heard + at);
         is_known = count_notice(course, told);
         if (!is_known) break;
-        put_notice(notices + at, told.kind, told.write);
-        at += NOTICE_BYTES;
+        put_notice(notices + length, told.kind, told.write);
+        at += TOLD_BYTES, length += NOTICE_BYTES;
         is_last = course->tally->failed || course->tally->told == course->goal;
     }
-    write_all(course->drive.to, notices, at);
+    write_all(course->drive.to, notices, length);
     /* (no more than the job's depth are on their way back, so the pipe has room for them) */
     if (course->link->hello.is_local && at) write_all(course->link->child.to, course->heard, at);
     memmove(course->heard, course->heard + at, course->heard_length - at);

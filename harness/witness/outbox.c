@@ -1,6 +1,8 @@
 #include "outbox.h"
 
 #include "say.h"
+#include "slots.h"
+#include "sum.h"
 
 #include <endian.h>
 #include <errno.h>
@@ -8,23 +10,41 @@
 #include <string.h>
 #include <unistd.h>
 
-enum { HEAD = 16, MAX_LAST = 8192 };
+enum { MAX_LAST = 8192 };
 
 static size_t frame_of(const struct outbox *outbox) {
-    return HEAD + outbox->block_size;
+    return PLAIN_HEAD + outbox->block_size;
 }
 
-void make_outbox(struct outbox *outbox, uint64_t block_size, uint64_t depth) {
-    *outbox = (struct outbox){.block_size = block_size, .depth = depth};
+static size_t summed_frame_of(const struct outbox *outbox) {
+    return SUMMED_HEAD + outbox->block_size;
+}
+
+void make_outbox(struct outbox *outbox, uint64_t block_size, uint64_t depth, bool sends) {
+    *outbox = (struct outbox){.block_size = block_size, .depth = depth, .sends = sends};
     /* (no more orders than `depth` are open) */
     outbox->room = (depth + 1) * frame_of(outbox) + MAX_LAST;
-    outbox->bytes = malloc(outbox->room);
+    outbox->out_room = sends ? (depth + 1) * summed_frame_of(outbox) : 1;
+    outbox->bytes = malloc(outbox->room), outbox->out = malloc(outbox->out_room);
     outbox->open = calloc(depth, sizeof *outbox->open);
-    if (!outbox->bytes || !outbox->open) give_up("memory", strerror(ENOMEM));
+    if (!outbox->bytes || !outbox->out || !outbox->open) give_up("memory", strerror(ENOMEM));
 }
 
 void free_outbox(struct outbox *outbox) {
-    free(outbox->bytes), free(outbox->open);
+    free(outbox->bytes), free(outbox->out), free(outbox->open);
+}
+
+/* Puts an order that is whole behind those that are to be sent, with its sum. */
+static void put_out(struct outbox *outbox, const uint8_t *frame) {
+    struct order_head head = {.sum = htobe32(sum_over(0, frame, frame_of(outbox)))};
+    if (outbox->out_room - outbox->out_end < summed_frame_of(outbox)) {
+        memmove(outbox->out, outbox->out + outbox->sent, outbox->out_end - outbox->sent);
+        outbox->out_end -= outbox->sent, outbox->sent = 0;
+    }
+    memcpy(&head.order, frame, PLAIN_HEAD);
+    memcpy(outbox->out + outbox->out_end, &head, SUMMED_HEAD);
+    memcpy(outbox->out + outbox->out_end + SUMMED_HEAD, frame + PLAIN_HEAD, outbox->block_size);
+    outbox->out_end += summed_frame_of(outbox);
 }
 
 /* Notes the orders that are whole by now. What doesn't begin with 0 is what `drive` says last. */
@@ -34,15 +54,16 @@ static void see_orders(struct outbox *outbox) {
         memcpy(words, outbox->bytes + outbox->seen, sizeof words);
         if (outbox->open_count == outbox->depth) give_up("drive", "it has more writes out than the job's depth");
         outbox->open[outbox->open_count++] = (struct open_order){be64toh(words[0]), be64toh(words[1])};
+        if (outbox->sends) put_out(outbox, outbox->bytes + outbox->seen);
         outbox->seen += frame_of(outbox);
         outbox->ordered++;
     }
 }
 
 bool read_orders(struct outbox *outbox, int from) {
-    if (outbox->sent && outbox->room - outbox->end < frame_of(outbox) + MAX_LAST) {
-        memmove(outbox->bytes, outbox->bytes + outbox->sent, outbox->end - outbox->sent);
-        outbox->seen -= outbox->sent, outbox->end -= outbox->sent, outbox->sent = 0;
+    if (outbox->seen && outbox->room - outbox->end < frame_of(outbox) + MAX_LAST) {
+        memmove(outbox->bytes, outbox->bytes + outbox->seen, outbox->end - outbox->seen);
+        outbox->end -= outbox->seen, outbox->seen = 0;
     }
     if (outbox->end == outbox->room) give_up("drive", "it says more than its job has");
     ssize_t count = read(from, outbox->bytes + outbox->end, outbox->room - outbox->end);
@@ -50,27 +71,20 @@ bool read_orders(struct outbox *outbox, int from) {
     if (count <= 0) return false;
     outbox->end += (size_t)count;
     see_orders(outbox);
+    if (outbox->seen == outbox->end) outbox->seen = outbox->end = 0;
     return true;
 }
 
 bool has_orders(const struct outbox *outbox) {
-    return outbox->sent < outbox->seen;
-}
-
-static void note_sent(struct outbox *outbox, size_t count) {
-    outbox->sent += count;
-    if (outbox->sent == outbox->end) outbox->sent = outbox->seen = outbox->end = 0;
+    return outbox->sent < outbox->out_end;
 }
 
 bool send_orders(struct outbox *outbox, int to) {
-    ssize_t count = write(to, outbox->bytes + outbox->sent, outbox->seen - outbox->sent);
+    ssize_t count = write(to, outbox->out + outbox->sent, outbox->out_end - outbox->sent);
     if (count < 0) return errno == EAGAIN || errno == EINTR;
-    note_sent(outbox, (size_t)count);
+    outbox->sent += (size_t)count;
+    if (outbox->sent == outbox->out_end) outbox->sent = outbox->out_end = 0;
     return true;
-}
-
-void drop_orders(struct outbox *outbox) {
-    note_sent(outbox, outbox->seen - outbox->sent);
 }
 
 bool close_order(struct outbox *outbox, uint64_t write, uint64_t *block) {

@@ -11,15 +11,17 @@
 
 struct outbox {
     uint64_t block_size, depth, ordered;
-    uint8_t *bytes;
-    /* Up to `sent` the link has it, up to `seen` there are whole orders, up to `end` there are
-     * bytes. */
-    size_t room, sent, seen, end;
+    bool sends;
+    uint8_t *bytes; /* what `drive` has said: up to `end`, of which what is before `seen` is done with */
+    size_t room, seen, end;
+    uint8_t *out; /* orders with their sums: up to `sent` the link has them, up to `out_end` they stand there */
+    size_t out_room, sent, out_end;
     struct open_order { uint64_t write, block; } *open;
     size_t open_count;
 };
 
-void make_outbox(struct outbox *outbox, uint64_t block_size, uint64_t depth);
+/* Of one that doesn't send, who carries the orders out has them already. */
+void make_outbox(struct outbox *outbox, uint64_t block_size, uint64_t depth, bool sends);
 void free_outbox(struct outbox *outbox);
 
 /* Reads what `drive` says. False once it says no more. */
@@ -30,9 +32,6 @@ bool has_orders(const struct outbox *outbox);
 
 /* Gives the link as many as it takes now. False where it takes no more at all. */
 bool send_orders(struct outbox *outbox, int to);
-
-/* Sends none of those that are whole by now: who carries them out has them already. */
-void drop_orders(struct outbox *outbox);
 
 /* Notes that an order's end was told. False where there is no such open order. */
 bool close_order(struct outbox *outbox, uint64_t write, uint64_t *block);

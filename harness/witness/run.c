@@ -20,7 +20,6 @@ static void take_orders(struct course *course) {
     course->is_over = !read_orders(&course->outbox, course->drive.from);
     if (was_idle) course->last_heard = milliseconds();
     course->tally->ordered = course->outbox.ordered;
-    if (course->link->hello.is_local) drop_orders(&course->outbox);
     if (course->unknown_since && !course->is_taken) hand_on(course);
 }
 
@@ -126,7 +125,7 @@ struct tally run_job(const struct options *options, const struct job *job, struc
     course.goal = cut_after ? UINT64_MAX : after;
     course.cut_at = cut_after ? course.began + cut_after : 0;
     course.last_heard = course.began, course.next_line = course.began + 1000;
-    make_outbox(&course.outbox, link->hello.region.block_size, job->depth);
+    make_outbox(&course.outbox, link->hello.region.block_size, job->depth, !link->hello.is_local);
     int signals = open_signals();
     fcntl(link->child.to, F_SETFL, O_NONBLOCK), fcntl(link->child.from, F_SETFL, O_NONBLOCK);
     course.drive = start_drive("write", tally.run, job, CHILD_READS | CHILD_WRITES);
