@@ -230,6 +230,16 @@ def nights_that_go_on():
     tell("a job of a pattern", (status, len(cycles_in(printed))), (0, 2))
 
 
+def kept_blocks():
+    """The bytes of the first faulty blocks of a cycle are kept, before the next one writes over them."""
+    harm = "kill -KILL $(cat agent); for b in 3 7 9; do printf abc | dd of=kb bs=1 seek=$((b * 4096 + 8)) conv=notrunc 2>/dev/null; done; cp kb as-it-was"
+    status, _, _ = witness("cycle", "two.fio", "blocks", *link("kb"), "--off", harm, *CUT[2:], "--cycles", "1", "--trust-off")
+    names = sorted(it for it in os.listdir("blocks") if ".block-" in it)
+    tell("faulty blocks", (status, names), (1, [f"cycle-000001.block-{it}" for it in (3, 7, 9)]))
+    data = read("as-it-was")
+    tell("their bytes", [read(f"blocks/cycle-000001.block-{it}") == data[it * BLOCK : (it + 1) * BLOCK] for it in (3, 7, 9)], [True] * 3)
+
+
 def kept_nights():
     """A series that is resumed begins with the power; a line that was cut short is taken away; a cycle
     that is checked later knows what was ordered; and room for its files is there before the cut."""

@@ -36,7 +36,7 @@ static bool read_rest(const struct source *source, const struct chunk *chunk, ui
 
 /* Hands all that the agent reads on, until no more is wanted. False where the link ends, falls silent
  * or brings other bytes than were sent before the region ends. */
-static bool pass_region_on(const struct source *source, struct map *map) {
+static bool pass_region_on(const struct source *source, const struct sink *sink) {
     static uint8_t bytes[MAX_CHUNK];
     struct chunk chunk;
     size_t length;
@@ -45,14 +45,27 @@ static bool pass_region_on(const struct source *source, struct map *map) {
         uint64_t kind = be64toh(chunk.kind), number = be64toh(chunk.number);
         if (kind == CHUNK_END) return true;
         if (kind == CHUNK_MISSED) say("block %" PRIu64 " can't be read: %.*s", number, MAX_WHY - 1, (const char *)bytes);
-        goes_on = kind == CHUNK_MISSED ? map_missed(map) : kind == CHUNK_BYTES && map_blocks(map, bytes, length);
+        goes_on = kind == CHUNK_MISSED ? sink->miss(sink->whose, number, "") : kind == CHUNK_BYTES && sink->take(sink->whose, bytes, length);
     }
     return !goes_on;
 }
 
+static bool give_blocks(void *map, const void *bytes, size_t length) {
+    return map_blocks(map, bytes, length);
+}
+
+static bool pass_over(void *map, uint64_t block, const char *why) {
+    (void)block, (void)why;
+    return map_missed(map);
+}
+
+static uint64_t quiet_of(const struct options *options) {
+    return options->quiet ? options->quiet : options->wait * 1000;
+}
+
 static bool map_once(const struct options *options, const struct job *job, struct link *link, const struct kept *kept, struct map *map) {
     open_map(map, kept->run, job, &link->hello.region, kept->state, kept->length);
-    bool is_whole = pass_region_on(&(struct source){link, options->quiet ? options->quiet : options->wait * 1000}, map);
+    bool is_whole = pass_region_on(&(struct source){link, quiet_of(options)}, &(struct sink){map, give_blocks, pass_over});
     await_map(map);
     end_link(link);
     return is_whole;
@@ -83,4 +96,15 @@ void check_by_link(const struct options *options, const struct job *job, const s
     if (!*hello.drive || strstr(why, "another drive") || strstr(why, "in use") || strstr(why, "at work")) give_up("the agent refuses", why);
     *welcome = (struct welcome){0};
     map_nothing(job, region, kept, why, map);
+}
+
+bool read_by_link(const struct options *options, const struct job *job, const struct region *region, const struct kept *kept, const struct sink *sink) {
+    struct hello hello = {.depth = job->depth, .region = *region};
+    struct link link;
+    char why[MAX_WHY];
+    if (!options->other_drive) memcpy(hello.drive, kept->drive, MAX_DRIVE);
+    if (!try_link(&link, options->link, &hello, job, milliseconds() + options->wait * 1000, why)) return false;
+    bool is_whole = pass_region_on(&(struct source){&link, quiet_of(options)}, sink);
+    end_link(&link);
+    return is_whole;
 }

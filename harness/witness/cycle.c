@@ -1,5 +1,6 @@
 #include "commands.h"
 
+#include "dump.h"
 #include "folder.h"
 #include "map.h"
 #include "say.h"
@@ -49,6 +50,7 @@ static bool check_cycle(const struct options *options, const struct job *job, co
     cycle->checked = verdict.checked, cycle->faults = verdict.faults;
     memcpy(cycle->kinds, verdict.kinds, sizeof cycle->kinds);
     if (!verdict.is_report) fputs(report_of_map(&map), stderr);
+    dump_faulty(options, job, region, kept, folder, cycle->number, &map);
     free_map(&map);
     return verdict.is_report;
 }

@@ -43,4 +43,8 @@ struct tally run_job(const struct options *options, const struct job *job, struc
 struct map;
 void check_by_link(const struct options *options, const struct job *job, const struct region *region, const struct kept *kept, struct map *map, struct welcome *welcome);
 
+/* Reads a region by an agent, once, and hands its blocks on. Returns whether all came. */
+struct sink;
+bool read_by_link(const struct options *options, const struct job *job, const struct region *region, const struct kept *kept, const struct sink *sink);
+
 #endif
