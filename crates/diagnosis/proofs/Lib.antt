@@ -1,5 +1,7 @@
 pub mod BlockLemmas
+pub mod DamageLemmas
 pub mod DifferenceLemmas
+pub mod FarLemmas
 pub mod KindLemmas
 pub mod OwnLemmas
 pub mod PieceLemmas

@@ -72,7 +72,7 @@ some_last (Some last) P h = (last, (refl, h))
 pub lost_is_older : (key : Key) (job : JobParts) (state : Option State) (block : ℕ) (bytes : List ℕ) (k : ℕ) → block < job.blocks
     → BlockHolds (expected_by key job state) block bytes (kinds.Lost k) → (last : ℕ) × (IsLastCompleted job state block last × (k < last))
 lost_is_older key job state block bytes k lt h =
-    let found = some_last (last_write (expected_by key job state) block) (λ last. k < last) h.1.1 in
+    let found = some_last (last_write (expected_by key job state) block) (λ last. k < last) h.1.1.1 in
     (found.0, (is_last job state block found.0 (sym (last_is key job state block lt) ∙ found.1.0), found.1.1))
 
 -- A block of which something has completed, and which holds nothing expected, is a fault.
@@ -87,7 +87,7 @@ pub unissued_is_not_issued : FaultsAreLosses → (key : Key) (job : JobParts) (s
 unissued_is_not_issued law key job state block bytes k lt h issued goes = by (counts state k) refl
   where
     found : (last : ℕ) × ((last_write (expected_by key job state) block ≡ Some last) × (last < k))
-    found = some_last (last_write (expected_by key job state) block) (λ last. last < k) h.1.1
+    found = some_last (last_write (expected_by key job state) block) (λ last. last < k) h.1.1.1
 
     by : (b : Bool) → counts state k ≡ b → ⊥
     by true is =
@@ -97,4 +97,4 @@ unissued_is_not_issued law key job state block bytes k lt h issued goes = by (co
     by false is =
         let fault = is_a_fault (is_checked (expected_by key job state) block) (is_expected (expected_by key job state) block bytes) (some_is _ found.0 found.1.0) h.0 in
         let lost = (law key job state (λ n. bytes) block lt).0 fault in
-        lost.in_flight k (record { issued = issued; uncounted = is; goes = goes }) h.1.0.held
+        lost.in_flight k (record { issued = issued; uncounted = is; goes = goes }) h.1.1.0.held

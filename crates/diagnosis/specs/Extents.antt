@@ -1,6 +1,6 @@
 -- Sectors of a block that go together.
 use Rattle.std.specs.Prelude.{◌≡◌, ◌⊎◌, ◌<◌, ◌≤◌, ℕ, ◌+◌, ◌-◌, List}
-use Rattle.fc_base.specs.declared.record.JobParts.{JobParts}
+use Rattle.recheck.specs.Expected.{Expected}
 use Rattle.diagnosis.specs.declared.extent.Extent.{Extent}
 use Rattle.diagnosis.specs.declared.piece.Piece.{Piece}
 use Rattle.diagnosis.specs.declared.piece.Piece.TheVariants as pieces
@@ -17,18 +17,18 @@ GoesOn (pieces.Stamp first) behind (pieces.Stamp stamp) =
 GoesOn first behind piece = ⊥
 
 -- The sector goes together with an earlier one.
-abbrev pub GoesWith : JobParts → List ℕ → ℕ → ℕ → Type 0
-GoesWith job bytes from number =
-    GoesOn (piece_at job bytes from) (number - from) (piece_at job bytes number)
+abbrev pub GoesWith : Expected → List ℕ → ℕ → ℕ → Type 0
+GoesWith e bytes from number =
+    GoesOn (piece_at e bytes from) (number - from) (piece_at e bytes number)
 
 -- The sectors from one on that go together with it, of the first so many of a block: all up to one
 -- that doesn't, or up to the last.
-pub record IsExtent (job : JobParts) (bytes : List ℕ) (from sectors : ℕ)
+pub record IsExtent (e : Expected) (bytes : List ℕ) (from sectors : ℕ)
     (extent : Extent) : Type 0 where
   pub begins : extent.from ≡ from
-  pub holds : extent.piece ≡ piece_at job bytes from
+  pub holds : extent.piece ≡ piece_at e bytes from
   pub some : from < extent.end
   pub within : extent.end ≤ sectors
   pub together : (number : ℕ) → from < number → number < extent.end
-      → GoesWith job bytes from number
-  pub all : (extent.end ≡ sectors) ⊎ (GoesWith job bytes from extent.end → ⊥)
+      → GoesWith e bytes from number
+  pub all : (extent.end ≡ sectors) ⊎ (GoesWith e bytes from extent.end → ⊥)

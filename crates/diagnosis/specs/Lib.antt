@@ -1,7 +1,10 @@
+pub mod Damage
 pub mod Differences
 pub mod Extents
+pub mod Held
 pub mod Kinds
 pub mod Laws
+pub mod Limits
 pub mod Pieces
 pub mod Sectors
 pub mod Steps

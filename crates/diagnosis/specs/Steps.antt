@@ -8,11 +8,12 @@ use Rattle.diagnosis.specs.declared.holds.Holds.{Holds}
 use Rattle.diagnosis.specs.declared.holds.Holds.TheVariants as kinds
 use Rattle.diagnosis.specs.declared.difference.Difference.{Difference}
 use Rattle.diagnosis.specs.declared.stamp.Write.{Write}
-use Rattle.diagnosis.specs.Kinds.{HoldsWrite}
+use Rattle.recheck.specs.Expected.{Expected}
+use Rattle.diagnosis.specs.Held.{HoldsWrite}
 
 -- The block holds no whole write.
-abbrev pub HoldsNoWrite : JobParts → List ℕ → Type 0
-HoldsNoWrite job bytes = (write : Write) → HoldsWrite job bytes write → ⊥
+abbrev pub HoldsNoWrite : Expected → List ℕ → Type 0
+HoldsNoWrite e bytes = (write : Write) → HoldsWrite e bytes write → ⊥
 
 -- The block is no byte over and over.
 abbrev pub RepeatsNoByte : List ℕ → Type 0

@@ -1,23 +1,26 @@
 //! A block is diagnosed.
 
-ghost use Rattle.std.specs.Prelude.{◌≡◌, ◌≢◌, ◌↔◌, ◌<◌, ◌≤◌, IsTrue, MatchOption, false, length, replicate};
+ghost use Rattle.std.specs.Prelude.{◌≡◌, ◌≢◌, ◌↔◌, ◌<◌, IsTrue, MatchOption, false, length, replicate};
 ghost use Rattle.recheck.specs.Faults.{is_checked, is_expected, last_write, verdict};
-ghost use Rattle.diagnosis.specs.Kinds.{BlockHolds, FaultHolds, HoldsWrite};
-ghost use Rattle.diagnosis.specs.Steps.{HoldsNoWrite, RepeatsNoByte, held_write, filled_kind, mixed_kind, own_kind};
+ghost use Rattle.diagnosis.specs.Held.{HoldsWrite, own_write};
+ghost use Rattle.diagnosis.specs.Kinds.{BlockHolds, FaultHolds, OtherHolds, unknown_sectors};
+ghost use Rattle.diagnosis.specs.Steps.{RepeatsNoByte, filled_kind, mixed_kind, own_kind};
 
+use crate::damage::is_damaged;
 use crate::holds::Holds;
-use crate::pieces::{count_unknown, is_all};
-use crate::stamp::{SECTOR, Write, stamp_of};
-use fc_base::{JobRecord, Seq, Verify};
+use crate::pieces::{block_size, count_unknown, is_all};
+use crate::stamp::Write;
+use crate::whole::whole_write;
+use fc_base::Seq;
 use recheck::{Expected, Verdict};
-use write_order::holds_write;
 
 /// What a block holds that is checked, as [`Recheck::wants`](recheck::Recheck::wants) tells.
 /// `bytes` is the whole block.
 ///
 /// What was wanted there is told by [`Expected::last_write`] and [`Expected::in_flight`], and what
 /// each sector of a torn or corrupt block holds by [`piece_at`](crate::piece_at). No memory is
-/// taken. A sound block costs what its check does; another is gone over up to three times more.
+/// taken. A sound block costs what its check does; another is gone over once for each write that it
+/// may hold, and up to five times more.
 pub fn diagnose(expected: &Expected, block: u32, bytes: &[u8]) -> Holds
     requires block { block < expected.now.job.blocks }
     requires checked { IsTrue (is_checked expected.now block) }
@@ -33,21 +36,42 @@ pub fn diagnose(expected: &Expected, block: u32, bytes: &[u8]) -> Holds
     }
 }
 
-/// What a faulty block holds.
+/// What a faulty block holds: a damaged copy of a write that it may hold is corrupt.
 fn fault(expected: &Expected, block: u32, bytes: &[u8]) -> Holds
     requires checked { IsTrue (is_checked expected.now block) }
     requires bytes { length bytes.now ≡ expected.now.job.bs }
     requires faulty { is_expected expected.now block bytes.now ≡ false }
     ensures { FaultHolds expected.now block bytes.now result }
 {
-    let rec = expected.rec();
-    let sectors = rec.bs() / 512;
+    if is_damaged(expected, block, bytes) {
+        Holds::Corrupt(unknown_sectors(expected, bytes))
+    } else {
+        other(expected, block, bytes)
+    }
+}
+
+/// How many of its sectors hold nothing that is known.
+fn unknown_sectors(expected: &Expected, bytes: &[u8]) -> u32
+    requires { length bytes.now ≡ expected.now.job.bs }
+    ensures { result ≡ unknown_sectors expected.now bytes.now }
+{
+    count_unknown(expected, bytes, block_size(expected) / 512)
+}
+
+/// What a faulty block holds that is no such copy.
+fn other(expected: &Expected, block: u32, bytes: &[u8]) -> Holds
+    requires checked { IsTrue (is_checked expected.now block) }
+    requires bytes { length bytes.now ≡ expected.now.job.bs }
+    requires faulty { is_expected expected.now block bytes.now ≡ false }
+    ensures { OtherHolds expected.now block bytes.now result }
+{
+    let _size = block_size(expected);
     if let Some(byte) = repeated_byte(bytes) {
         return filled(byte);
     }
-    match whole_write(&rec, bytes) {
+    match whole_write(expected, bytes) {
         Some(write) => of_write(expected, block, bytes, write),
-        None => mixed(count_unknown(&rec, bytes, sectors)),
+        None => mixed(unknown_sectors(expected, bytes)),
     }
 }
 
@@ -85,57 +109,27 @@ fn mixed(unknown: u32) -> Holds
     }
 }
 
-/// The write whose bytes the block holds, if there is one.
-fn whole_write(rec: &JobRecord, bytes: &[u8]) -> Option<Write>
-    requires bytes { length bytes.now ≡ rec.now.bs }
-    requires long { SECTOR ≤ length bytes.now }
-    ensures { MatchOption result (HoldsNoWrite rec.now bytes.now) (HoldsWrite rec.now bytes.now) }
-{
-    match rec.verify() {
-        Verify::Pattern => None,
-        Verify::Stamp => stamped_write(rec, bytes),
-    }
-}
-
-/// The write that the first sector says, where the whole block is of it.
-fn stamped_write(rec: &JobRecord, bytes: &[u8]) -> Option<Write>
-    requires bytes { length bytes.now ≡ rec.now.bs }
-    requires long { SECTOR ≤ length bytes.now }
-    requires stamps { rec.now.verify ≡ Verify.Stamp }
-    ensures { MatchOption result (HoldsNoWrite rec.now bytes.now) (HoldsWrite rec.now bytes.now) }
-{
-    match stamp_of(&bytes[..SECTOR]) {
-        None => None,
-        Some(stamp) => held(rec, bytes, stamp.write),
-    }
-}
-
-/// This write, where the block holds its bytes.
-fn held(rec: &JobRecord, bytes: &[u8], write: Write) -> Option<Write>
-    requires { length bytes.now ≡ rec.now.bs }
-    ensures { result ≡ held_write rec.now bytes.now write }
-{
-    if holds_write(&write.key, rec, write.seq, write.block, bytes) {
-        Some(write)
-    } else {
-        None
-    }
-}
-
 /// What a faulty block holds that has the bytes of this write.
 fn of_write(expected: &Expected, block: u32, bytes: &[u8], write: Write) -> Holds
     requires checked { IsTrue (is_checked expected.now block) }
     requires faulty { is_expected expected.now block bytes.now ≡ false }
-    requires held { HoldsWrite expected.now.job bytes.now write }
-    ensures { FaultHolds expected.now block bytes.now result }
+    requires held { HoldsWrite expected.now bytes.now write }
+    ensures { OtherHolds expected.now block bytes.now result }
 {
     if write.key.run != expected.key().run {
         Holds::OtherRun(write)
-    } else if write.key != expected.key() || write.block != block {
-        Holds::Misdirected(write)
-    } else {
+    } else if is_own(expected, block, &write) {
         own_write(expected, block, write.seq)
+    } else {
+        Holds::Misdirected(write)
     }
+}
+
+/// Whether it is a write of the job that is checked, to this block.
+fn is_own(expected: &Expected, block: u32, write: &Write) -> bool
+    ensures { IsTrue result ↔ (write.now ≡ own_write expected.now block write.now.seq) }
+{
+    write.key == expected.key() && write.block == block
 }
 
 /// What a faulty block holds that has the bytes of this write of its own job to it.

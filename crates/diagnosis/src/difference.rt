@@ -14,6 +14,11 @@ use write_order::fill_block;
 /// modulo 256. The bound is this project's own, and no definition rests on it.
 pub const FEW_BYTES: u32 = 16;
 
+/// So many bits that differ are few: a faulty block that differs in no more of them from a write
+/// that it may hold is told as a damaged copy of that write, as `specs/Damage.antt` says when. The
+/// bound is this project's own.
+pub const FEW_BITS: u32 = 16;
+
 /// How the bytes of a block differ from those of a write.
 #[derive(Clone, Copy, Debug, PartialEq, Eq)]
 pub struct Difference {
@@ -34,8 +39,8 @@ impl Difference {
     }
 }
 
-/// How the bytes of a block differ from what write `seq` puts into it. The wanted write of a
-/// corrupt block is its last completed one. `bytes` is the whole block, and no memory is taken.
+/// How the bytes of a block differ from what write `seq` puts into it. `bytes` is the whole block,
+/// and no memory is taken.
 pub fn compare_write(key: &Key, rec: &JobRecord, seq: Seq, block: u32, bytes: &[u8]) -> Difference
     requires { length bytes.now ≡ rec.now.bs }
     ensures { result ≡ difference_of bytes.now (written_bytes key.now rec.now seq block) }

@@ -6,7 +6,7 @@ ghost use Rattle.diagnosis.specs.Extents.{IsExtent, GoesOn, GoesWith};
 use crate::piece::Piece;
 use crate::pieces::piece_at;
 use crate::stamp::SECTOR;
-use fc_base::JobRecord;
+use recheck::Expected;
 
 /// Sectors one after another that go together: zeros, the pattern, sectors of one write in their
 /// order, or sectors of which nothing is known.
@@ -23,31 +23,31 @@ pub struct Extent {
 /// The sectors from this one on that go together with it, of the first so many of a block: as many
 /// as there are. Beginning at 0, and each time at the end of the last, a block is told from its
 /// first sector to its last.
-pub fn extent_at(rec: &JobRecord, bytes: &[u8], from: u32, sectors: u32) -> Extent
+pub fn extent_at(expected: &Expected, bytes: &[u8], from: u32, sectors: u32) -> Extent
     requires there { from < sectors }
     requires bytes { sectors * SECTOR ≤ length bytes.now }
-    ensures { IsExtent rec.now bytes.now from sectors result }
+    ensures { IsExtent expected.now bytes.now from sectors result }
 {
-    let end = end_of_extent(rec, bytes, from, sectors);
+    let end = end_of_extent(expected, bytes, from, sectors);
     Extent {
-        piece: piece_at(rec, bytes, from),
+        piece: piece_at(expected, bytes, from),
         from,
         end,
     }
 }
 
 /// The first sector behind this one that doesn't go together with it, or how many there are.
-fn end_of_extent(rec: &JobRecord, bytes: &[u8], from: u32, sectors: u32) -> u32
+fn end_of_extent(expected: &Expected, bytes: &[u8], from: u32, sectors: u32) -> u32
     requires there { from < sectors }
     requires bytes { sectors * SECTOR ≤ length bytes.now }
     ensures some { from < result }
     ensures within { result ≤ sectors }
     ensures together { (number : ℕ) → from < number → number < result
-        → GoesWith rec.now bytes.now from number }
-    ensures all { (result ≡ sectors) ⊎ (GoesWith rec.now bytes.now from result → ⊥) }
+        → GoesWith expected.now bytes.now from number }
+    ensures all { (result ≡ sectors) ⊎ (GoesWith expected.now bytes.now from result → ⊥) }
 {
     for end in from + 1..sectors {
-        if !goes_with(rec, bytes, from, end) {
+        if !goes_with(expected, bytes, from, end) {
             return end;
         }
     }
@@ -55,13 +55,13 @@ fn end_of_extent(rec: &JobRecord, bytes: &[u8], from: u32, sectors: u32) -> u32
 }
 
 /// Whether a sector goes together with an earlier one.
-fn goes_with(rec: &JobRecord, bytes: &[u8], from: u32, number: u32) -> bool
+fn goes_with(expected: &Expected, bytes: &[u8], from: u32, number: u32) -> bool
     requires order { from < number }
     requires bytes { (number + 1) * SECTOR ≤ length bytes.now }
-    ensures { IsTrue result ↔ GoesWith rec.now bytes.now from number }
+    ensures { IsTrue result ↔ GoesWith expected.now bytes.now from number }
 {
-    let first = piece_at(rec, bytes, from);
-    goes_on(first, number - from, piece_at(rec, bytes, number))
+    let first = piece_at(expected, bytes, from);
+    goes_on(first, number - from, piece_at(expected, bytes, number))
 }
 
 /// Whether this piece, so many sectors behind that one, goes together with it.

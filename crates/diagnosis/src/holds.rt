@@ -24,6 +24,8 @@ pub enum Holds {
     /// Sectors that are each known, but not all of one write: of several writes, or of a write and
     /// zeros.
     Torn,
-    /// So many sectors, at least one, that hold nothing that is known.
+    /// So many sectors that hold nothing that is known: at least one, or none where the block is a
+    /// damaged copy of a write that it may hold, which differs from it in at most
+    /// [`FEW_BITS`](crate::FEW_BITS).
     Corrupt(u32),
 }

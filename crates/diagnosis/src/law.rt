@@ -1,6 +1,6 @@
 //! Laws of what blocks hold, over all checks, blocks and bytes. The functions have nothing to run.
 
-ghost use Rattle.diagnosis.specs.Laws.{SectorsSayOneThing, EachBlockHoldsOneKind, NamedWritesAreHeld, PiecesSay, LostWritesAreOlder, UnissuedWritesWereNotIssued};
+ghost use Rattle.diagnosis.specs.Laws.{SectorsSayOneThing, EachBlockHoldsOneKind, NamedWritesAreHeld, PiecesSay, LostWritesAreOlder, OtherWritesAreFar, UnissuedWritesWereNotIssued};
 
 use recheck::faults_are_losses;
 use write_order::stamps_tell_writes_apart;
@@ -33,6 +33,13 @@ pub fn own_writes_are_what_they_are_told()
 {
     faults_are_losses();
 }
+
+/// A block of one sector is told as a write that was never issued, or as one of another run, job,
+/// server or block, only where more than [`FEW_BITS`](crate::FEW_BITS) are other than in each write
+/// that it may hold: so not where one bit is.
+pub fn other_writes_are_far()
+    ensures { OtherWritesAreFar }
+{}
 
 /// A sector is told as a stamp exactly where it says what that stamp does.
 pub fn pieces_say()

@@ -16,22 +16,25 @@
 //! says what a sector holds.
 #![tactic(auto)]
 
+mod damage;
 mod diagnosing;
 mod difference;
 mod extent;
 mod holds;
 mod law;
+mod limits;
 mod piece;
 mod pieces;
 mod stamp;
+mod whole;
 
 pub use diagnosing::diagnose;
-pub use difference::{Difference, FEW_BYTES, compare_write};
+pub use difference::{Difference, FEW_BITS, FEW_BYTES, compare_write};
 pub use extent::{Extent, extent_at};
 pub use holds::Holds;
 pub use law::{
-    each_block_holds_one_kind, named_writes_are_held, own_writes_are_what_they_are_told,
-    pieces_say, sectors_say_one_thing,
+    each_block_holds_one_kind, named_writes_are_held, other_writes_are_far,
+    own_writes_are_what_they_are_told, pieces_say, sectors_say_one_thing,
 };
 pub use piece::Piece;
 pub use pieces::piece_at;

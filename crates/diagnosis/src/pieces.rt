@@ -1,35 +1,45 @@
 //! What the sectors of a block hold.
 
-ghost use Rattle.std.specs.Prelude.{◌≡◌, ◌+◌, ◌*◌, ◌/◌, ◌≤◌, ◌<◌, ◌==◌, length};
+ghost use Rattle.std.specs.Prelude.{◌≡◌, ◌+◌, ◌*◌, ◌/◌, ◌%◌, ◌≤◌, ◌<◌, ◌==◌, length};
 ghost use Rattle.std.specs.List.{list_all};
 ghost use Rattle.diagnosis.specs.Pieces.{piece_of, piece_at, is_unknown, unknown_below};
 
 use crate::piece::Piece;
 use crate::stamp::{SECTOR, stamp_of};
-use fc_base::{JobRecord, Verify};
+use fc_base::{MAX_BLOCK_SIZE, Verify};
+use recheck::Expected;
 
-/// What the sector of this number holds, in a block of this job.
+/// How many bytes a block has.
+pub(crate) fn block_size(expected: &Expected) -> u32
+    ensures value { result ≡ expected.now.job.bs }
+    ensures range { (512 ≤ result) × (result ≤ MAX_BLOCK_SIZE) × (result % 512 ≡ 0) }
+{
+    expected.rec().bs()
+}
+
+/// What the sector of this number holds, in a block of the job that is checked.
 #[tactic(auto, unfolding(crate::specs::Pieces::piece_at))]
-pub fn piece_at(rec: &JobRecord, bytes: &[u8], number: u32) -> Piece
+pub fn piece_at(expected: &Expected, bytes: &[u8], number: u32) -> Piece
     requires { (number + 1) * SECTOR ≤ length bytes.now }
-    ensures { result ≡ piece_at rec.now bytes.now number }
+    ensures { result ≡ piece_at expected.now bytes.now number }
 {
     let at = number as usize * SECTOR;
-    piece_of(rec, &bytes[at..at + SECTOR])
+    piece_of(expected, &bytes[at..at + SECTOR])
 }
 
 /// What a sector holds.
-fn piece_of(rec: &JobRecord, sector: &[u8]) -> Piece
+fn piece_of(expected: &Expected, sector: &[u8]) -> Piece
     requires { length sector.now ≡ SECTOR }
-    ensures { result ≡ piece_of rec.now sector.now }
+    ensures { result ≡ piece_of expected.now sector.now }
 {
     if is_all(sector, 0) {
         return Piece::Zeros;
     }
+    let rec = expected.rec();
     match rec.verify() {
         Verify::Pattern if is_all(sector, rec.pattern()) => Piece::Pattern,
         Verify::Pattern => Piece::Unknown,
-        Verify::Stamp => match stamp_of(sector) {
+        Verify::Stamp => match stamp_of(expected, sector) {
             Some(stamp) => Piece::Stamp(stamp),
             None => Piece::Unknown,
         },
@@ -37,13 +47,13 @@ fn piece_of(rec: &JobRecord, sector: &[u8]) -> Piece
 }
 
 /// How many of the first so many sectors hold nothing that is known.
-pub(crate) fn count_unknown(rec: &JobRecord, bytes: &[u8], sectors: u32) -> u32
+pub(crate) fn count_unknown(expected: &Expected, bytes: &[u8], sectors: u32) -> u32
     requires { sectors * SECTOR ≤ length bytes.now }
-    ensures value { result ≡ unknown_below rec.now bytes.now sectors }
+    ensures value { result ≡ unknown_below expected.now bytes.now sectors }
 {
     let mut count = 0;
     for number in 0..sectors {
-        if is_unknown(piece_at(rec, bytes, number)) {
+        if is_unknown(piece_at(expected, bytes, number)) {
             count += 1;
         }
     }

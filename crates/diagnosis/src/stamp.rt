@@ -5,9 +5,12 @@ ghost use Rattle.std.specs.Int.{w32, w64};
 ghost use Rattle.std.specs.Str.{bytes_eq};
 ghost use Rattle.verify_state.specs.Reading.{field};
 ghost use Rattle.write_order.specs.Stamps.{counting_bytes};
+ghost use Rattle.diagnosis.specs.Pieces.{says_something};
 ghost use Rattle.diagnosis.specs.Sectors.{stamp_in, is_stamped, HasRoom};
 
+use crate::limits::can_be;
 use fc_base::{JobNo, Key, RunNo, Seq, ServerNo, split_u32, split_u64};
+use recheck::Expected;
 
 /// Bytes of a sector.
 pub(crate) const SECTOR: usize = 512;
@@ -28,15 +31,19 @@ pub struct Stamp {
     pub sector: u32,
 }
 
-/// What a sector says, or `None` where its bytes are those of no stamp.
-pub(crate) fn stamp_of(sector: &[u8]) -> Option<Stamp>
+/// What a sector says, or `None` where its bytes are those of no stamp, or of one that can't be.
+pub(crate) fn stamp_of(expected: &Expected, sector: &[u8]) -> Option<Stamp>
     requires { length sector.now ≡ SECTOR }
     ensures value { result
-        ≡ (if is_stamped sector.now then Some (stamp_in sector.now) else None) }
+        ≡ (if says_something expected.now sector.now then Some (stamp_in sector.now) else None) }
     ensures room { IfSome result (λ stamp. HasRoom stamp.write) }
 {
-    if is_stamped(sector) {
-        Some(read_stamp(sector))
+    if !is_stamped(sector) {
+        return None;
+    }
+    let stamp = read_stamp(sector);
+    if can_be(expected, &stamp) {
+        Some(stamp)
     } else {
         None
     }

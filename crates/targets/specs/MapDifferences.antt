@@ -1,4 +1,4 @@
--- How a corrupt block differs from a write that it may hold.
+-- How a faulty block differs from a write that it may hold.
 use Rattle.std.specs.Prelude.{ℕ, ◌==◌, ◌/◌, ◌%◌, List, [], ◌++◌, Option, Some, None, nat_le, codes, decimal, if◌then◌else◌}
 use Rattle.std.specs.List.{flat_map}
 use Rattle.write_order.specs.Stamps.{written_bytes}

@@ -46,7 +46,12 @@ write_words write =
     ++ (codes " of job " ++ (decimal write.key.job ++ (codes " of server "
     ++ (decimal write.key.server ++ (codes " of run " ++ decimal write.key.run))))))))
 
--- What a block with these bytes holds, where that is more than its kind.
+-- Which write of the job to the block it holds.
+abbrev pub own_words : ℕ → List ℕ
+own_words k = codes ", holds write " ++ decimal k
+
+-- What a block with these bytes holds, where that is more than its kind. Where it holds stamps or a
+-- pattern, it is told how it differs from the writes that it may hold, if that is in a few bytes.
 abbrev pub held_words : Expected → ℕ → List ℕ → Told → List ℕ
 held_words e block bytes tolds.Unchecked = []
 held_words e block bytes tolds.Unread = []
@@ -54,14 +59,18 @@ held_words e block bytes tolds.Sound = []
 held_words e block bytes (tolds.Fault kinds.Sound) = []
 held_words e block bytes (tolds.Fault kinds.Unwritten) = []
 held_words e block bytes (tolds.Fault (kinds.Filled byte)) = codes ", holds byte " ++ decimal byte
-held_words e block bytes (tolds.Fault (kinds.Lost k)) = codes ", holds write " ++ decimal k
-held_words e block bytes (tolds.Fault (kinds.Unissued k)) = codes ", holds write " ++ decimal k
-held_words e block bytes (tolds.Fault (kinds.OtherRun write)) = write_words write
-held_words e block bytes (tolds.Fault (kinds.Misdirected write)) = write_words write
-held_words e block bytes (tolds.Fault kinds.Torn) = sectors_words e.job bytes
+held_words e block bytes (tolds.Fault (kinds.Lost k)) = own_words k ++ differs_words e block bytes
+held_words e block bytes (tolds.Fault (kinds.Unissued k)) =
+    own_words k ++ differs_words e block bytes
+held_words e block bytes (tolds.Fault (kinds.OtherRun write)) =
+    write_words write ++ differs_words e block bytes
+held_words e block bytes (tolds.Fault (kinds.Misdirected write)) =
+    write_words write ++ differs_words e block bytes
+held_words e block bytes (tolds.Fault kinds.Torn) =
+    differs_words e block bytes ++ sectors_words e bytes
 held_words e block bytes (tolds.Fault (kinds.Corrupt sectors)) =
     codes ", unknown sectors " ++ (decimal sectors
-    ++ (differs_words e block bytes ++ sectors_words e.job bytes))
+    ++ (differs_words e block bytes ++ sectors_words e bytes))
 
 -- The line of a block: its number, what is told of it, the writes that it may hold, and what it
 -- holds.

@@ -2,7 +2,7 @@
 use Rattle.std.specs.Prelude.{ℕ, ◌==◌, ◌+◌, ◌-◌, ◌/◌, Bool, true, false, not, ◌&&◌, ◌||◌, List, [], ◌++◌, codes, decimal, if◌then◌else◌}
 use Rattle.std.specs.List.{flat_map, range_with_len}
 use Rattle.fc_base.specs.declared.numbers.Key.{Key}
-use Rattle.fc_base.specs.declared.record.JobParts.{JobParts}
+use Rattle.recheck.specs.Expected.{Expected}
 use Rattle.diagnosis.specs.declared.piece.Piece.{Piece}
 use Rattle.diagnosis.specs.declared.piece.Piece.TheVariants as pieces
 use Rattle.diagnosis.specs.declared.stamp.Stamp.{Stamp}
@@ -30,14 +30,14 @@ goes_on (pieces.Stamp first) (pieces.Stamp next) = is_next first next
 goes_on first next = false
 
 -- An extent begins at a sector that the one before it doesn't go on in.
-abbrev pub begins_at : JobParts → List ℕ → ℕ → Bool
-begins_at job bytes n =
-    n == 0 || not (goes_on (piece_at job bytes (n - 1)) (piece_at job bytes n))
+abbrev pub begins_at : Expected → List ℕ → ℕ → Bool
+begins_at e bytes n =
+    n == 0 || not (goes_on (piece_at e bytes (n - 1)) (piece_at e bytes n))
 
 -- It ends at one that doesn't go on in the next, of so many.
-abbrev pub ends_at : JobParts → List ℕ → ℕ → ℕ → Bool
-ends_at job bytes sectors n =
-    n + 1 == sectors || not (goes_on (piece_at job bytes n) (piece_at job bytes (n + 1)))
+abbrev pub ends_at : Expected → List ℕ → ℕ → ℕ → Bool
+ends_at e bytes sectors n =
+    n + 1 == sectors || not (goes_on (piece_at e bytes n) (piece_at e bytes (n + 1)))
 
 -- What a stamp says: the write, and which of its sectors this is.
 abbrev pub stamp_words : Stamp → List ℕ
@@ -54,21 +54,21 @@ piece_words pieces.Unknown = codes "unknown"
 piece_words (pieces.Stamp stamp) = stamp_words stamp
 
 -- The first sector of an extent.
-abbrev pub begin_words : JobParts → List ℕ → ℕ → List ℕ
-begin_words job bytes n = if begins_at job bytes n then codes "; " ++ decimal n else []
+abbrev pub begin_words : Expected → List ℕ → ℕ → List ℕ
+begin_words e bytes n = if begins_at e bytes n then codes "; " ++ decimal n else []
 
 -- Its last, and what that holds.
 abbrev pub last_sector_words : ℕ → Piece → List ℕ
 last_sector_words n piece = codes "-" ++ (decimal n ++ (codes " " ++ piece_words piece))
 
-abbrev pub end_words : JobParts → List ℕ → ℕ → ℕ → List ℕ
-end_words job bytes sectors n =
-    if ends_at job bytes sectors n then last_sector_words n (piece_at job bytes n) else []
+abbrev pub end_words : Expected → List ℕ → ℕ → ℕ → List ℕ
+end_words e bytes sectors n =
+    if ends_at e bytes sectors n then last_sector_words n (piece_at e bytes n) else []
 
-abbrev pub sector_words : JobParts → List ℕ → ℕ → ℕ → List ℕ
-sector_words job bytes sectors n = begin_words job bytes n ++ end_words job bytes sectors n
+abbrev pub sector_words : Expected → List ℕ → ℕ → ℕ → List ℕ
+sector_words e bytes sectors n = begin_words e bytes n ++ end_words e bytes sectors n
 
 -- All extents of a block, each from its first sector to its last, with what the last one holds.
-abbrev pub sectors_words : JobParts → List ℕ → List ℕ
-sectors_words job bytes =
-    flat_map (sector_words job bytes (job.bs / 512)) (range_with_len 0 (job.bs / 512))
+abbrev pub sectors_words : Expected → List ℕ → List ℕ
+sectors_words e bytes =
+    flat_map (sector_words e bytes (e.job.bs / 512)) (range_with_len 0 (e.job.bs / 512))

@@ -1,4 +1,4 @@
-//! How a corrupt block differs from a write that it may hold.
+//! How a faulty block differs from a write that it may hold.
 
 ghost use Rattle.std.specs.Prelude.{◌≡◌, OnOk, length};
 ghost use Rattle.std.specs.List.{flat_map};

@@ -5,7 +5,7 @@ ghost use Rattle.std.specs.List.{flat_map};
 ghost use Rattle.std.specs.Io.KnownBytes.{Appends};
 ghost use Rattle.targets.specs.MapDifferences.{differs_words};
 ghost use Rattle.targets.specs.MapSectors.{sectors_words};
-ghost use Rattle.targets.specs.MapLines.{held_words, last_words, line_if_any, line_words, or_words, wanted_words, write_words};
+ghost use Rattle.targets.specs.MapLines.{held_words, last_words, line_if_any, line_words, or_words, own_words, wanted_words, write_words};
 
 use crate::map_differences::write_differences;
 use crate::map_sectors::write_sectors;
@@ -112,33 +112,72 @@ fn write_held<W: Write>(
 {
     match told {
         Told::Fault(Holds::Filled(byte)) => write!(writer, ", holds byte {byte}"),
-        Told::Fault(Holds::Lost(seq)) => write_seq(writer, *seq),
-        Told::Fault(Holds::Unissued(seq)) => write_seq(writer, *seq),
-        Told::Fault(Holds::OtherRun(write)) => write_write(writer, write),
-        Told::Fault(Holds::Misdirected(write)) => write_write(writer, write),
+        Told::Fault(Holds::Lost(seq)) => write_own(writer, expected, block, bytes, *seq),
+        Told::Fault(Holds::Unissued(seq)) => write_own(writer, expected, block, bytes, *seq),
+        Told::Fault(Holds::OtherRun(write)) => write_other(writer, expected, block, bytes, write),
+        Told::Fault(Holds::Misdirected(write)) => {
+            write_other(writer, expected, block, bytes, write)
+        }
         Told::Fault(Holds::Corrupt(sectors)) => {
             write_corrupt(writer, expected, block, bytes, *sectors)
         }
         Told::Fault(Holds::Sound) => Ok(()),
         Told::Fault(Holds::Unwritten) => Ok(()),
-        Told::Fault(Holds::Torn) => write_torn(writer, expected, bytes),
+        Told::Fault(Holds::Torn) => write_torn(writer, expected, block, bytes),
         Told::Unchecked => Ok(()),
         Told::Unread => Ok(()),
         Told::Sound => Ok(()),
     }
 }
 
-/// Writes what each sector holds.
-fn write_torn<W: Write>(writer: &mut W, expected: &Expected, bytes: &[u8]) -> io::Result<()>
+/// Writes which write of the job to the block it holds, and how it differs from what it may hold.
+fn write_own<W: Write>(
+    writer: &mut W,
+    expected: &Expected,
+    block: u32,
+    bytes: &[u8],
+    seq: Seq,
+) -> io::Result<()>
     requires { length bytes.now ≡ expected.now.job.bs }
     ensures { OnOk result (Appends (W.contents writer.old) (W.contents writer.new)
-        (sectors_words expected.now.job bytes.now)) }
+        (own_words seq ++ differs_words expected.now block bytes.now)) }
 {
-    write_sectors(writer, &expected.rec(), bytes)
+    write_seq(writer, seq)?;
+    write_differences(writer, expected, block, bytes)
 }
 
-/// Writes how many sectors are unknown, how the block differs from what it may hold, and what each
-/// sector holds.
+/// Writes which write it holds, and whose, and how it differs likewise.
+fn write_other<W: Write>(
+    writer: &mut W,
+    expected: &Expected,
+    block: u32,
+    bytes: &[u8],
+    write: &Written,
+) -> io::Result<()>
+    requires { length bytes.now ≡ expected.now.job.bs }
+    ensures { OnOk result (Appends (W.contents writer.old) (W.contents writer.new)
+        (write_words write.now ++ differs_words expected.now block bytes.now)) }
+{
+    write_write(writer, write)?;
+    write_differences(writer, expected, block, bytes)
+}
+
+/// Writes how the block differs from what it may hold, and what each sector holds.
+fn write_torn<W: Write>(
+    writer: &mut W,
+    expected: &Expected,
+    block: u32,
+    bytes: &[u8],
+) -> io::Result<()>
+    requires { length bytes.now ≡ expected.now.job.bs }
+    ensures { OnOk result (Appends (W.contents writer.old) (W.contents writer.new)
+        (differs_words expected.now block bytes.now ++ sectors_words expected.now bytes.now)) }
+{
+    write_differences(writer, expected, block, bytes)?;
+    write_sectors(writer, expected, bytes)
+}
+
+/// Writes how many sectors are unknown, and then what is told of a torn block.
 fn write_corrupt<W: Write>(
     writer: &mut W,
     expected: &Expected,
@@ -149,17 +188,16 @@ fn write_corrupt<W: Write>(
     requires { length bytes.now ≡ expected.now.job.bs }
     ensures { OnOk result (Appends (W.contents writer.old) (W.contents writer.new)
         (codes ", unknown sectors " ++ (decimal sectors
-        ++ (differs_words expected.now block bytes.now ++ sectors_words expected.now.job bytes.now)))) }
+        ++ (differs_words expected.now block bytes.now ++ sectors_words expected.now bytes.now)))) }
 {
     write!(writer, ", unknown sectors {sectors}")?;
-    write_differences(writer, expected, block, bytes)?;
-    write_torn(writer, expected, bytes)
+    write_torn(writer, expected, block, bytes)
 }
 
 /// Writes which write of the job to the block it holds.
 fn write_seq<W: Write>(writer: &mut W, seq: Seq) -> io::Result<()>
     ensures { OnOk result (Appends (W.contents writer.old) (W.contents writer.new)
-        (codes ", holds write " ++ decimal seq)) }
+        (own_words seq)) }
 {
     let Seq(number) = seq;
     write!(writer, ", holds write {number}")

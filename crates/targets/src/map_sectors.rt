@@ -6,36 +6,37 @@ ghost use Rattle.std.specs.Io.KnownBytes.{Appends};
 ghost use Rattle.targets.specs.MapSectors.{begins_at, begin_words, ends_at, end_words, goes_on, is_next, is_same_key, is_same_write, last_sector_words, piece_words, sector_words, sectors_words, stamp_words};
 
 use diagnosis::{Piece, Stamp, Write as Written, piece_at};
-use fc_base::{JobNo, JobRecord, Key, RunNo, Seq, ServerNo};
+use fc_base::{JobNo, Key, RunNo, Seq, ServerNo};
+use recheck::Expected;
 use std::io;
 use std::io::Write;
 
 /// Writes what the sectors of a block hold, extent by extent, as `; 0-5 zeros; 6-7 unknown`.
 pub(crate) fn write_sectors<W: Write>(
     writer: &mut W,
-    rec: &JobRecord,
+    expected: &Expected,
     bytes: &[u8],
 ) -> io::Result<()>
-    requires { length bytes.now ≡ rec.now.bs }
+    requires { length bytes.now ≡ expected.now.job.bs }
     ensures { OnOk result (Appends (W.contents writer.old) (W.contents writer.new)
-        (sectors_words rec.now bytes.now)) }
+        (sectors_words expected.now bytes.now)) }
 {
-    write_extents(writer, rec, bytes, rec.bs() / 512)
+    write_extents(writer, expected, bytes, expected.rec().bs() / 512)
 }
 
 /// Writes what the first so many sectors hold.
 fn write_extents<W: Write>(
     writer: &mut W,
-    rec: &JobRecord,
+    expected: &Expected,
     bytes: &[u8],
     sectors: u32,
 ) -> io::Result<()>
     requires { sectors * 512 ≤ length bytes.now }
     ensures { OnOk result (Appends (W.contents writer.old) (W.contents writer.new)
-        (flat_map (sector_words rec.now bytes.now sectors) (range_with_len 0 sectors))) }
+        (flat_map (sector_words expected.now bytes.now sectors) (range_with_len 0 sectors))) }
 {
     for number in 0..sectors {
-        write_sector(writer, rec, bytes, sectors, number)?;
+        write_sector(writer, expected, bytes, sectors, number)?;
     }
     Ok(())
 }
@@ -43,7 +44,7 @@ fn write_extents<W: Write>(
 /// Writes where an extent begins at a sector, or ends there, and what it holds.
 fn write_sector<W: Write>(
     writer: &mut W,
-    rec: &JobRecord,
+    expected: &Expected,
     bytes: &[u8],
     sectors: u32,
     number: u32,
@@ -51,23 +52,23 @@ fn write_sector<W: Write>(
     requires there { number < sectors }
     requires bytes { sectors * 512 ≤ length bytes.now }
     ensures { OnOk result (Appends (W.contents writer.old) (W.contents writer.new)
-        (sector_words rec.now bytes.now sectors number)) }
+        (sector_words expected.now bytes.now sectors number)) }
 {
-    write_begin(writer, rec, bytes, number)?;
-    write_end(writer, rec, bytes, sectors, number)
+    write_begin(writer, expected, bytes, number)?;
+    write_end(writer, expected, bytes, sectors, number)
 }
 
 fn write_begin<W: Write>(
     writer: &mut W,
-    rec: &JobRecord,
+    expected: &Expected,
     bytes: &[u8],
     number: u32,
 ) -> io::Result<()>
     requires { (number + 1) * 512 ≤ length bytes.now }
     ensures { OnOk result (Appends (W.contents writer.old) (W.contents writer.new)
-        (begin_words rec.now bytes.now number)) }
+        (begin_words expected.now bytes.now number)) }
 {
-    if begins_at(rec, bytes, number) {
+    if begins_at(expected, bytes, number) {
         write!(writer, "; {number}")
     } else {
         Ok(())
@@ -76,7 +77,7 @@ fn write_begin<W: Write>(
 
 fn write_end<W: Write>(
     writer: &mut W,
-    rec: &JobRecord,
+    expected: &Expected,
     bytes: &[u8],
     sectors: u32,
     number: u32,
@@ -84,10 +85,10 @@ fn write_end<W: Write>(
     requires there { number < sectors }
     requires bytes { sectors * 512 ≤ length bytes.now }
     ensures { OnOk result (Appends (W.contents writer.old) (W.contents writer.new)
-        (end_words rec.now bytes.now sectors number)) }
+        (end_words expected.now bytes.now sectors number)) }
 {
-    if ends_at(rec, bytes, sectors, number) {
-        write_last_sector(writer, number, piece_at(rec, bytes, number))
+    if ends_at(expected, bytes, sectors, number) {
+        write_last_sector(writer, number, piece_at(expected, bytes, number))
     } else {
         Ok(())
     }
@@ -132,27 +133,27 @@ fn write_stamp<W: Write>(writer: &mut W, stamp: &Stamp) -> io::Result<()>
 }
 
 /// Whether an extent begins at this sector.
-fn begins_at(rec: &JobRecord, bytes: &[u8], number: u32) -> bool
+fn begins_at(expected: &Expected, bytes: &[u8], number: u32) -> bool
     requires { (number + 1) * 512 ≤ length bytes.now }
-    ensures { result ≡ begins_at rec.now bytes.now number }
+    ensures { result ≡ begins_at expected.now bytes.now number }
 {
     number == 0
         || !goes_on(
-            piece_at(rec, bytes, number - 1),
-            piece_at(rec, bytes, number),
+            piece_at(expected, bytes, number - 1),
+            piece_at(expected, bytes, number),
         )
 }
 
 /// Whether one ends there, of the first so many.
-fn ends_at(rec: &JobRecord, bytes: &[u8], sectors: u32, number: u32) -> bool
+fn ends_at(expected: &Expected, bytes: &[u8], sectors: u32, number: u32) -> bool
     requires there { number < sectors }
     requires bytes { sectors * 512 ≤ length bytes.now }
-    ensures { result ≡ ends_at rec.now bytes.now sectors number }
+    ensures { result ≡ ends_at expected.now bytes.now sectors number }
 {
     number + 1 == sectors
         || !goes_on(
-            piece_at(rec, bytes, number),
-            piece_at(rec, bytes, number + 1),
+            piece_at(expected, bytes, number),
+            piece_at(expected, bytes, number + 1),
         )
 }
 

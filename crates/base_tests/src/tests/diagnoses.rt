@@ -1,7 +1,9 @@
 //! What no clause shows: that each kind is told of bytes that are spelled from the manual's layout
 //! of a stamp, and not by the library that writes them.
 
+mod copies;
 mod differences;
+mod flips;
 mod layout;
 mod random;
 mod rows;
@@ -11,7 +13,7 @@ use diagnosis::{Holds, diagnose, extent_at};
 use fc_base::{JobParts, JobRecord, Seq, Verify};
 use layout::{Odd, Part, SECTORS, Stamped, spell};
 use recheck::Recheck;
-use rows::{ODD, PATTERNS, Told, WHOLE, filled};
+use rows::{LIMITS, ODD, PATTERNS, Told, WHOLE, filled};
 use std::alloc::Global;
 use std::test::Fail;
 use verify_state::VerifyState;
@@ -28,22 +30,21 @@ const JOB: JobParts = JobParts {
     ..ONE_WRITE
 };
 
-const COMPLETED: [Seq; 8] = [
-    Seq(0),
-    Seq(1),
-    Seq(2),
-    Seq(3),
-    Seq(4),
-    Seq(5),
-    Seq(6),
-    Seq(7),
-];
-
 /// The check of such a job.
 fn check_of(alloc: Global, parts: JobParts) -> Option<Recheck> {
+    check_after(alloc, parts, 10)
+}
+
+/// The check of such a job once so many writes were issued, of which the last two are in flight.
+fn check_after(alloc: Global, parts: JobParts, issued: u64) -> Option<Recheck> {
     let job = JobRecord::make(parts)?;
-    let list = Vec::from_slice(alloc, &COMPLETED).ok()?;
-    let state = VerifyState::make(KEY, &job, 10, place_of(&job, 10), list).ok()?;
+    let mut completed = Vec::new(alloc);
+    for back in 0..8u64 {
+        completed
+            .push(Seq(issued.saturating_sub(10).wrapping_add(back)))
+            .ok()?;
+    }
+    let state = VerifyState::make(KEY, &job, issued, place_of(&job, issued), completed).ok()?;
     Recheck::new(alloc, &job, KEY, Some(&state), false).ok()
 }
 
@@ -87,6 +88,20 @@ fn whole_writes(rt: HostRuntime) -> Result<(), Fail> {
     };
     for (i, row) in WHOLE.iter().enumerate() {
         if !has_whole(alloc, &check, row.0, Stamped::of(row.1), row.2) {
+            return Err(Fail::new(i));
+        }
+    }
+    Ok(())
+}
+
+#[test]
+fn at_the_limits(rt: HostRuntime) -> Result<(), Fail> {
+    let alloc = rt.alloc();
+    let Some(check) = check_of(alloc, JOB) else {
+        return Err(Fail::new("check"));
+    };
+    for (i, row) in LIMITS.iter().enumerate() {
+        if !has_whole(alloc, &check, 2, Stamped::of(row.0), row.1) {
             return Err(Fail::new(i));
         }
     }
@@ -141,7 +156,8 @@ fn patterns(rt: HostRuntime) -> Result<(), Fail> {
 }
 
 /// Blocks with the ends of their extents: two sectors of an older write, zeros and a corrupt one;
-/// sectors that stand in each other's places; and two corrupt ones before a write's last two.
+/// one that stands in another's place, and one whose place no sector has; and two corrupt ones
+/// before a write's last two.
 static EXTENTS: [([Odd; SECTORS], &[u32]); 3] = [
     (
         [
@@ -168,7 +184,7 @@ static EXTENTS: [([Odd; SECTORS], &[u32]); 3] = [
 ];
 
 /// Whether the extents of a block end there.
-fn has_ends(alloc: Global, job: &JobRecord, odd: [Odd; SECTORS], ends: &[u32]) -> Option<bool> {
+fn has_ends(alloc: Global, check: &Recheck, odd: [Odd; SECTORS], ends: &[u32]) -> Option<bool> {
     let [a, b, c, d] = odd;
     let bytes = spell(alloc, &[a.part(0), b.part(1), c.part(2), d.part(3)])?;
     let mut from = 0;
@@ -176,7 +192,7 @@ fn has_ends(alloc: Global, job: &JobRecord, odd: [Odd; SECTORS], ends: &[u32]) -
         if from >= 4 || bytes.len() < 2048 {
             return None;
         }
-        let extent = extent_at(job, &bytes, from, 4);
+        let extent = extent_at(check.expected(), &bytes, from, 4);
         if extent.end != *end {
             return Some(false);
         }
@@ -187,11 +203,12 @@ fn has_ends(alloc: Global, job: &JobRecord, odd: [Odd; SECTORS], ends: &[u32]) -
 
 #[test]
 fn extents(rt: HostRuntime) -> Result<(), Fail> {
-    let Some(job) = JobRecord::make(JOB) else {
-        return Err(Fail::new("job"));
+    let alloc = rt.alloc();
+    let Some(check) = check_of(alloc, JOB) else {
+        return Err(Fail::new("check"));
     };
     for (i, row) in EXTENTS.iter().enumerate() {
-        if has_ends(rt.alloc(), &job, row.0, row.1) != Some(true) {
+        if has_ends(alloc, &check, row.0, row.1) != Some(true) {
             return Err(Fail::new(i));
         }
     }

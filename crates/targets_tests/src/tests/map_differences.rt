@@ -1,10 +1,10 @@
-//! Maps of a target: how a corrupt block differs from a write that it may hold.
+//! Maps of a target: how a faulty block differs from a write that it may hold.
 
 use super::inputs::TWO_BLOCKS;
 use super::inputs::Tell::*;
 use super::map_inputs::Comes::{Byte, Sector as Bytes};
 use super::map_inputs::Sector::*;
-use super::map_inputs::{ONE_BLOCK, PATTERN, Row, TWO_DONE, all_agree};
+use super::map_inputs::{MANY, MANY_WIDE, ONE_BLOCK, PATTERN, Row, TWO_DONE, all_agree};
 use super::stamps::RUN;
 use std::test::Fail;
 
@@ -107,6 +107,81 @@ static DIFFERENCES: [Row; 5] = [
 #[test]
 fn how_a_block_differs(rt: HostRuntime) -> Result<(), Fail> {
     all_agree(rt.alloc(), &DIFFERENCES)
+}
+
+/// Few bytes of blocks that are of other writes: of an older one, alone and in part, of one that
+/// wasn't issued, of another run and of another job.
+static OTHERS: [Row; 5] = [
+    (
+        MANY,
+        &[],
+        &[Byte(1), Bytes(Stamp(RUN, 0, 43, 0, 0))],
+        1,
+        "block 0 lost: wants write 299, holds write 43, \
+         differs from write 299 by bits 1 first at sector 0 byte 22\n\
+         unchecked\nreport checked 1 faults 1 end whole first 0 lost 1\n",
+    ),
+    (
+        MANY_WIDE,
+        &[],
+        &[
+            Byte(1),
+            Bytes(Stamp(RUN, 0, 299, 0, 0)),
+            Bytes(Stamp(RUN, 0, 43, 0, 1)),
+        ],
+        1,
+        "block 0 torn: wants write 299, \
+         differs from write 299 by bits 1 first at sector 1 byte 22; \
+         0-0 write 299 of block 0 of job 0 of server 0 of run 7 place 0; \
+         1-1 write 43 of block 0 of job 0 of server 0 of run 7 place 1\n\
+         unchecked\nreport checked 1 faults 1 end whole first 0 torn 1\n",
+    ),
+    (
+        MANY_WIDE,
+        &[Done(0), Take],
+        &[
+            Byte(1),
+            Bytes(Stamp(RUN, 0, 256, 0, 0)),
+            Bytes(Stamp(RUN, 0, 256, 0, 1)),
+        ],
+        1,
+        "block 0 unissued: wants write 0 or 1, holds write 256, \
+         differs from write 0 by bits 2 first at sector 0 byte 22\n\
+         unchecked\nreport checked 1 faults 1 end whole first 0 unissued 1\n",
+    ),
+    (
+        ONE_BLOCK,
+        &[],
+        &[
+            Byte(1),
+            Bytes(Stamp(6, 0, 1, 0, 0)),
+            Bytes(Stamp(6, 0, 1, 0, 1)),
+        ],
+        1,
+        "block 0 other-run: wants write 1, \
+         holds write 1 of block 0 of job 0 of server 0 of run 6, \
+         differs from write 1 by bits 2 first at sector 0 byte 7\n\
+         unchecked\nreport checked 1 faults 1 end whole first 0 other-run 1\n",
+    ),
+    (
+        ONE_BLOCK,
+        &[],
+        &[
+            Byte(1),
+            Bytes(Stamp(RUN, 5, 1, 0, 0)),
+            Bytes(Stamp(RUN, 5, 1, 0, 1)),
+        ],
+        1,
+        "block 0 misdirected: wants write 1, \
+         holds write 1 of block 0 of job 5 of server 0 of run 7, \
+         differs from write 1 by bits 4 first at sector 0 byte 15\n\
+         unchecked\nreport checked 1 faults 1 end whole first 0 misdirected 1\n",
+    ),
+];
+
+#[test]
+fn how_other_writes_differ(rt: HostRuntime) -> Result<(), Fail> {
+    all_agree(rt.alloc(), &OTHERS)
 }
 
 /// By a pattern, which every write has.

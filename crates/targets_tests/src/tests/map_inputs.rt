@@ -21,6 +21,11 @@ pub(super) const FATAL: &[u8] =
 /// Two writes to one block of two sectors.
 pub(super) const ONE_BLOCK: &[u8] = b"[a]\nrw=write\nbs=1k\nsize=1k\nio_size=2k\niodepth=2\n";
 
+/// Three hundred writes to one block of a sector, and to one of two.
+pub(super) const MANY: &[u8] = b"[a]\nrw=write\nbs=512\nsize=512\nio_size=153600\n";
+
+pub(super) const MANY_WIDE: &[u8] = b"[a]\nrw=write\nbs=1k\nsize=1k\nio_size=300k\n";
+
 /// Two writes to one block of four sectors.
 pub(super) const FOUR_SECTORS: &[u8] = b"[a]\nrw=write\nbs=2k\nsize=2k\nio_size=4k\niodepth=2\n";
 

@@ -8,7 +8,7 @@ use super::stamps::RUN;
 use std::test::Fail;
 
 /// Each kind, at the first block and at the last.
-static KINDS: [Row; 15] = [
+static KINDS: [Row; 17] = [
     (
         TWO_BLOCKS,
         TWO_DONE,
@@ -66,14 +66,43 @@ static KINDS: [Row; 15] = [
         &[],
         &[
             Byte(1),
+            Bytes(Stamp(RUN, 0, 3, 0, 0)),
+            Byte(1),
+            Bytes(Stamp(RUN, 0, 3, 1, 0)),
+        ],
+        1,
+        "block 0 unissued: wants write 2, holds write 3\n\
+         unchecked\nreport checked 2 faults 1 end whole first 0 unissued 1\n",
+    ),
+    // The job has no write 4.
+    (
+        TWO_BLOCKS,
+        &[],
+        &[
+            Byte(1),
             Bytes(Stamp(RUN, 0, 4, 0, 0)),
             Byte(1),
             Bytes(Stamp(RUN, 0, 3, 1, 0)),
         ],
         1,
-        "block 0 unissued: wants write 2, holds write 4\n\
-         unchecked\nreport checked 2 faults 1 end whole first 0 unissued 1\n",
+        "block 0 corrupt: wants write 2, unknown sectors 1; 0-0 unknown\n\
+         unchecked\nreport checked 2 faults 1 end whole first 0 corrupt 1\n",
     ),
+    (
+        TWO_BLOCKS,
+        &[],
+        &[
+            Byte(1),
+            Bytes(Stamp(6, 0, 1, 0, 0)),
+            Byte(1),
+            Bytes(Stamp(RUN, 0, 3, 1, 0)),
+        ],
+        1,
+        "block 0 other-run: wants write 2, \
+         holds write 1 of block 0 of job 0 of server 0 of run 6\n\
+         unchecked\nreport checked 2 faults 1 end whole first 0 other-run 1\n",
+    ),
+    // One bit of a run, and two of a job, where no other sector says so.
     (
         TWO_BLOCKS,
         &[],
@@ -81,12 +110,16 @@ static KINDS: [Row; 15] = [
             Byte(1),
             Bytes(Stamp(6, 0, 2, 0, 0)),
             Byte(1),
-            Bytes(Stamp(RUN, 0, 3, 1, 0)),
+            Bytes(Stamp(RUN, 5, 3, 1, 0)),
         ],
         1,
-        "block 0 other-run: wants write 2, \
-         holds write 2 of block 0 of job 0 of server 0 of run 6\n\
-         unchecked\nreport checked 2 faults 1 end whole first 0 other-run 1\n",
+        "block 0 corrupt: wants write 2, unknown sectors 0, \
+         differs from write 2 by bits 1 first at sector 0 byte 7; \
+         0-0 write 2 of block 0 of job 0 of server 0 of run 6 place 0\n\
+         block 1 corrupt: wants write 3, unknown sectors 0, \
+         differs from write 3 by bits 2 first at sector 0 byte 15; \
+         0-0 write 3 of block 1 of job 5 of server 0 of run 7 place 0\n\
+         unchecked\nreport checked 2 faults 2 end whole first 0 1 corrupt 2\n",
     ),
     (
         TWO_BLOCKS,
@@ -95,13 +128,13 @@ static KINDS: [Row; 15] = [
             Byte(1),
             Bytes(Stamp(RUN, 0, 3, 1, 0)),
             Byte(1),
-            Bytes(Stamp(RUN, 5, 3, 1, 0)),
+            Bytes(Stamp(RUN, 5, 2, 1, 0)),
         ],
         1,
         "block 0 misdirected: wants write 2, \
          holds write 3 of block 1 of job 0 of server 0 of run 7\n\
          block 1 misdirected: wants write 3, \
-         holds write 3 of block 1 of job 5 of server 0 of run 7\n\
+         holds write 2 of block 1 of job 5 of server 0 of run 7\n\
          unchecked\nreport checked 2 faults 2 end whole first 0 1 misdirected 2\n",
     ),
     (

@@ -44,9 +44,10 @@ static ROWS: [Row; 7] = [
         [0, 7],
         7,
         1,
-        "block 0 misdirected: wants write 2, \
-         holds write 2 of block 0 of job 0 of server 0 of run 7\n\
-         unchecked\nreport checked 2 faults 1 end whole first 0 misdirected 1\n",
+        "block 0 corrupt: wants write 2, unknown sectors 0, \
+         differs from write 2 by bits 3 first at sector 0 byte 11; \
+         0-0 write 2 of block 0 of job 0 of server 0 of run 7 place 0\n\
+         unchecked\nreport checked 2 faults 1 end whole first 0 corrupt 1\n",
     ),
     (
         &[],
@@ -54,9 +55,10 @@ static ROWS: [Row; 7] = [
         [0, 3],
         0,
         1,
-        "block 1 misdirected: wants write 3, \
-         holds write 3 of block 1 of job 0 of server 3 of run 7\n\
-         unchecked\nreport checked 2 faults 1 end whole first 1 misdirected 1\n",
+        "block 1 corrupt: wants write 3, unknown sectors 0, \
+         differs from write 3 by bits 2 first at sector 0 byte 11; \
+         0-0 write 3 of block 1 of job 0 of server 3 of run 7 place 0\n\
+         unchecked\nreport checked 2 faults 1 end whole first 1 corrupt 1\n",
     ),
     (TWO_DONE, 3, [3, 3], 0, 2, "refused 36 OtherKey\n"),
     (TWO_DONE, 0, [3, 3], 3, 2, "refused 36 OtherKey\n"),

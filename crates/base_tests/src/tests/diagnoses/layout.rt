@@ -60,7 +60,7 @@ pub enum Part {
 }
 
 impl Part {
-    fn byte(&self, i: usize) -> u8 {
+    pub fn byte(&self, i: usize) -> u8 {
         match self {
             Part::Byte(byte) => *byte,
             Part::Stamp(stamp) => stamp.byte(i),
@@ -76,6 +76,8 @@ pub enum Odd {
     Byte(u8),
     /// The sector at that place of another write, by its run, number and block.
     Of(u64, u64, u64),
+    /// The sector at this place of another write, likewise.
+    Placed(u64, u64, u64, u32),
     /// The stamp with this number more of the sector.
     Moved(u32),
     /// The stamp with these bits of this byte changed.
@@ -91,6 +93,9 @@ impl Odd {
             Odd::Of(run, write, block) => Part::Stamp(Stamped::of((run, 0, 0, write, block)).at(
                 at,
             )),
+            Odd::Placed(run, write, block, place) => {
+                Part::Stamp(Stamped::of((run, 0, 0, write, block)).at(place))
+            }
             Odd::Moved(by) => Part::Stamp(own.at(at.wrapping_add(by))),
             Odd::Changed(i, bits) => Part::Changed(own.at(at), i, bits),
         }

@@ -1,14 +1,12 @@
-//! Blocks made at random, told by how they were made; and each changed byte of a block.
+//! Blocks made at random, told by how they were made.
 
 ghost use Rattle.std.specs.Prelude.{◌<◌};
 
-use super::layout::{Part, SECTORS, Stamped, spell};
+use super::layout::{Part, SECTORS, Stamped};
 use super::rows::write_of;
-use super::{JOB, check_of, is_told, told};
+use super::{JOB, check_of, is_told};
 use diagnosis::Holds;
-use fc_base::{JobParts, Seq};
-use recheck::Recheck;
-use std::alloc::Global;
+use fc_base::Seq;
 use std::test::Fail;
 
 /// Words, one after another.
@@ -50,12 +48,36 @@ impl Words {
         }
     }
 
-    /// Four sectors, which are of one write every other time.
+    /// A stamp that may have another number than this one.
+    fn near(&mut self, stamp: Stamped) -> Part {
+        Part::Stamp(match self.below(12) {
+            0 => Stamped { run: 2, ..stamp },
+            1 => Stamped { server: 1, ..stamp },
+            2 => Stamped { job: 1, ..stamp },
+            3 => Stamped {
+                block: self.below(4),
+                ..stamp
+            },
+            4 => Stamped {
+                sector: self.below(4) as u32,
+                ..stamp
+            },
+            _ => stamp,
+        })
+    }
+
+    /// Four sectors: of one write, or of one but for some numbers, or of any.
     fn parts(&mut self) -> [Part; SECTORS] {
-        if self.below(2) == 0 {
-            super::whole(self.stamp())
-        } else {
-            [self.part(0), self.part(1), self.part(2), self.part(3)]
+        let stamp = self.stamp();
+        match self.below(3) {
+            0 => super::whole(stamp),
+            1 => [
+                self.near(stamp.at(0)),
+                self.near(stamp.at(1)),
+                self.near(stamp.at(2)),
+                self.near(stamp.at(3)),
+            ],
+            _ => [self.part(0), self.part(1), self.part(2), self.part(3)],
         }
     }
 }
@@ -92,17 +114,66 @@ fn made(block: u32, parts: &[Part; SECTORS]) -> Holds {
     }
     let [first, _, _, _] = *parts;
     match first {
-        Part::Stamp(stamp) => of_first(block, parts, stamp),
-        _ => Holds::Torn,
+        Part::Stamp(stamp) if are_same(parts, &super::whole(stamp.at(0))) => of_write(
+            block,
+            stamp.at(0),
+        ),
+        _ => of_several(block, parts),
     }
 }
 
-/// What a block of these sectors holds, of which the first is this stamp.
-fn of_first(block: u32, parts: &[Part; SECTORS], stamp: Stamped) -> Holds {
-    if are_same(parts, &super::whole(stamp)) {
-        of_write(block, stamp)
+/// What a block of these sectors holds, which are not all of one write.
+fn of_several(block: u32, parts: &[Part; SECTORS]) -> Holds {
+    if is_near(block, parts) && !are_in_place(block, parts) {
+        Holds::Corrupt(0)
     } else {
         Holds::Torn
+    }
+}
+
+/// The last write to a block.
+fn last_to(block: u32) -> u64 {
+    u64::from(block % 4).wrapping_add(4)
+}
+
+/// Whether at most 16 bits of them are other than in a write that the block may hold.
+fn is_near(block: u32, parts: &[Part; SECTORS]) -> bool {
+    let last = last_to(block);
+    bits_apart(block, parts, last) <= 16
+        || (block < 2 && bits_apart(block, parts, last.wrapping_add(4)) <= 16)
+}
+
+/// How many bits are other than in that write of the job to the block.
+fn bits_apart(block: u32, parts: &[Part; SECTORS], write: u64) -> u32 {
+    let own = Stamped::of((1, 0, 0, write, u64::from(block)));
+    let mut bits = 0u32;
+    for at in 0..SECTORS {
+        let sector = own.at(at as u32);
+        for i in 0..512 {
+            bits = bits.wrapping_add((parts[at].byte(i) ^ sector.byte(i)).count_ones());
+        }
+    }
+    bits
+}
+
+/// Whether each is of a write of the job to the block that was issued, in its place.
+fn are_in_place(block: u32, parts: &[Part; SECTORS]) -> bool {
+    for at in 0..SECTORS {
+        if !is_in_place(block, at as u32, parts[at]) {
+            return false;
+        }
+    }
+    true
+}
+
+fn is_in_place(block: u32, at: u32, part: Part) -> bool {
+    let last = last_to(block);
+    match part {
+        Part::Stamp(stamp) => {
+            stamp == Stamped::of((1, 0, 0, stamp.write, u64::from(block))).at(at)
+                && (stamp.write <= last || (block < 2 && stamp.write == last.wrapping_add(4)))
+        }
+        _ => false,
     }
 }
 
@@ -114,7 +185,7 @@ fn of_write(block: u32, stamp: Stamped) -> Holds {
     } else if stamp.server != 0 || stamp.job != 0 || write.block != block {
         Holds::Misdirected(write)
     } else {
-        own(stamp.write, 4 + stamp.block % 4, stamp.block < 2)
+        own(stamp.write, last_to(block), block < 2)
     }
 }
 
@@ -142,54 +213,6 @@ fn a_thousand_blocks(rt: HostRuntime) -> Result<(), Fail> {
         let parts = words.parts();
         if !is_told(alloc, &check, block, &parts, made(block, &parts)) {
             return Err(Fail::new(n));
-        }
-    }
-    Ok(())
-}
-
-/// What is told of a block where one byte of a stamp is another, by its place in the sector: the
-/// numbers are another stamp's then, but for the last byte of the write's, from which the rest
-/// counts up, and the high half of the block's; and what counts up is no stamp's.
-fn changed(place: usize) -> Holds {
-    match place {
-        23..=27 | 36..=511 => Holds::Corrupt(1),
-        _ => Holds::Torn,
-    }
-}
-
-/// Whether changes of this byte of a block are told so: of its lowest bit, of its highest, of all.
-fn is_told_changed(check: &Recheck, bytes: &mut Vec<u8>, at: usize) -> bool {
-    let Some(old) = bytes.get(at).copied() else {
-        return false;
-    };
-    for bits in [1u8, 0x80, 0xff] {
-        if at < bytes.len() {
-            bytes[at] = old ^ bits;
-        }
-        if told(check, 2, bytes) != Some(changed(at % 512)) {
-            return false;
-        }
-    }
-    if at < bytes.len() {
-        bytes[at] = old;
-    }
-    told(check, 2, bytes) == Some(Holds::Sound)
-}
-
-#[test]
-fn each_changed_byte(rt: HostRuntime) -> Result<(), Fail> {
-    let alloc = rt.alloc();
-    let own = Stamped::of((1, 0, 0, 6, 2));
-    let parts = [Part::Stamp(own), Part::Stamp(own.at(1))];
-    let (Some(check), Some(mut bytes)) = (
-        check_of(alloc, JobParts { bs: 1024, ..JOB }),
-        spell(alloc, &parts),
-    ) else {
-        return Err(Fail::new("check"));
-    };
-    for at in 0..1024 {
-        if !is_told_changed(&check, &mut bytes, at) {
-            return Err(Fail::new(at));
         }
     }
     Ok(())

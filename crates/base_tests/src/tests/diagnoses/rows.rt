@@ -71,26 +71,60 @@ pub static WHOLE: [(u32, (u64, u32, u32, u64, u64), Told); 16] = [
     (2, (1, 0, 0, 6, 0x1_0000_0002), Told::Corrupt(4)),
 ];
 
+/// Whole writes in block 2 of a job of 12 writes to 4 blocks, by what their stamps say, at each
+/// limit and past it: of servers, jobs, runs, blocks and writes. A stamp of another job, or of
+/// another run, is within the limits of all jobs; and one of the job itself within that job.
+pub static LIMITS: [((u64, u32, u32, u64, u64), Told); 17] = [
+    ((1, 7, 0, 7, 2), Told::Misdirected),
+    ((1, 8, 0, 7, 2), Told::Corrupt(4)),
+    ((1, 0, 15, 7, 2), Told::Misdirected),
+    ((1, 0, 16, 7, 2), Told::Corrupt(4)),
+    ((0, 0, 0, 7, 2), Told::Corrupt(4)),
+    ((u64::MAX, 0, 0, 7, 2), Told::OtherRun),
+    ((1, 1, 0, 7, 65_535), Told::Misdirected),
+    ((1, 1, 0, 7, 65_536), Told::Corrupt(4)),
+    ((1, 0, 0, 7, 3), Told::Misdirected),
+    ((1, 0, 0, 7, 4), Told::Corrupt(4)),
+    ((2, 0, 0, 7, 4), Told::OtherRun),
+    ((2, 0, 0, 999_999, 2), Told::OtherRun),
+    ((2, 0, 0, 1_000_000, 2), Told::Corrupt(4)),
+    ((1, 0, 1, 999_999, 2), Told::Misdirected),
+    ((1, 0, 1, 1_000_000, 2), Told::Corrupt(4)),
+    ((1, 0, 0, 11, 2), Told::Unissued),
+    ((1, 0, 0, 12, 2), Told::Corrupt(4)),
+];
+
 /// One odd sector in block 2. By the layout, a changed number is another stamp, unless the bytes
-/// behind it count up from that number; and where it counts up, or in the high half of the block, a
-/// changed byte is no stamp.
-pub static ODD: [(Odd, Told); 18] = [
+/// behind it count up from that number, or there is no such stamp; and where it counts up, or in
+/// the high half of the block, a changed byte is no stamp. What differs in few bits from the wanted
+/// write is corrupt all the same.
+pub static ODD: [(Odd, Told); 26] = [
     (Odd::Byte(0), Told::Torn),
     (Odd::Byte(0x5a), Told::Corrupt(1)),
     (Odd::Of(1, 2, 2), Told::Torn),
     (Odd::Of(1, 7, 3), Told::Torn),
-    (Odd::Of(2, 6, 2), Told::Torn),
-    (Odd::Moved(1), Told::Torn),
-    (Odd::Moved(512), Told::Torn),
-    (Odd::Changed(0, 0x80), Told::Torn),
-    (Odd::Changed(8, 1), Told::Torn),
-    (Odd::Changed(15, 1), Told::Torn),
-    (Odd::Changed(22, 1), Told::Torn),
+    (Odd::Of(2, 5, 2), Told::Torn),
+    (Odd::Of(2, 6, 2), Told::Corrupt(0)),
+    // Sixteen bits of the run, seventeen, fifteen and one of the block, and sixteen and one.
+    (Odd::Of(0xfffe, 6, 2), Told::Corrupt(0)),
+    (Odd::Of(0x1_fffe, 6, 2), Told::Torn),
+    (Odd::Of(0xfffc, 6, 3), Told::Corrupt(0)),
+    (Odd::Of(0xfffe, 6, 3), Told::Torn),
+    // The job has four sectors a block, and others at most 128.
+    (Odd::Placed(1, 7, 2, 3), Told::Torn),
+    (Odd::Placed(1, 7, 2, 4), Told::Corrupt(1)),
+    (Odd::Placed(2, 7, 2, 4), Told::Torn),
+    (Odd::Placed(2, 7, 2, 127), Told::Torn),
+    (Odd::Placed(2, 7, 2, 128), Told::Corrupt(1)),
+    (Odd::Moved(512), Told::Corrupt(1)),
+    (Odd::Changed(0, 0x80), Told::Corrupt(0)),
+    (Odd::Changed(8, 1), Told::Corrupt(1)),
+    (Odd::Changed(15, 1), Told::Corrupt(0)),
+    (Odd::Changed(22, 1), Told::Corrupt(1)),
     (Odd::Changed(23, 1), Told::Corrupt(1)),
     (Odd::Changed(24, 1), Told::Corrupt(1)),
-    (Odd::Changed(27, 0x80), Told::Corrupt(1)),
-    (Odd::Changed(28, 0x80), Told::Torn),
-    (Odd::Changed(35, 4), Told::Torn),
+    (Odd::Changed(28, 0x80), Told::Corrupt(1)),
+    (Odd::Changed(35, 4), Told::Corrupt(1)),
     (Odd::Changed(36, 1), Told::Corrupt(1)),
     (Odd::Changed(511, 0x80), Told::Corrupt(1)),
 ];

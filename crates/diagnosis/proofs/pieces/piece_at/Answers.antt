@@ -7,4 +7,4 @@ unfolding piece_at
 returns c =
     let at = c.args.number * 512 in
     let whole : at + 512 - at ≡ 512 = omega arith in
-    c.piece_of.ensures ∙ ap (λ n. piece_of c.args.rec.now (take n (drop at c.args.bytes.now))) whole
+    c.piece_of.ensures ∙ ap (λ n. piece_of c.args.expected.now (take n (drop at c.args.bytes.now))) whole

@@ -11,6 +11,5 @@ returns g c =
     on_ok_weaker c.write_torn.result
     (λ wrote. subst (Appends (g.W.Write.contents c.args.writer.now) (g.W.Write.contents c.write_torn.new.writer))
     (append_assoc (codes ", unknown sectors ") (decimal c.args.sectors)
-    (differs_words c.args.expected.now c.args.block c.args.bytes.now ++ sectors_words c.args.expected.now.job c.args.bytes.now))
-    (Appends-trans _ _ _ _ _ c.in_ok-write.ensures.bytes
-    (Appends-trans _ _ _ _ _ c.in_ok-write_differences.ensures wrote))) c.write_torn.ensures
+    (differs_words c.args.expected.now c.args.block c.args.bytes.now ++ sectors_words c.args.expected.now c.args.bytes.now))
+    (Appends-trans _ _ _ _ _ c.in_ok-write.ensures.bytes wrote)) c.write_torn.ensures
