@@ -2,7 +2,7 @@
 import json
 import re
 
-from maps import KINDS, harm, mapped, pieces, written
+from maps import KINDS, few, harm, mapped, pieces, written
 from serving import Servers, fleet, job_file
 from trying import BLOCK, LIAR, put, read, stamp, tell, tell_has, write
 
@@ -16,11 +16,13 @@ def harm_more(data, run_number, last):
     def said(number, block, server):
         return f"write {number} of block {block} of job 1 of server {server} of run {run_number}"
 
-    put(data, 12, stamp(run_number, 1, last[12], 12, server=0))
+    there = stamp(run_number, 1, last[12], 12, server=0)
+    put(data, 12, there)
     data[13 * BLOCK + 11] ^= 2
+    differs = few(stamp(run_number, 1, last[12], 12, server=1), there, last[12])
     return {
-        12: f"misdirected: wants write {last[12]}, holds {said(last[12], 12, 0)}",
-        13: f"torn: wants write {last[13]}" + pieces((0, 0, said(last[13], 13, 3)), (1, 7, said(last[13], 13, 1))),
+        12: f"misdirected: wants write {last[12]}, holds {said(last[12], 12, 0)}{differs}",
+        13: f"corrupt: wants write {last[13]}, unknown sectors 0, differs from write {last[13]} by bits 1 first at sector 0 byte 11" + pieces((0, 0, said(last[13], 13, 3)), (1, 7, said(last[13], 13, 1))),
     }
 
 
@@ -47,7 +49,7 @@ def fleet_maps():
     due = harm(data, run_number, of_block, 1, 1)
     due |= harm_more(data, run_number, {block: max(numbers) for block, numbers in of_block.items()})
     write("mapped-1-1", bytes(data))
-    kinds = KINDS.replace("misdirected 1 torn 1", "misdirected 2 torn 2")
+    kinds = KINDS.replace("misdirected 1", "misdirected 2").replace("corrupt 1", "corrupt 2")
     servers.restart()
     status, printed, _ = fleet(*CHECK, "--map", *servers.links())
     tell("each kind", (status, printed.partition("server 1 job 1: block")[2]), (1, due_lines(due, kinds).partition("server 1 job 1: block")[2] + f"run {run_number}: faults, 256 checked, {len(due)} faults\n"))

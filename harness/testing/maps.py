@@ -28,11 +28,21 @@ def pieces(*rows):
     return "".join(f"; {front}-{back} " + (f"{whose} place {back}" if whose else "unknown") for front, back, whose in rows)
 
 
+def few(wanted, held, number):
+    """How bytes are told to differ from those of a write, where that is in a few."""
+    places = [at for at, byte in enumerate(wanted) if held[at] != byte]
+    if len(places) > 16:
+        return ""
+    bits = sum(bin(wanted[at] ^ held[at]).count("1") for at in places)
+    return f", differs from write {number} by bits {bits} first at sector {places[0] // 512} byte {places[0] % 512}"
+
+
 def harm(data, run_number, of_block, server=0, job_number=0):
     """Harms a block by each kind there is, and returns the lines that are due."""
     last = {block: max(numbers) for block, numbers in of_block.items()}
     first = {block: min(numbers) for block, numbers in of_block.items()}
-    half = BLOCK // 2
+    half, newest = BLOCK // 2, max(last.values())
+    unissued = 4 if last[4] < newest else 7
 
     def wrote(number, block, run_of_it=run_number):
         return stamp(run_of_it, job_number, number, block, server=server)
@@ -43,7 +53,7 @@ def harm(data, run_number, of_block, server=0, job_number=0):
     put(data, 0, bytes(BLOCK))
     put(data, 2, b"\xff" * BLOCK)
     put(data, 3, wrote(first[3], 3))
-    put(data, 4, wrote(500, 4))
+    put(data, unissued, wrote(newest, unissued))
     put(data, 5, wrote(last[5], 5, run_number + 1))
     put(data, 6, wrote(last[7], 7))
     put(data, 8, wrote(last[8], 8)[:half] + wrote(first[8], 8)[half:])
@@ -53,8 +63,8 @@ def harm(data, run_number, of_block, server=0, job_number=0):
         0: ("unwritten", ""),
         2: ("filled", ", holds byte 255"),
         3: ("lost", f", holds write {first[3]}"),
-        4: ("unissued", ", holds write 500"),
-        5: ("other-run", f", holds {said(last[5], 5, run_number + 1)}"),
+        unissued: ("unissued", f", holds write {newest}"),
+        5: ("other-run", f", holds {said(last[5], 5, run_number + 1)}" + few(wrote(last[5], 5), wrote(last[5], 5, run_number + 1), last[5])),
         6: ("misdirected", f", holds {said(last[7], 7)}"),
         8: ("torn", pieces((0, 3, said(last[8], 8)), (4, 7, said(first[8], 8)))),
         9: ("corrupt", f", unknown sectors 1, differs from write {last[9]} by bits 1 first at sector 1 byte 488" + pieces((0, 0, said(last[9], 9)), (1, 1, None), (2, 7, said(last[9], 9)))),

@@ -8,7 +8,7 @@ ghost use Rattle.messages.specs.declared.limits.TheConstants.{MAX_REPORT, CHUNK_
 ghost use Rattle.messages.specs.declared.limits.TheConstants.{MAX_FRAME, MAX_FRAMES, MAX_FRAMED, MAX_TAGS};
 ghost use Rattle.state_table.specs.declared.kept.TheConstants.{KEPT_LIMIT};
 ghost use Rattle.net_script.specs.declared.running.TheConstants.{MAX_SCRIPT};
-ghost use Rattle.diagnosis.specs.declared.difference.TheConstants.{FEW_BYTES};
+ghost use Rattle.diagnosis.specs.declared.difference.TheConstants.{FEW_BITS, FEW_BYTES};
 ghost use Rattle.targets.specs.declared.drive_check.TheConstants.{MAX_STATE};
 ghost use Rattle.filters.specs.declared.record.TheConstants.{MAX_BODY as MAX_RECORD};
 
@@ -42,6 +42,7 @@ pub fn limits_are_as_documented()
     ensures tags { MAX_TAGS ≡ 128 }
     ensures script { MAX_SCRIPT ≡ 1048576 }
     ensures few_bytes { FEW_BYTES ≡ 16 }
+    ensures few_bits { FEW_BITS ≡ 16 }
     ensures state { MAX_STATE ≡ 8192 }
     ensures filter_record { MAX_RECORD ≡ 1114112 }
 {}
