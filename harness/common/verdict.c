@@ -7,16 +7,18 @@
 #include <libgen.h>
 #include <limits.h>
 #include <stdio.h>
+#include <stdlib.h>
 #include <string.h>
 
 /* The run whose whole write a line says that its block holds, or 0. */
 static uint64_t other_run_in(const char *line, int length) {
-    uint64_t block, wanted, holds, of_block, job, server, run;
     char text[512];
+    uint64_t block;
+    int used = 0;
     snprintf(text, sizeof text, "%.*s", length, line);
-    int count = sscanf(text, "block %" SCNu64 " other-run: wants write %" SCNu64 ", holds write %" SCNu64 " of block %" SCNu64 " of job %" SCNu64 " of server %" SCNu64 " of run %" SCNu64, &block, &wanted, &holds,
-                       &of_block, &job, &server, &run);
-    return count == 7 ? run : 0;
+    sscanf(text, "block %" SCNu64 " other-run:%n", &block, &used);
+    const char *holds = used ? strstr(text, ", holds write ") : NULL, *run = holds ? strstr(holds, " of run ") : NULL;
+    return run ? strtoull(run + strlen(" of run "), NULL, 10) : 0;
 }
 
 /* The one other run that all faulty blocks hold writes of, or 0. */

@@ -165,8 +165,8 @@ def other_drives():
 def written_over():
     """A target that a later run has written is no fault of the drive: the later state, which lies beside
     this one, is named. An earlier run's writes are faults, and whose they are is said."""
-    for name in ("monday", "tuesday"):
-        tell(f"the run of {name}", run("write", "two.fio", "wo", f"{name}.state")[0], 0)
+    for name, words in (("monday", ("--after", "120")), ("tuesday", ())):
+        tell(f"the run of {name}", run("write", "two.fio", "wo", f"{name}.state", *words)[0], 0)
         write(f"{name}.bytes", read("wo"))
     later = re.sub(rb"kept [^\n]*", b"kept 2999-01-01T00:00:00Z", read("tuesday.state"))
     status, printed, _ = run("check", "two.fio", "wo", "monday.state", whole=True)
@@ -175,7 +175,7 @@ def written_over():
     kept_later("tuesday.state")
     status, printed, _ = run("check", "two.fio", "wo", "monday.state", whole=True)
     due = f"no verdict: a later run has written over 64 of 64 blocks: run {run_of('tuesday.state')}, whose state is ./tuesday.state"
-    tell("Monday's state on Tuesday", (status, printed.splitlines()[-1]), (3, due))
+    tell("Monday's state on Tuesday, with writes in flight", (status, printed.splitlines()[-1], " or " in printed), (3, due, True))
     write("wo", read("monday.bytes"))
     status, printed, _ = run("check", "two.fio", "wo", "tuesday.state", whole=True)
     tell("Tuesday's state on Monday", (status, f"all of these hold run {run_of('monday.state')}" in printed), (1, True))
