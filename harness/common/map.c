@@ -14,7 +14,7 @@
 #include <time.h>
 #include <unistd.h>
 
-enum { AT_ONCE = 512, STEP = 1 << 16 };
+enum { AT_ONCE = 512, STEP = 1 << 16, SHORT_LINE = 200 };
 
 static void *read_all_lines(void *given) {
     struct map *map = given;
@@ -93,9 +93,23 @@ const char *report_of_map(const struct map *map) {
     return end ? end + 1 : map->text;
 }
 
-void print_map(const struct map *map, bool as_picture) {
-    if (as_picture && isatty(STDOUT_FILENO) && !strncmp(report_of_map(map), "report ", 7)) print_picture(map->text, map->total);
-    fwrite(map->text, 1, map->length, stdout);
+/* How many blocks a line `unchecked 5-9 12-12` names. */
+static uint64_t count_unchecked(const char *line) {
+    uint64_t from, to, count = 0;
+    int used;
+    for (line += strlen("unchecked"); sscanf(line, " %" SCNu64 "-%" SCNu64 "%n", &from, &to, &used) == 2; line += used) count += to - from + 1;
+    return count;
+}
+
+void print_map(const struct map *map, bool is_whole) {
+    const char *line = map->text;
+    if (is_whole && isatty(STDOUT_FILENO) && !strncmp(report_of_map(map), "report ", 7)) print_picture(map->text, map->total);
+    while (!is_whole && *line && strncmp(line, "unchecked", 9)) line += strcspn(line, "\n") + (strchr(line, '\n') != NULL);
+    size_t length = strcspn(line, "\n");
+    bool is_short = is_whole || length <= SHORT_LINE;
+    fwrite(map->text, 1, (size_t)(line - map->text), stdout);
+    if (!is_short) printf("unchecked %" PRIu64 " blocks, which a map tells", count_unchecked(line));
+    fputs(is_short ? line : line + length, stdout);
 }
 
 void free_map(struct map *map) {

@@ -32,8 +32,9 @@ bool map_missed(struct map *map);
 /* Ends its input, and waits for all that it says. Where a signal ended it, the harness gives up. */
 void await_map(struct map *map);
 
-/* Prints it, on a terminal behind a picture of the region where that is asked for. */
-void print_map(const struct map *map, bool as_picture);
+/* Prints it: the whole of it, and on a terminal a picture of the region before it; or else a long line
+ * of unchecked blocks as how many they are. */
+void print_map(const struct map *map, bool is_whole);
 
 /* The last line of what it said: the report, or why there is none. */
 const char *report_of_map(const struct map *map);

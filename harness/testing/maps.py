@@ -2,6 +2,7 @@
 import json
 import os
 import pty
+import re
 import subprocess
 
 from trying import BLOCK, HANG, LIAR, TARGET, job, put, read, report, run, run_of, stamp, state_in, tell, tell_has, write
@@ -129,6 +130,11 @@ def unchecked():
             extents += f" {block}" if block == 0 or block - 1 in checked else ""
             extents += f"-{block}" if block == 63 or block + 1 in checked else ""
     tell("blocks that aren't checked", run("map", "few.fio", "few", "fs2")[:2], (0, mapped({}, len(checked), "", extents)))
+    tell("by a check, too", run("check", "few.fio", "few", "fs2", whole=True)[1].splitlines()[0], f"unchecked{extents}")
+    tell("a few writes to many blocks", run("write", job("many.fio", blocks=4096, writes=4096), "many", "ms2", "--after", "2000")[0], 0)
+    listed, told = run("map", "many.fio", "many", "ms2")[1].splitlines(), run("check", "many.fio", "many", "ms2", whole=True)[1].splitlines()
+    count = 4096 - int(re.match(r"report checked (\d+) ", told[1])[1])
+    tell("many of them are told by a number, and listed by a map", (told[0], len(listed[0]) > 200), (f"unchecked {count} blocks, which a map tells", True))
     env = {"LD_PRELOAD": LIAR, "LIE": "lost:3", "LIE_TARGET": "/cm"}
     off = ("--off", "kill -KILL $(cat agent)", "--on", "true", "--every", "0.2..0.3", "--seed", "5", "--trust-off")
     _, printed, _ = witness("cycle", "long.fio", "kinds", *link("cm"), *off, "--cycles", "1", "--json", env=env)
