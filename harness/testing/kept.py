@@ -3,7 +3,7 @@ their blocks lie, and the lines of a series."""
 import os
 import subprocess
 
-from trying import LIAR, QUIET, await_text, read, run, run_of, tell, tell_has, whole_run, write
+from trying import LIAR, QUIET, await_text, job, read, run, run_of, tell, tell_has, whole_run, write
 from witness import cycles_in, link, witness
 
 SYNCS = {"LD_PRELOAD": LIAR, "LIE_SYNCS": "1"}
@@ -39,6 +39,18 @@ def stopped_witness():
     tell("the state of the run before is put aside", (os.path.exists("ss"), read("ss.old") == before if os.path.exists("ss.old") else None), (False, True))
     status, printed, said = witness("check", "two.fio", "ss", *link("st"))
     tell("its check", (status, printed, "ss: No such file" in said), (2, "", True))
+
+
+def killed_behind_flushes():
+    """An agent that writes by a ring is killed as soon as what a flush has kept is told: what came to
+    the drive behind that flush's front is lost, and nobody was told that it is done."""
+    job("flushed.fio", blocks=512, writes=100_000, depth=16)
+    for flushes in (1, 2, 5, 20, 60):
+        env = {"LD_PRELOAD": LIAR, "LIE": "cached:4096", "LIE_FLUSHES": "1", "LIE_RING": "1", "LIE_DIES": str(flushes), "LIE_TARGET": "/kf"}
+        status, printed, _ = witness("write", "flushed.fio", "kf.state", *link("kf", "--flush", "2"), env=env)
+        tell(f"killed behind flush {flushes}", (status, "at the cut" in printed), (0, True))
+        status, printed, _ = witness("check", "flushed.fio", "kf.state", *link("kf"))
+        tell(f"killed behind flush {flushes}: what was told is there", (status, " faults 0 " in printed), (0, True))
 
 
 OFF = ("--off", "kill -KILL $(cat agent)", "--on", "true", "--every", "0.2..0.2", "--seed", "7", "--trust-off")

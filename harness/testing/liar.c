@@ -12,7 +12,7 @@
  * byte. LIE_TARGET=NAME is the end of the target's path. LIE_PIECES has standard output take five
  * bytes at a time, with other threads' turn behind them. The kernel's io_uring passes a library by:
  * LIE_RING has one of this library's own in its place (ring_liar.c), and without it there is none, so
- * that the harness writes by threads. */
+ * that the harness writes by threads. LIE_DIES=N kills the process behind the Nth flush by that. */
 #include "liar.h"
 
 #include <dlfcn.h>

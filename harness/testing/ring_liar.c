@@ -1,13 +1,15 @@
 /* An io_uring of the liar's own, so that what it does to writes and flushes meets an executor that
- * writes by a ring. Writes are made as they are given; a flush begins as it is given, and ends only
- * once nothing else has: so writes that end behind its front are told before it, and it doesn't
- * cover them. */
+ * writes by a ring. A few writes are made each time that the executor comes, and a flush begins as it
+ * is given, and ends only once nothing else has: so writes end behind its front and before its end,
+ * and it doesn't cover them. */
 #include "liar.h"
 
 #include <errno.h>
 #include <linux/io_uring.h>
 #include <poll.h>
 #include <pthread.h>
+#include <signal.h>
+#include <stdatomic.h>
 #include <stdint.h>
 #include <stdlib.h>
 #include <string.h>
@@ -16,21 +18,23 @@
 #include <sys/uio.h>
 #include <unistd.h>
 
-/* Where the fields of a ring stand in its memory; and for how many milliseconds a flush lets more
- * orders come. */
-enum { GIVEN_HEAD = 0, GIVEN_TAIL = 4, GIVEN_MASK = 8, ENDED_HEAD = 24, ENDED_TAIL = 28, ENDED_MASK = 32, ENDS = 64, MAX_RINGS = 64, A_WHILE = 2 };
+/* Where the fields of a ring stand in its memory; for how many milliseconds a flush lets more orders
+ * come; and how many writes are made at once. */
+enum { GIVEN_HEAD = 0, GIVEN_TAIL = 4, GIVEN_MASK = 8, ENDED_HEAD = 24, ENDED_TAIL = 28, ENDED_MASK = 32, ENDS = 64, MAX_RINGS = 64, A_WHILE = 2, A_FEW = 3 };
 
 struct ring {
     int fd;
     uint8_t *memory;
     struct io_uring_sqe *calls;
     unsigned entries;
-    struct io_uring_sqe read, flush; /* those that are out */
+    struct io_uring_sqe read, flush, *writes; /* those that are out; the writes stand in a ring, too */
+    unsigned first, writing;
     bool reads, flushes;
     int flushed;                     /* what the flush will answer */
 };
 
 static struct ring rings[MAX_RINGS];
+static atomic_long ended_flushes;
 static pthread_mutex_t lock = PTHREAD_MUTEX_INITIALIZER;
 
 static unsigned *field(const struct ring *ring, int at) {
@@ -66,9 +70,10 @@ static long set_up(unsigned wanted, struct io_uring_params *params) {
     if (fd < 0 || ftruncate(fd, (off_t)(IORING_OFF_SQES + entries * sizeof(struct io_uring_sqe)))) return -1;
     struct ring *ring = place_for(fd);
     ring->entries = entries;
+    ring->writes = calloc(entries, sizeof *ring->writes);
     ring->calls = mmap(NULL, entries * sizeof *ring->calls, PROT_READ | PROT_WRITE, MAP_SHARED, fd, IORING_OFF_SQES);
     ring->memory = mmap(NULL, length, PROT_READ | PROT_WRITE, MAP_SHARED, fd, IORING_OFF_SQ_RING);
-    if ((void *)ring->calls == MAP_FAILED || (void *)ring->memory == MAP_FAILED) abort();
+    if (!ring->writes || (void *)ring->calls == MAP_FAILED || (void *)ring->memory == MAP_FAILED) abort();
     *field(ring, GIVEN_MASK) = entries - 1, *field(ring, ENDED_MASK) = 2 * entries - 1;
     params->features = IORING_FEAT_SINGLE_MMAP | IORING_FEAT_NODROP;
     params->sq_entries = entries, params->cq_entries = 2 * entries;
@@ -93,17 +98,24 @@ static int or_error(long answer) {
     return answer < 0 ? -errno : (int)answer;
 }
 
-/* Begins a call. A write is made by that, unless it never comes back. */
+/* Makes the next few writes that are out, but for those that never come back. */
+static void make_writes(struct ring *ring) {
+    for (int made = 0; made < A_FEW && ring->writing; made++, ring->first = (ring->first + 1) % ring->entries, ring->writing--) {
+        const struct io_uring_sqe *call = ring->writes + ring->first;
+        bool never = false;
+        int answer = or_error(write_or_lie(call->fd, (const void *)(uintptr_t)call->addr, call->len, (off_t)call->off, &never));
+        if (!never) end_call(ring, call, answer);
+    }
+}
+
 static void begin_call(struct ring *ring, const struct io_uring_sqe *call) {
-    bool never = false;
     if (call->opcode == IORING_OP_READV) {
         ring->read = *call, ring->reads = true;
     } else if (call->opcode == IORING_OP_FSYNC) {
         ring->flushed = or_error(call->fsync_flags & IORING_FSYNC_DATASYNC ? fdatasync(call->fd) : fsync(call->fd));
         ring->flush = *call, ring->flushes = true;
     } else {
-        int answer = or_error(write_or_lie(call->fd, (const void *)(uintptr_t)call->addr, call->len, (off_t)call->off, &never));
-        if (!never) end_call(ring, call, answer);
+        ring->writes[(ring->first + ring->writing++) % ring->entries] = *call;
     }
 }
 
@@ -114,18 +126,28 @@ static void end_read(struct ring *ring, int milliseconds) {
     ring->reads = false;
 }
 
+/* Kills the process where so many flushes have ended, and what they kept was told: it waits for what
+ * ends next. */
+static void die_if_due(bool waits) {
+    const char *due = getenv("LIE_DIES");
+    if (waits && due && ended_flushes >= atol(due)) raise(SIGKILL);
+}
+
 static long enter(struct ring *ring, unsigned count, bool waits) {
+    die_if_due(waits);
     unsigned head = *field(ring, GIVEN_HEAD), *places = field(ring, ENDS + (int)(2 * ring->entries * sizeof(struct io_uring_cqe)));
     for (unsigned at = 0; at < count; at++) {
         const struct io_uring_sqe call = ring->calls[places[(head + at) % ring->entries]];
         begin_call(ring, &call);
     }
     *field(ring, GIVEN_HEAD) = head + count;
+    make_writes(ring);
     end_read(ring, ring->flushes && !has_ends(ring) ? A_WHILE : 0);
-    if (ring->flushes && !has_ends(ring)) end_call(ring, &ring->flush, ring->flushed), ring->flushes = false;
+    if (ring->flushes && !has_ends(ring)) end_call(ring, &ring->flush, ring->flushed), ring->flushes = false, ended_flushes++;
     while (waits && !has_ends(ring)) {
-        if (!ring->reads) pause();
-        end_read(ring, -1);
+        make_writes(ring);
+        if (!ring->reads && !ring->writing && !has_ends(ring)) pause();
+        if (!ring->writing && !has_ends(ring)) end_read(ring, -1);
     }
     return count;
 }
