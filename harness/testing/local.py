@@ -101,7 +101,7 @@ def local_caches():
                 os.remove(file)
         env = {**os.environ, "LD_PRELOAD": LIAR, "LIE": "cached:64", "LIE_LOG": os.path.abspath("log"), "LIE_TARGET": "/lc"}
         ran = subprocess.Popen([WITNESS, "write", "cache.fio", "ls", "--local", *link("lc")], env=env, **QUIET)
-        await_that(lambda: os.path.exists("log") and read("log").count(b"\n") > 1000, "a thousand writes")
+        comes(lambda: os.path.exists("log") and read("log").count(b"\n") > 1000)
         kill_agent()
         tell(f"a lying cache, turn {turn}", ran.wait(HANG), 0)
         due = faults_by(read("log"), state_in("ls"), read("lc"), 512)

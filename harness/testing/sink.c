@@ -22,7 +22,7 @@ int main(int count, char **words) {
     if (count != 2) give_up("sink", "wants a job file");
     const struct job job = read_job(words[1], 0);
     struct child drive = start_drive("write", 1, &job, CHILD_READS | CHILD_WRITES | way_of_orders(job.depth, true));
-    make_slots(&slots, job.block_size, job.depth + 1);
+    make_slots(&slots, job.block_size, job.depth + 1, PLAIN_HEAD);
     for (uint64_t told = 0; told < job.total;) {
         ssize_t length = readv(drive.from, pieces, next_room(&slots, pieces, 2 * (int)job.depth + 2));
         size_t here = 0;

@@ -10,7 +10,7 @@ import struct
 import subprocess
 import time
 
-from trying import AGENT, BLOCK, HANG, HERE, LIAR, QUIET, WITNESS, await_file, await_that, job, read, report, run, run_of, stamp, state_in, tell, tell_has, write
+from trying import AGENT, BLOCK, HANG, HERE, LIAR, QUIET, WITNESS, await_file, comes, job, read, report, run, run_of, stamp, state_in, tell, tell_has, write
 
 # What a welcome takes of a link, and the head of a piece of what was read.
 WELCOME, CHUNK = 692, 24
@@ -142,7 +142,7 @@ def lying_caches():
         env = {**os.environ, "LD_PRELOAD": LIAR, "LIE": "cached:64", "LIE_LOG": os.path.abspath("log"), "LIE_TARGET": "/lc", **({"LIE_FLUSHES": "1"} if flushes else {}), **({"LIE_RING": "1"} if ring else {})}
         options = (*(("--flush", "2" if ring else "8") if flushes else ()), *(("--cached",) if cached else ()))
         ran = subprocess.Popen([WITNESS, "write", "cache.fio", "ls", *link("lc", *options)], env=env, **QUIET)
-        await_that(lambda: os.path.exists("log") and read("log").count(b"\n") > 1000, "a thousand writes")
+        comes(lambda: os.path.exists("log") and read("log").count(b"\n") > 1000)
         kill_agent()
         tell(f"a lying cache, turn {turn}", ran.wait(HANG), 0)
         due = faults_by(read("log"), state_in("ls"), read("lc"), 512)
