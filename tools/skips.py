@@ -42,6 +42,7 @@ MAY_BE = {
     "hosts": ("where no network namespaces can be made, or ip, socat or /dev/net/tun lack", has_no_hosts),
     "namespace": ("where no namespace of a user can be made", fails("unshare", "-m", "-r", "true")),
     "mounts": ("where nothing can be mounted", mounts_nothing),
+    "boot id": ("where the number of a machine's start can't be replaced", fails("unshare", "-m", "mount", "--bind", "/dev/null", "/proc/sys/kernel/random/boot_id")),
     "loop device": ("where there is no loop device", has_no_loop_device),
     "mkfs.ext4": ("where mkfs.ext4 isn't installed", lacks("mkfs.ext4")),
 }
