@@ -91,6 +91,11 @@ def no_cuts():
     rows = rows_of("trusted")
     due = f"sound: {sum(it['checked'] for it in rows)} blocks checked, 0 faults; 2 cuts by the word of --off, {sum(it['in_flight'] > 0 for it in rows)} with writes in flight ({sum(it['in_flight'] for it in rows)} in all), 0 cycles without a cut"
     tell("the last line", last_lines(printed)[0], due)
+    words = ("cycle", "long.fio", "mixed", *link("nm"))
+    tell("a cycle without a cut, which is checked", witness(*words, *CUT, "--cycles", "1")[0], 3)
+    env = {"LD_PRELOAD": LIAR, "LIE": "stalled:1", "LIE_TARGET": "/nm"}
+    status, _, _ = witness(*words, *CUT, "--cycles", "2", "--trust-off", "--resume", env=env)
+    tell("and a cut behind which nothing is", (status, [(it["cut"], it["checked"] > 0) for it in rows_of("mixed")]), (3, [("none", True), ("word", False)]))
     ends = link("ne", behind=f"| {PASS_ON} 20000")
     status, printed, said = witness("cycle", "endless.fio", "ends", *ends, *CUT[:4], "--every", "60..60", "--cycles", "1", "--trust-off", "--wait", "5")
     tell("a link that ends by itself, and isn't there for a check", (status, "by itself" in said, cycles_in(printed)), (2, True, []))

@@ -94,7 +94,7 @@ static int end_series(const struct folder *folder, int status, bool json) {
     char cuts[160];
     snprintf(cuts, sizeof cuts, "%" PRIu64 " cuts%s, %" PRIu64 " with writes in flight (%" PRIu64 " in all), %" PRIu64 " cycles without a cut", totals->cuts, totals->trusted ? " by the word of --off" : "", totals->flying_cuts, totals->in_flight,
              totals->cycles - totals->cuts);
-    if (!status) status = totals->faulty ? STATUS_FAULTS : totals->cuts && totals->checked ? STATUS_SOUND : STATUS_NO_VERDICT;
+    if (!status) status = totals->faulty ? STATUS_FAULTS : totals->judged ? STATUS_SOUND : STATUS_NO_VERDICT;
     if (totals->faulty) fprintf(to, "faults: %" PRIu64 " of %" PRIu64 " blocks checked, in %" PRIu64 " of %" PRIu64 " cycles; %s\n", totals->faults, totals->checked, totals->faulty, totals->cycles, cuts);
     else if (status == STATUS_SOUND) fprintf(to, "sound: %" PRIu64 " blocks checked, 0 faults; %s\n", totals->checked, cuts);
     else fprintf(to, "%s: %" PRIu64 " blocks checked, 0 faults; %s\n", status == STATUS_NO_VERDICT ? "no verdict" : "not checked whole", totals->checked, cuts);

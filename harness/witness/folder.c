@@ -47,6 +47,7 @@ static void count_cycle(struct totals *totals, uint64_t checked, uint64_t faults
     totals->checked += checked, totals->faults += faults;
     totals->faulty += faults > 0, totals->unchecked += checked == 0;
     totals->cuts += cut != NO_CUT, totals->trusted += cut == CUT_BY_WORD;
+    totals->judged += cut != NO_CUT && checked;
     totals->flying_cuts += cut != NO_CUT && flying, totals->in_flight += cut != NO_CUT ? flying : 0;
 }
 

@@ -28,6 +28,7 @@ struct totals {
     uint64_t cycles, checked, faults;
     uint64_t faulty, unchecked;        /* cycles that had faults, and that had nothing to check */
     uint64_t cuts, trusted;            /* cycles with a cut, and those of them by the word of --off alone */
+    uint64_t judged;                   /* cuts behind which some block had to hold something */
     uint64_t flying_cuts, in_flight;   /* cuts with writes in flight, and these writes in all */
 };
 
