@@ -14,6 +14,14 @@ uint64_t number_of(const char *name, const char *word) {
     return value;
 }
 
+/* Where the next text of an option goes. */
+static const char **place_of_text(const struct option *option) {
+    size_t at = 0;
+    while (option->commands & MANY && option->text[at]) at++;
+    if (at == MOST_TEXTS) give_up(option->name, "it stands too often");
+    return option->text + at;
+}
+
 /* Reads the option that begins at this word, and returns how many words it has. */
 static int read_option(const struct option *option, int command, int left, char **word) {
     if (!(option->commands & command)) give_up(word[0], "it is for another command");
@@ -22,7 +30,7 @@ static int read_option(const struct option *option, int command, int left, char 
         return 1;
     }
     if (left < 2) give_up(word[0], "nothing stands behind it");
-    if (option->text) *option->text = word[1];
+    if (option->text) *place_of_text(option) = word[1];
     if (option->number) *option->number = number_of(word[0], word[1]);
     return 2;
 }

@@ -5,6 +5,10 @@
 #include <stdbool.h>
 #include <stdint.h>
 
+/* Beside the commands of an option: it may stand several times, and its texts go one behind the other,
+ * where there is room for so many and a NULL. */
+enum { MANY = 1 << 16, MOST_TEXTS = 16 };
+
 /* An option's name, and where what stands behind it goes: a text, a number, or nothing. */
 struct option {
     const char *name;

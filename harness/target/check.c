@@ -1,6 +1,7 @@
 #include "commands.h"
 
 #include "bytes.h"
+#include "dump.h"
 #include "identity.h"
 #include "map.h"
 #include "reading.h"
@@ -41,6 +42,18 @@ static bool pass_over(void *given, uint64_t block, const char *why) {
     return map_missed(&subject->map);
 }
 
+/* Keeps what the faulty blocks hold, and what they may. */
+static void dump_target(struct subject *subject, const struct options *options, const struct job *job) {
+    struct dump dump = open_dump(options->state, &subject->map, options->dump);
+    if (dump.count) {
+        const struct region part = region_of_dump(&dump, &subject->region);
+        const struct sink sink = sink_of_dump(&dump);
+        read_region(&subject->target, &part, &sink);
+        keep_wanted(&dump, subject->kept.run, job);
+    }
+    free_dump(&dump);
+}
+
 int check_target(const struct options *options, const struct job *job) {
     static struct subject subject;
     char boot[MAX_BOOT];
@@ -51,6 +64,7 @@ int check_target(const struct options *options, const struct job *job) {
     print_map(&subject.map, options->command == MAP);
     tell_boot(boot);
     int status = tell_verdict(&subject.map, options->state, &subject.kept, boot);
+    dump_target(&subject, options, job);
     free_map(&subject.map);
     return status;
 }

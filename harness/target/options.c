@@ -29,6 +29,7 @@ static const char USAGE[] =
     "check, map:\n"
     "  --run N           checks as run N, which a full pass has to say\n"
     "  --unit BYTES      the target writes so many bytes whole, and not a block\n"
+    "  --dump N          keeps the bytes of the first N faulty blocks, and of the writes that they may hold, beside STATE\n"
     "  --other-drive     checks another drive than the one that the run wrote to, as one with a copy of it\n"
     "all:\n"
     "  --offset BYTES    where the first block begins, 0 else; --stride BYTES: from one block's front to the next\n"
@@ -60,6 +61,7 @@ struct options read_options(int count, char **words) {
         {"--torn", 0, 0, &read.opening.torn, WRITE},
         {"--run", 0, &read.run, 0, CHECK | MAP},
         {"--unit", 0, &read.unit, 0, CHECK | MAP},
+        {"--dump", 0, &read.dump, 0, CHECK | MAP},
         {"--other-drive", 0, 0, &read.other_drive, CHECK | MAP},
         {"--offset", 0, &read.offset, 0, WRITE | CHECK | MAP},
         {"--stride", 0, &read.stride, 0, WRITE | CHECK | MAP},
@@ -79,6 +81,7 @@ struct options read_options(int count, char **words) {
     read_words(all, (int)read.command, count - 5, words + 5);
     if (read.command != WRITE && is_full_pass(&read) && read.run == 0) give_up("-", "a full pass wants --run, the number of the run that wrote");
     if (read.command == WRITE && is_full_pass(&read)) give_up("-", "a state is kept in a file");
+    if (read.dump && is_full_pass(&read)) give_up("--dump", "there is no state's file beside which bytes could be kept");
     return read;
 }
 

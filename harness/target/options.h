@@ -18,6 +18,7 @@ struct options {
     uint64_t run;   /* 0: the run of the state */
     uint64_t queue; /* 0: as many writes at once as the job's depth */
     uint64_t unit;  /* 0: a block */
+    uint64_t dump;  /* the bytes of so many faulty blocks are kept */
     struct way way; /* of a write: what it rests on */
     bool other_drive; /* a check takes another drive than the run's */
 };

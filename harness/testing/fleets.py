@@ -258,7 +258,7 @@ def cycles_by_a_book():
     status, printed, _ = fleet(*words, "--json")
     told = [json.loads(it) for it in printed.splitlines()]
     tell("it stops at the first with faults", (status, len(told), told[0]["faults"]), (1, 1, len(written(read("cycle.log")))))
-    with open("folder/cycles.json", encoding="ascii") as it:
+    with open("folder/cycles.jsonl", encoding="ascii") as it:
         tell("the folder has all cycles", [json.loads(line)["status"] for line in it], [0, 0, 1])
     subprocess.run(["sh", "./off"], check=True)
     subprocess.run(["sh", "./on"], check=True)

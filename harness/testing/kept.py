@@ -62,7 +62,7 @@ def kept_series():
     log = os.path.abspath("series.log")
     status, printed, _ = witness("cycle", "long.fio", "series", *link("ct"), *OFF, "--cycles", "2", env={**SYNCS, "LIE_LOG": log})
     tell("two cycles", (status, len(cycles_in(printed))), (0, 2))
-    lines, file = lines_of(log), os.path.abspath("series/cycles.json")
+    lines, file = lines_of(log), os.path.abspath("series/cycles.jsonl")
     behind = [lines[at + 1] for at, line in enumerate(lines[:-1]) if line == f"synced {file}"]
     tell("each line is synced, and its folder behind it", behind, [f"synced {os.path.dirname(file)}"] * 2)
     env = {"LD_PRELOAD": LIAR, "LIE_TARGET": "/cu", "LIE_UNREADABLE": "0"}

@@ -73,7 +73,7 @@ def rows_of(folder):
         except ValueError:
             return {}
 
-    return [row(it) for it in read(f"{folder}/cycles.json").decode().splitlines()]
+    return [row(it) for it in read(f"{folder}/cycles.jsonl").decode().splitlines()]
 
 
 def no_cuts():
@@ -235,23 +235,13 @@ def nights_that_go_on():
     tell("a job of a pattern", (status, len(cycles_in(printed))), (0, 2))
 
 
-def kept_blocks():
-    """The bytes of the first faulty blocks of a cycle are kept, before the next one writes over them."""
-    harm = "kill -KILL $(cat agent); for b in 3 7 9; do printf abc | dd of=kb bs=1 seek=$((b * 4096 + 8)) conv=notrunc 2>/dev/null; done; cp kb as-it-was"
-    status, _, _ = witness("cycle", "two.fio", "blocks", *link("kb"), "--off", harm, *CUT[2:], "--cycles", "1", "--trust-off")
-    names = sorted(it for it in os.listdir("blocks") if ".block-" in it)
-    tell("faulty blocks", (status, names), (1, [f"cycle-000001.block-{it}" for it in (3, 7, 9)]))
-    data = read("as-it-was")
-    tell("their bytes", [read(f"blocks/cycle-000001.block-{it}") == data[it * BLOCK : (it + 1) * BLOCK] for it in (3, 7, 9)], [True] * 3)
-
-
 def kept_nights():
     """A series that is resumed begins with the power; a line that was cut short is taken away; a cycle
     that is checked later knows what was ordered; and room for its files is there before the cut."""
     status, _, _ = witness("cycle", "long.fio", "kn", *link("kt"), *CUT, "--cycles", "2", "--trust-off")
     tell("two cycles", status, 0)
     rows = rows_of("kn")
-    write("kn/cycles.json", b"".join(read("kn/cycles.json").splitlines(True)[:1]) + b'{"cycle": 2, "ru')
+    write("kn/cycles.jsonl", b"".join(read("kn/cycles.jsonl").splitlines(True)[:1]) + b'{"cycle": 2, "ru')
     status, printed, _ = witness("cycle", "long.fio", "kn", *link("kt"), "--off", "false", "--on", "touch on-first", *CUT[4:], "--cycles", "2", "--trust-off", "--resume")
     tell("resumed, with the power first", (status, os.path.exists("on-first"), len(cycles_in(printed))), (0, True, 1))
     tell("its lines are whole again", [it.get("cycle") for it in rows_of("kn")], [1, 2])

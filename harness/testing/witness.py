@@ -216,13 +216,13 @@ def cycles_in(printed):
 
 def cycles():
     """A series of cycles, stopped and resumed."""
-    off = ("--off", "kill -KILL $(cat agent)", "--on", "true", "--every", "0.05..0.3", "--seed", "7", "--trust-off")
+    off = ("--off", "kill -KILL $(cat agent)", "--on", "true", "--every", "0.15..0.4", "--seed", "7", "--trust-off")
     status, printed, said = witness("cycle", "long.fio", "series", *link("ct"), *off, "--cycles", "5", "--json")
     rows = [json.loads(line) for line in printed.splitlines()]
     tell("five cycles", (status, [it["cycle"] for it in rows]), (0, [1, 2, 3, 4, 5]))
     tell("each was cut, without a fault", all(it["cut"] == "word" and not it["faults"] and it["ordered"] == it["told"] + it["in_flight"] for it in rows), True)
-    tell("each has its moment", len({it["cut_after"] for it in rows}) > 3 and all(0.05 <= it["cut_after"] <= 0.3 for it in rows), True)
-    tell("their lines are kept", read("series/cycles.json").decode(), printed)
+    tell("each has its moment", len({it["cut_after"] for it in rows}) > 3 and all(0.15 <= it["cut_after"] <= 0.4 for it in rows), True)
+    tell("their lines are kept", read("series/cycles.jsonl").decode(), printed)
     tell("a state of them", run("check", "long.fio", "ct", "series/cycle-000005.state")[0], 0)
     refuse = witness("cycle", "long.fio", "series", *link("ct"), *off, "--cycles", "6")
     tell("a series that is there", (refuse[0], "--resume" in refuse[2]), (2, True))
@@ -234,7 +234,7 @@ def cycles():
     ran.wait()
     left = run_of("series/cycle-000006.state")
     status, printed, _ = witness("cycle", "long.fio", "series", *link("ct"), *off, "--cycles", "8", "--resume")
-    lines = read("series/cycles.json").splitlines()
+    lines = read("series/cycles.jsonl").splitlines()
     tell("it goes on", (status, len(cycles_in(printed)) >= 2, len(lines)), (0, True, 8))
     tell("and checks first what was left", json.loads(lines[5])["run"], str(left))
     env = {"LD_PRELOAD": LIAR, "LIE": "lost:3", "LIE_TARGET": "/cf"}

@@ -3,6 +3,7 @@
 #include "bytes.h"
 #include "chunk.h"
 #include "clock.h"
+#include "dump.h"
 #include "map.h"
 #include "reading.h"
 #include "say.h"
@@ -98,7 +99,8 @@ void check_by_link(const struct options *options, const struct job *job, const s
     map_nothing(job, region, kept, why, map);
 }
 
-bool read_by_link(const struct options *options, const struct job *job, const struct region *region, const struct kept *kept, const struct sink *sink) {
+/* Reads a region by an agent, once, and hands its blocks on. Returns whether all came. */
+static bool read_by_link(const struct options *options, const struct job *job, const struct region *region, const struct kept *kept, const struct sink *sink) {
     struct hello hello = {.depth = job->depth, .region = *region};
     struct link link;
     char why[MAX_WHY];
@@ -107,4 +109,15 @@ bool read_by_link(const struct options *options, const struct job *job, const st
     bool is_whole = pass_region_on(&(struct source){&link, quiet_of(options)}, sink);
     end_link(&link);
     return is_whole;
+}
+
+void dump_by_link(const struct options *options, const struct job *job, const struct region *region, const struct kept *kept, const char *place, const struct map *map) {
+    struct dump dump = open_dump(place, map, options->dump);
+    if (dump.count) {
+        const struct region part = region_of_dump(&dump, region);
+        const struct sink sink = sink_of_dump(&dump);
+        if (!read_by_link(options, job, &part, kept, &sink)) say("the bytes of the faulty blocks could not be kept");
+        keep_wanted(&dump, kept->run, job);
+    }
+    free_dump(&dump);
 }

@@ -8,6 +8,8 @@
 int write_by_agent(const struct options *options, const struct job *job);
 int check_by_agent(const struct options *options, const struct job *job);
 int map_by_agent(const struct options *options, const struct job *job);
-int cycle_by_agent(const struct options *options, const struct job *job);
+
+/* A series of one drive. Where it isn't -1, `words` is the way to who cuts the power for several. */
+int cycle_by_agent(const struct options *options, const struct job *job, int words);
 
 #endif

@@ -5,6 +5,7 @@
 #include "child.h"
 #include "notice.h"
 #include "outbox.h"
+#include "power.h"
 #include "run.h"
 
 #include <stdbool.h>
@@ -18,17 +19,14 @@ struct course {
     const struct job *job;
     struct link *link;
     struct tally *tally;
-    struct child drive, off;
+    struct child drive;
+    struct power *power;
     struct outbox outbox; /* what `drive` has ordered */
     uint8_t heard[NOTICES * TOLD_BYTES]; /* notices that came, and perhaps a part of one */
     size_t heard_length;
     uint64_t unknown_since; /* 0, or since when the first of these is of no open write */
     uint64_t goal; /* the state is taken once so many writes are told */
     uint64_t began, last_heard, next_line, told_before;
-    uint64_t cut_at; /* 0: no cut, or it was begun */
-    /* The command that cuts has begun; its process is 0 once it has ended, at that moment. */
-    bool is_off;
-    uint64_t off_ended;
     bool is_taken, is_over;
 };
 

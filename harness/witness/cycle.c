@@ -1,6 +1,5 @@
 #include "commands.h"
 
-#include "dump.h"
 #include "folder.h"
 #include "map.h"
 #include "say.h"
@@ -37,42 +36,65 @@ static enum cut shown_cut(const struct options *options, const struct tally *tal
     return options->trust_off ? CUT_BY_WORD : NO_CUT;
 }
 
+/* A series, and its cycle that is under way. */
+struct series {
+    const struct options *options;
+    const struct job *job;
+    struct region region;
+    struct folder folder;
+    struct power power;
+    struct cycle cycle;
+    struct kept kept;
+    struct map map; /* of its check */
+};
+
 /* Gives the power back, and checks. Returns whether there is a report of the whole region. */
-static bool check_cycle(const struct options *options, const struct job *job, const struct region *region, const struct folder *folder, const struct kept *kept, struct cycle *cycle) {
-    static struct map map;
+static bool check_cycle(struct series *series) {
     struct welcome welcome;
-    if (run_command(options->on, NULL, 0)) give_up(options->on, "it didn't give the power back");
-    check_by_link(options, job, region, kept, &map, &welcome);
-    cycle->cut = shown_cut(options, &cycle->tally, kept->boot, welcome.boot);
+    struct cycle *cycle = &series->cycle;
+    const struct kept *kept = &series->kept;
+    give_power_back(&series->power);
+    check_by_link(series->options, series->job, &series->region, kept, &series->map, &welcome);
+    cycle->cut = shown_cut(series->options, &cycle->tally, kept->boot, welcome.boot);
     memcpy(cycle->way, kept->way, MAX_WAY);
-    keep_report(folder, cycle, &map);
-    const struct verdict verdict = verdict_of(&map);
+    keep_report(&series->folder, cycle, &series->map);
+    const struct verdict verdict = verdict_of(&series->map);
     cycle->checked = verdict.checked, cycle->faults = verdict.faults;
     memcpy(cycle->kinds, verdict.kinds, sizeof cycle->kinds);
-    if (!verdict.is_report) fputs(report_of_map(&map), stderr);
-    dump_faulty(options, job, region, kept, folder, cycle->number, &map);
-    free_map(&map);
+    if (!verdict.is_report) fputs(report_of_map(&series->map), stderr);
     return verdict.is_report;
 }
 
+/* Keeps the line of a cycle that is over, and then the bytes of its first faulty blocks. */
+static void end_cycle(struct series *series) {
+    char name[PATH_MAX];
+    keep_cycle(&series->folder, &series->cycle, series->options);
+    name_of(&series->folder, series->cycle.number, NULL, name);
+    dump_by_link(series->options, series->job, &series->region, &series->kept, name, &series->map);
+    free_map(&series->map);
+}
+
 /* Writes, and has the power cut. What is stopped before that leaves no state. */
-static void write_cycle(const struct options *options, const struct job *job, const struct region *region, struct folder *folder, struct kept *kept, struct cycle *cycle) {
-    struct hello hello = hello_to_write(options, job, region);
+static void write_cycle(struct series *series) {
+    const struct options *options = series->options;
+    struct folder *folder = &series->folder;
+    struct cycle *cycle = &series->cycle;
+    struct hello hello = hello_to_write(options, series->job, &series->region);
     char name[PATH_MAX];
     hello.owns = *folder->drive;
     if (!options->other_drive) memcpy(hello.drive, folder->drive, MAX_DRIVE);
     take_room(folder);
-    struct link link = open_link(options->link, &hello, job, options->wait);
+    struct link link = open_link(options->link, &hello, series->job, options->wait);
     if (!*folder->drive || strcmp(folder->drive, link.welcome.drive)) {
         tell_welcome(&link);
         keep_drive(folder, link.welcome.drive);
     }
-    cycle->cut_after = options->least + drawn(folder->seed, cycle->number) % (options->most - options->least + 1);
-    cycle->tally = run_job(options, job, &link, cycle->cut_after ? cycle->cut_after : 1);
-    *kept = kept_by(&cycle->tally, job, &link);
+    cycle->cut_after = begin_writing(&series->power, options->least + drawn(folder->seed, cycle->number) % (options->most - options->least + 1));
+    cycle->tally = run_job(options, series->job, &link, &series->power);
+    series->kept = kept_by(&cycle->tally, series->job, &link);
     give_room(folder);
     name_of(folder, cycle->number, cycle->tally.is_cut || cycle->tally.failed ? "state" : "stopped", name);
-    keep_state(name, kept);
+    keep_state(name, &series->kept);
 }
 
 /* A cycle whose state was kept, and which was stopped before its check: it is checked first. What it
@@ -88,37 +110,40 @@ static bool has_unchecked(const struct folder *folder, struct kept *kept, struct
 }
 
 /* Prints what the series comes to, and what that says of the drive. */
-static int end_series(const struct folder *folder, int status, bool json) {
+static int end_series(const struct folder *folder, int status, const struct options *options) {
     const struct totals *totals = &folder->totals;
-    FILE *to = json ? stderr : stdout;
-    char cuts[160];
+    FILE *to = options->json ? stderr : stdout;
+    char whose[32], cuts[160];
+    spell_drive(options->drive, whose);
     snprintf(cuts, sizeof cuts, "%" PRIu64 " cuts%s, %" PRIu64 " with writes in flight (%" PRIu64 " in all), %" PRIu64 " cycles without a cut", totals->cuts, totals->trusted ? " by the word of --off" : "", totals->flying_cuts, totals->in_flight,
              totals->cycles - totals->cuts);
     if (!status) status = totals->faulty ? STATUS_FAULTS : totals->judged ? STATUS_SOUND : STATUS_NO_VERDICT;
-    if (totals->faulty) fprintf(to, "faults: %" PRIu64 " of %" PRIu64 " blocks checked, in %" PRIu64 " of %" PRIu64 " cycles; %s\n", totals->faults, totals->checked, totals->faulty, totals->cycles, cuts);
-    else if (status == STATUS_SOUND) fprintf(to, "sound: %" PRIu64 " blocks checked, 0 faults; %s\n", totals->checked, cuts);
-    else fprintf(to, "%s: %" PRIu64 " blocks checked, 0 faults; %s\n", status == STATUS_NO_VERDICT ? "no verdict" : "not checked whole", totals->checked, cuts);
-    if (!totals->faulty && totals->flying_cuts) fprintf(to, "0 of %" PRIu64 " cuts with writes in flight: with 95 %% fewer than 3 in %" PRIu64 " such cuts lose a write\n", totals->flying_cuts, totals->flying_cuts);
+    if (totals->faulty) fprintf(to, "%sfaults: %" PRIu64 " of %" PRIu64 " blocks checked, in %" PRIu64 " of %" PRIu64 " cycles; %s\n", whose, totals->faults, totals->checked, totals->faulty, totals->cycles, cuts);
+    else if (status == STATUS_SOUND) fprintf(to, "%ssound: %" PRIu64 " blocks checked, 0 faults; %s\n", whose, totals->checked, cuts);
+    else fprintf(to, "%s%s: %" PRIu64 " blocks checked, 0 faults; %s\n", whose, status == STATUS_NO_VERDICT ? "no verdict" : "not checked whole", totals->checked, cuts);
+    if (!totals->faulty && totals->flying_cuts) fprintf(to, "%s0 of %" PRIu64 " cuts with writes in flight: with 95 %% fewer than 3 in %" PRIu64 " such cuts lose a write\n", whose, totals->flying_cuts, totals->flying_cuts);
     if (fflush(to)) give_up_by_errno("standard output");
     return status;
 }
 
-int cycle_by_agent(const struct options *options, const struct job *job) {
-    const struct region region = region_of(job, options->offset, options->stride);
-    struct folder folder = open_folder(options, job, &region);
-    if (options->resume && run_command(options->on, NULL, 0)) give_up(options->on, "it didn't give the power back");
-    while (!options->cycles || folder.totals.cycles < options->cycles) {
-        static struct cycle cycle;
-        static struct kept kept;
-        cycle = (struct cycle){.number = folder.totals.cycles + 1};
-        if (!has_unchecked(&folder, &kept, &cycle)) {
-            write_cycle(options, job, &region, &folder, &kept, &cycle);
-            if (!cycle.tally.is_cut && !cycle.tally.failed) break; /* (it was stopped) */
+int cycle_by_agent(const struct options *options, const struct job *job, int words) {
+    static struct series series;
+    series = (struct series){.options = options, .job = job, .region = region_of(job, options->offset, options->stride)};
+    series.folder = open_folder(options, job, &series.region);
+    series.power = (struct power){.off = options->off, .on = options->on, .words = words};
+    if (options->resume && words < 0) give_power_back(&series.power);
+    const struct totals *totals = &series.folder.totals;
+    while (!options->cycles || totals->cycles < options->cycles) {
+        struct cycle *cycle = &series.cycle;
+        *cycle = (struct cycle){.number = totals->cycles + 1};
+        if (!has_unchecked(&series.folder, &series.kept, cycle)) {
+            write_cycle(&series);
+            if (!cycle->tally.is_cut && !cycle->tally.failed) break; /* (it was stopped) */
         }
-        if (!check_cycle(options, job, &region, &folder, &kept, &cycle)) return end_series(&folder, STATUS_FAILED, options->json);
-        keep_cycle(&folder, &cycle, options->json);
-        if (cycle.tally.failed) return end_series(&folder, STATUS_FAILED, options->json);
-        if (cycle.faults && !options->keep_going) break;
+        if (!check_cycle(&series)) return end_series(&series.folder, STATUS_FAILED, options);
+        end_cycle(&series);
+        if (cycle->tally.failed) return end_series(&series.folder, STATUS_FAILED, options);
+        if (!may_go_on(&series.power, cycle->faults > 0, options->keep_going)) break;
     }
-    return end_series(&folder, STATUS_SOUND, options->json);
+    return end_series(&series.folder, STATUS_SOUND, options);
 }

@@ -17,10 +17,10 @@
 
 enum { MAX_LINE = 1024, MAX_SETTINGS = 1 << 17, MAX_ROOM = 1 << 20 };
 
-static const char LINES[] = "cycles.json", SETTINGS[] = "settings", DRIVE[] = "drive", ROOM[] = "room";
+static const char LINES[] = "cycles.jsonl", SETTINGS[] = "settings", DRIVE[] = "drive", ROOM[] = "room";
 
 void name_of(const struct folder *folder, uint64_t cycle, const char *ending, char name[PATH_MAX]) {
-    int length = snprintf(name, PATH_MAX, "%s/cycle-%06" PRIu64 ".%s", folder->path, cycle, ending);
+    int length = snprintf(name, PATH_MAX, "%s/cycle-%06" PRIu64 "%s%s", folder->path, cycle, ending ? "." : "", ending ? ending : "");
     if (length >= PATH_MAX) give_up(folder->path, strerror(ENAMETOOLONG));
 }
 
@@ -65,6 +65,8 @@ static enum cut cut_in(const char *line) {
  * over, and is taken away. */
 static void count_cycles(struct folder *folder) {
     char name[PATH_MAX], line[MAX_LINE];
+    name_file(folder, "cycles.json", name);
+    if (!access(name, F_OK)) give_up(name, "it is of a series of an earlier version, with which this one doesn't go on");
     name_file(folder, LINES, name);
     FILE *lines = fopen(name, "r+");
     long end = 0;
@@ -145,31 +147,38 @@ static void spell_kinds(const char *kinds, char text[MAX_LINE / 4]) {
     text[length] = 0;
 }
 
-static size_t line_of(const struct cycle *cycle, char line[MAX_LINE]) {
+void spell_drive(uint64_t drive, char whose[32]) {
+    whose[0] = 0;
+    if (drive) snprintf(whose, 32, "drive %" PRIu64 ": ", drive);
+}
+
+static size_t line_of(const struct cycle *cycle, uint64_t drive, char line[MAX_LINE]) {
     const struct tally *tally = &cycle->tally;
-    char kinds[MAX_LINE / 4], when[32];
+    char kinds[MAX_LINE / 4], when[32], whose[32] = "";
     time_t now = time(NULL);
     spell_kinds(cycle->kinds, kinds);
     strftime(when, sizeof when, "%Y-%m-%dT%H:%M:%SZ", gmtime(&now));
+    if (drive) snprintf(whose, sizeof whose, "\"drive\": %" PRIu64 ", ", drive);
     return (size_t)snprintf(line, MAX_LINE,
-                            "{\"cycle\": %" PRIu64 ", \"run\": \"%" PRIu64 "\", \"time\": \"%s\", \"cut_after\": %.3f, \"seconds\": %.3f, \"cut\": \"%s\", \"ordered\": %" PRIu64
+                            "{%s\"cycle\": %" PRIu64 ", \"run\": \"%" PRIu64 "\", \"time\": \"%s\", \"cut_after\": %.3f, \"seconds\": %.3f, \"cut\": \"%s\", \"ordered\": %" PRIu64
                             ", \"told\": %" PRIu64 ", \"failed\": %" PRIu64 ", \"in_flight\": %" PRIu64 ", \"checked\": %" PRIu64 ", \"faults\": %" PRIu64 ", \"kinds\": {%s}, \"way\": \"%s\"}\n",
-                            cycle->number, tally->run, when, (double)cycle->cut_after / 1000, (double)tally->milliseconds / 1000, SHOWN[cycle->cut], tally->ordered,
+                            whose, cycle->number, tally->run, when, (double)cycle->cut_after / 1000, (double)tally->milliseconds / 1000, SHOWN[cycle->cut], tally->ordered,
                             tally->told, tally->failed, in_flight(tally), cycle->checked, cycle->faults, kinds, cycle->way);
 }
 
-void keep_cycle(struct folder *folder, const struct cycle *cycle, bool json) {
-    char name[PATH_MAX], line[MAX_LINE];
-    size_t length = line_of(cycle, line);
+void keep_cycle(struct folder *folder, const struct cycle *cycle, const struct options *options) {
+    char name[PATH_MAX], line[MAX_LINE], whose[32];
+    size_t length = line_of(cycle, options->drive, line);
+    spell_drive(options->drive, whose);
     const struct tally *tally = &cycle->tally;
     name_file(folder, LINES, name);
     int fd = open(name, O_WRONLY | O_CREAT | O_APPEND | O_CLOEXEC, 0644);
     if (fd < 0 || write_all(fd, line, length) || fsync(fd) || close(fd) || sync_folder(name)) give_up_by_errno(name);
     count_cycle(&folder->totals, cycle->checked, cycle->faults, cycle->cut, in_flight(tally));
-    if (json) fputs(line, stdout);
+    if (options->json) fputs(line, stdout);
     else
-        printf("cycle %" PRIu64 ": run %" PRIu64 ", %" PRIu64 " ordered, %" PRIu64 " told, %" PRIu64 " in flight, %" PRIu64 " checked, %" PRIu64 " faults%s%s%s, %.1f s\n",
-               cycle->number, tally->run, tally->ordered, tally->told, in_flight(tally), cycle->checked, cycle->faults, *cycle->kinds ? ": " : "", cycle->kinds,
+        printf("%scycle %" PRIu64 ": run %" PRIu64 ", %" PRIu64 " ordered, %" PRIu64 " told, %" PRIu64 " in flight, %" PRIu64 " checked, %" PRIu64 " faults%s%s%s, %.1f s\n",
+               whose, cycle->number, tally->run, tally->ordered, tally->told, in_flight(tally), cycle->checked, cycle->faults, *cycle->kinds ? ": " : "", cycle->kinds,
                cycle->cut == NO_CUT ? ", no cut" : "", (double)tally->milliseconds / 1000);
     fflush(stdout);
 }

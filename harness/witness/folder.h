@@ -46,14 +46,17 @@ struct folder open_folder(const struct options *options, const struct job *job, 
 /* Keeps which drive it is of. */
 void keep_drive(struct folder *folder, const char drive[MAX_DRIVE]);
 
-/* The name of a file of a cycle. */
+/* The name of a file of a cycle; and how all of these begin, where the ending is NULL. */
 void name_of(const struct folder *folder, uint64_t cycle, const char *ending, char name[PATH_MAX]);
 
 /* Takes room for what a cycle keeps, before its power is cut; and gives it back, for that. */
 void take_room(const struct folder *folder);
 void give_room(const struct folder *folder);
 
+/* How a line of a drive among several begins: `drive 2: `. It is empty where the number is 0. */
+void spell_drive(uint64_t drive, char whose[32]);
+
 /* Keeps the line of a cycle that is over, counts it, and prints it. */
-void keep_cycle(struct folder *folder, const struct cycle *cycle, bool json);
+void keep_cycle(struct folder *folder, const struct cycle *cycle, const struct options *options);
 
 #endif

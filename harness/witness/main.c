@@ -5,6 +5,7 @@
 #include "map.h"
 #include "run.h"
 #include "say.h"
+#include "several.h"
 #include "state.h"
 #include "verdict.h"
 
@@ -19,7 +20,8 @@ int write_by_agent(const struct options *options, const struct job *job) {
     struct link link = open_link(options->link, &hello, job, options->wait);
     tell_welcome(&link);
     put_aside(options->place);
-    struct tally tally = run_job(options, job, &link, 0);
+    struct power none = {.words = -1};
+    struct tally tally = run_job(options, job, &link, &none);
     static struct kept kept;
     kept = kept_by(&tally, job, &link);
     keep_state(options->place, &kept);
@@ -37,6 +39,7 @@ int check_by_agent(const struct options *options, const struct job *job) {
     check_by_link(options, job, &region, &kept, &map, &welcome);
     print_map(&map, options->command == MAP);
     int status = tell_verdict(&map, options->place, &kept, welcome.boot);
+    dump_by_link(options, job, &region, &kept, options->place, &map);
     free_map(&map);
     return status;
 }
@@ -51,6 +54,6 @@ int main(int count, char **words) {
     case WRITE: return write_by_agent(&options, &job);
     case CHECK:
     case MAP: return check_by_agent(&options, &job);
-    default: return cycle_by_agent(&options, &job);
+    default: return options.links[1] ? cycle_by_agents(&options, &job) : cycle_by_agent(&options, &job, -1);
     }
 }

@@ -35,7 +35,7 @@ static bool count_notice(struct course *course, struct told told) {
     uint64_t block;
     if ((told.kind != DONE && told.kind != FAILED) || !close_order(&course->outbox, told.write, &block)) return false;
     if (block != told.block) give_up("the link", "what the agent writes isn't what is ordered here: is its `drive` another one?");
-    if (told.kind == FAILED && course->is_off) {
+    if (told.kind == FAILED && course->power->is_off) {
         course->tally->has_fallen = true; /* (it may have been made: it stays in flight) */
         return false;
     }
@@ -83,7 +83,7 @@ void take_notices(struct course *course) {
         return;
     }
     course->last_heard = milliseconds();
-    if (course->off_ended && course->last_heard - course->off_ended > STILL_THERE) give_up(course->options->off, "the power is still there: writes are told as done seconds after this has ended");
+    if (course->power->off_ended && course->last_heard - course->power->off_ended > STILL_THERE) give_up(course->options->off, "the power is still there: writes are told as done seconds after this has ended");
     course->heard_length += (size_t)count;
     hand_on(course);
 }

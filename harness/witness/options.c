@@ -1,7 +1,6 @@
 #include "options.h"
 
 #include "say.h"
-#include "words.h"
 
 #include <stdio.h>
 #include <stdlib.h>
@@ -22,12 +21,14 @@ static const char USAGE[] =
     "  --local           the agent has a drive of its own, DRIVE there: for a link too slow for the blocks\n"
     "check, map, cycle:\n"
     "  --unit BYTES      the target writes so many bytes whole, and not a block\n"
+    "  --dump N          keeps the bytes of the first N faulty blocks, and of the writes that they may hold: none, in a cycle 16\n"
     "  --other-drive     takes another drive than the one that was written, as one with a copy of it\n"
     "write:\n"
     "  --after N         takes the state once N writes are done\n"
     "cycle:\n"
     "  --off COMMAND     cuts the power; --on COMMAND: gives it back\n"
     "  --cycles N        so many cycles; else until SIGINT\n"
+    "  --link COMMAND    again, for each drive that shares their power: FOLDER/1, FOLDER/2.. have a series each\n"
     "  --every A..B      the cut comes after A to B seconds, drawn each time: 1..10\n"
     "  --seed S          draws them by this number\n"
     "  --trust-off       takes the word of --off that the power was cut; else the machine has to be started anew by it\n"
@@ -57,7 +58,8 @@ static void read_every(const char *text, struct options *read) {
 }
 
 static void refuse_missing(const struct options *read) {
-    if (!read->link) give_up("--link", "the command that leads to the agent has to be said");
+    if (!read->links[0]) give_up("--link", "the command that leads to the agent has to be said");
+    if (read->links[1] && read->command != CYCLE) give_up("--link", "only a cycle takes several");
     if (read->command == CYCLE && (!read->off || !read->on)) give_up("--off, --on", "a cycle wants both");
 }
 
@@ -74,10 +76,11 @@ static enum command read_command(int count, char **words) {
 
 struct options read_options(int count, char **words) {
     struct options read = {.command = read_command(count, words)};
+    read.dump = read.command == CYCLE ? 16 : 0;
     const char *every = "1..10";
     const int all_commands = WRITE | CHECK | MAP | CYCLE;
     const struct option all[] = {
-        {"--link", &read.link, 0, 0, all_commands},
+        {"--link", read.links, 0, 0, all_commands | MANY},
         {"--job", 0, &read.job, 0, all_commands},
         {"--offset", 0, &read.offset, 0, all_commands},
         {"--stride", 0, &read.stride, 0, all_commands},
@@ -85,6 +88,7 @@ struct options read_options(int count, char **words) {
         {"--quiet", 0, &read.quiet, 0, all_commands},
         {"--local", 0, 0, &read.local, WRITE | CYCLE},
         {"--unit", 0, &read.unit, 0, CHECK | MAP | CYCLE},
+        {"--dump", 0, &read.dump, 0, CHECK | MAP | CYCLE},
         {"--other-drive", 0, 0, &read.other_drive, CHECK | MAP | CYCLE},
         {"--trust-off", 0, 0, &read.trust_off, CYCLE},
         {"--drive-only", 0, 0, &read.drive_only, CYCLE},
@@ -103,6 +107,7 @@ struct options read_options(int count, char **words) {
     read_words(all, read.command, count - 4, words + 4);
     read_every(every, &read);
     refuse_missing(&read);
+    read.link = read.links[0];
     if (!read.wait) read.wait = read.command == CYCLE ? 600 : 30;
     if (!read.quiet && read.command == CYCLE) read.quiet = 10000;
     return read;

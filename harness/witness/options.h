@@ -2,6 +2,8 @@
 #ifndef OPTIONS_H
 #define OPTIONS_H
 
+#include "words.h"
+
 #include <stdbool.h>
 #include <stdint.h>
 
@@ -11,7 +13,9 @@ struct options {
     enum command command;
     const char *job_file;
     const char *place; /* the state's file, or the folder of a cycle */
-    const char *link, *off, *on;
+    const char *links[MOST_TEXTS + 1]; /* one, or in a cycle one for each drive */
+    const char *link, *off, *on;       /* the link of this process's drive */
+    uint64_t drive;                    /* among several: its number, from 1 on; 0: there is one alone */
     uint64_t job, offset, stride;
     uint64_t after;    /* 0: at no number of writes */
     uint64_t quiet;    /* milliseconds; 0: silence is no cut */
@@ -20,6 +24,7 @@ struct options {
     uint64_t least, most; /* milliseconds from the first order to the cut */
     uint64_t seed;     /* 0: one is drawn */
     uint64_t unit;     /* 0: a block */
+    uint64_t dump;     /* the bytes of so many faulty blocks are kept */
     bool local; /* the orders are given by the agent's own `drive`, too */
     bool keep_going, resume, json;
     bool other_drive; /* a check takes another drive than the run's */

@@ -27,23 +27,16 @@ static void pass_on(struct course *course) {
     if (!send_orders(&course->outbox, course->link->child.to)) note_cut(course, NULL);
 }
 
-/* Has the power cut where it is time, and looks whether that went well. */
-static void look_at_cut(struct course *course, uint64_t now) {
-    int status;
-    if (course->cut_at && now >= course->cut_at) {
-        course->off = start_command(course->options->off, CHILD_APART);
-        course->is_off = true, course->cut_at = 0, course->last_heard = now;
-    }
-    if (course->is_off && course->off.pid && has_ended(&course->off, &status)) {
-        course->off.pid = 0, course->off_ended = now;
-        if (status) give_up(course->options->off, "it didn't cut the power");
-    }
+/* Looks at the power before what became of writes is heard: one that fails may be the cut. */
+static void look_at_cut(struct course *course) {
+    bool was_off = course->power->is_off;
+    look_at_power(course->power);
+    if (course->power->is_off && !was_off) course->last_heard = milliseconds();
 }
 
 static void look_at_clock(struct course *course) {
     uint64_t now = milliseconds();
-    bool waits = course->outbox.open_count || (course->is_off && !course->off.pid);
-    look_at_cut(course, now);
+    bool waits = course->outbox.open_count || course->power->off_ended;
     if (course->unknown_since && !course->is_taken) hand_on(course);
     if (course->options->quiet && waits && now - course->last_heard >= course->options->quiet) note_cut(course, "nothing was heard any more: taken as the cut");
     if (now < course->next_line) return;
@@ -69,6 +62,7 @@ static void follow(struct course *course, int signals) {
             [SIGNALS] = {signals, POLLIN, 0},
         };
         if (poll(polled, ALL, 20) < 0 && errno != EINTR) give_up_by_errno("poll");
+        look_at_cut(course);
         if (polled[FROM_LINK].revents) take_notices(course);
         if (polled[FROM_DRIVE].revents) take_orders(course);
         if (polled[TO_LINK].revents) pass_on(course);
@@ -79,9 +73,9 @@ static void follow(struct course *course, int signals) {
 
 /* Awaits what cuts the power, where the link ended while it did. */
 static void end_cut(struct course *course) {
-    course->tally->was_early = course->tally->is_cut && !course->is_off;
+    course->tally->was_early = course->tally->is_cut && !course->power->is_off;
     if (course->tally->was_early && course->options->command == CYCLE) say("the link ended by itself, before the cut");
-    if (course->off.pid && wait_for(&course->off)) give_up(course->options->off, "it didn't cut the power");
+    await_off(course->power);
 }
 
 /* From now on SIGINT, SIGTERM and SIGHUP are read here, and end nothing. */
@@ -116,14 +110,13 @@ struct kept kept_by(const struct tally *tally, const struct job *job, const stru
     return kept;
 }
 
-struct tally run_job(const struct options *options, const struct job *job, struct link *link, uint64_t cut_after) {
+struct tally run_job(const struct options *options, const struct job *job, struct link *link, struct power *power) {
     struct tally tally = {.run = link->hello.run};
     static struct course course;
-    course = (struct course){.options = options, .job = job, .link = link, .tally = &tally, .began = milliseconds()};
+    course = (struct course){.options = options, .job = job, .link = link, .tally = &tally, .power = power, .began = milliseconds()};
     uint64_t after = options->after && options->after < job->total ? options->after : job->total;
     /* (a job that is whole before its cut waits for that) */
-    course.goal = cut_after ? UINT64_MAX : after;
-    course.cut_at = cut_after ? course.began + cut_after : 0;
+    course.goal = power->off ? UINT64_MAX : after;
     course.last_heard = course.began, course.next_line = course.began + 1000;
     make_outbox(&course.outbox, link->hello.region.block_size, job->depth, !link->hello.is_local);
     int signals = open_signals();

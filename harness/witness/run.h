@@ -6,6 +6,7 @@
 #include "job.h"
 #include "link.h"
 #include "options.h"
+#include "power.h"
 #include "state.h"
 
 #include <stdbool.h>
@@ -31,10 +32,9 @@ struct kept kept_by(const struct tally *tally, const struct job *job, const stru
 /* What a run of a job wants of its agent: a number of its own, among the rest. */
 struct hello hello_to_write(const struct options *options, const struct job *job, const struct region *region);
 
-/* Runs a job over a link, which it ends. Where `cut_after` is 0 nothing is cut, and the state is
- * taken once enough writes are done; else the command of `off` runs so many milliseconds behind the
- * first order. The state stays in the tally, for the caller to keep. */
-struct tally run_job(const struct options *options, const struct job *job, struct link *link, uint64_t cut_after);
+/* Runs a job over a link, which it ends, until the power is cut; where nothing cuts it the state is
+ * taken once enough writes are done. The state stays in the tally, for the caller to keep. */
+struct tally run_job(const struct options *options, const struct job *job, struct link *link, struct power *power);
 
 /* Checks by a state what an agent gives back of the region, and keeps what `drive map` says of each
  * faulty block. Where the link ends or falls silent within that, it is tried again, until the options'
@@ -43,8 +43,8 @@ struct tally run_job(const struct options *options, const struct job *job, struc
 struct map;
 void check_by_link(const struct options *options, const struct job *job, const struct region *region, const struct kept *kept, struct map *map, struct welcome *welcome);
 
-/* Reads a region by an agent, once, and hands its blocks on. Returns whether all came. */
-struct sink;
-bool read_by_link(const struct options *options, const struct job *job, const struct region *region, const struct kept *kept, const struct sink *sink);
+/* Keeps the bytes of as many faulty blocks as the options say, which an agent reads once more, and of
+ * the writes that these may hold, in files whose names begin so. */
+void dump_by_link(const struct options *options, const struct job *job, const struct region *region, const struct kept *kept, const char *place, const struct map *map);
 
 #endif
