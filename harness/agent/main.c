@@ -27,6 +27,7 @@ static const char USAGE[] =
     "  --cpu N      runs on processor N alone, with its own `drive` where it has one\n"
     "  --yes        writes over what the target holds; what is mounted or in use it never writes\n"
     "  --torn       takes blocks that are larger than what the device writes whole\n"
+    "  --atomic     each block by an atomic write, RWF_ATOMIC, where the system tells of such writes of its size\n"
     "  --cached     without O_DIRECT and O_DSYNC\n"
     "It is spoken to on standard input and answers on standard output. Status: 0; 2 something failed or was refused\n";
 
@@ -42,7 +43,7 @@ struct settings {
 static struct settings read_settings(int count, char **words) {
     struct settings read = {0};
     const struct option all[] = {
-        {"--flush", 0, &read.way.flush, 0, 1}, {"--promise", &read.way.promise, 0, 0, 1}, {"--by", &read.way.by, 0, 0, 1}, {"--queue", 0, &read.queue, 0, 1}, {"--cpu", &read.cpu, 0, 0, 1}, {"--yes", 0, 0, &read.opening.yes, 1}, {"--torn", 0, 0, &read.opening.torn, 1}, {"--cached", 0, 0, &read.opening.cached, 1}, {0, 0, 0, 0, 0},
+        {"--flush", 0, &read.way.flush, 0, 1}, {"--promise", &read.way.promise, 0, 0, 1}, {"--by", &read.way.by, 0, 0, 1}, {"--queue", 0, &read.queue, 0, 1}, {"--cpu", &read.cpu, 0, 0, 1}, {"--yes", 0, 0, &read.opening.yes, 1}, {"--torn", 0, 0, &read.opening.torn, 1}, {"--atomic", 0, 0, &read.opening.atomic, 1}, {"--cached", 0, 0, &read.opening.cached, 1}, {0, 0, 0, 0, 0},
     };
     bool asks = asks_for_help(count, words);
     if (asks || count < 2) {
@@ -67,7 +68,7 @@ static void tell_refusal(const char *line) {
 static void welcome_witness(const struct settings *settings, const struct target *target, const struct hello *hello) {
     uint8_t bytes[WELCOME_BYTES];
     struct welcome welcome = {.size = target->size, .whole = target->whole, .flush = settings->way.flush, .cached = settings->opening.cached, .block_size = hello->region.block_size,
-                              .blocks = hello->region.blocks};
+                              .blocks = hello->region.blocks, .unit = target->unit};
     tell_drive(target, welcome.drive), tell_boot(welcome.boot), memcpy(welcome.way, settings->words, MAX_WAY);
     if (!strcmp(target->cache, "write back")) welcome.cache = CACHE_WRITE_BACK;
     if (!strcmp(target->cache, "write through")) welcome.cache = CACHE_WRITE_THROUGH;

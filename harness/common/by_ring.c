@@ -52,7 +52,7 @@ static void write_if_due(struct run *run) {
     for (; run->ready_count && run->writing < executor->queue; run->ready_count--, run->writing++) {
         size_t slot = run->ready[run->first_ready];
         run->first_ready = (run->first_ready + 1) % executor->slots.count;
-        put_write(run->ring, slot, executor->target->fd, block_of(&executor->slots, slot), executor->region.block_size, place_of_slot(executor, slot));
+        put_write(run->ring, slot, executor->target->fd, block_of(&executor->slots, slot), executor->region.block_size, place_of_slot(executor, slot), executor->target->is_atomic);
     }
 }
 

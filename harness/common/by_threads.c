@@ -43,13 +43,21 @@ static void flush_while_due(struct pool *pool) {
     }
 }
 
+/* Writes the block of a slot, in one piece. */
+static ssize_t write_slot(const struct executor *executor, size_t slot) {
+    const struct iovec piece = {block_of(&executor->slots, slot), executor->region.block_size};
+    off_t place = (off_t)place_of_slot(executor, slot);
+    if (executor->target->is_atomic) return pwritev2(executor->target->fd, &piece, 1, place, ATOMIC_FLAG);
+    return pwrite(executor->target->fd, piece.iov_base, piece.iov_len, place);
+}
+
 /* Carries out the order of a slot, without the lock, and tells what became of it, or has that wait
  * for a flush. */
 static void carry_out_one(struct pool *pool, size_t slot) {
     struct executor *executor = pool->executor;
     pool->writing++;
     pthread_mutex_unlock(&pool->lock);
-    ssize_t count = pwrite(executor->target->fd, block_of(&executor->slots, slot), executor->region.block_size, (off_t)place_of_slot(executor, slot));
+    ssize_t count = write_slot(executor, slot);
     long answer = count < 0 ? -errno : count;
     bool waits = executor->flush && answer == (long)executor->region.block_size;
     struct ending ending = waits ? (struct ending){0} : ending_of(executor, slot, answer);

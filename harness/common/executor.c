@@ -2,6 +2,7 @@
 
 #include "say.h"
 
+#include <errno.h>
 #include <inttypes.h>
 #include <string.h>
 
@@ -11,12 +12,16 @@ uint64_t place_of_slot(const struct executor *executor, size_t slot) {
     return place_of(&executor->region, block);
 }
 
+static const char *why_failed(const struct executor *executor, long answer) {
+    bool takes_none = executor->target->is_atomic && (answer == -EOPNOTSUPP || answer == -EINVAL);
+    if (takes_none) return "the system takes no such atomic write (RWF_ATOMIC), whatever it told of them";
+    return answer < 0 ? strerror((int)-answer) : "not all of its bytes were written";
+}
+
 struct ending ending_of(const struct executor *executor, size_t slot, long answer) {
     struct order order = order_of(&executor->slots, slot);
     bool is_done = answer == (long)executor->region.block_size;
-    if (!is_done)
-        say("%s: write %" PRIu64 " to block %" PRIu64 " failed: %s", executor->target->name, order.write, order.block,
-            answer < 0 ? strerror((int)-answer) : "not all of its bytes were written");
+    if (!is_done) say("%s: write %" PRIu64 " to block %" PRIu64 " failed: %s", executor->target->name, order.write, order.block, why_failed(executor, answer));
     return (struct ending){order.write, order.block, is_done};
 }
 

@@ -51,7 +51,8 @@ bool read_hello(const uint8_t bytes[HELLO_BYTES], struct hello *hello) {
 
 void write_welcome(uint8_t bytes[WELCOME_BYTES], const struct welcome *welcome) {
     const uint64_t numbers[WELCOME_NUMBERS] = {welcome->is_refused, welcome->size,   welcome->whole,      welcome->cache,
-                                               welcome->flush,      welcome->cached, welcome->block_size, welcome->blocks};
+                                               welcome->flush,      welcome->cached, welcome->block_size, welcome->blocks,
+                                               welcome->unit.least, welcome->unit.most};
     memcpy(bytes, WELCOME_MAGIC, MAGIC);
     put_numbers(bytes + MAGIC, numbers, WELCOME_NUMBERS);
     uint8_t *texts = bytes + MAGIC + 8 * WELCOME_NUMBERS;
@@ -64,7 +65,7 @@ bool read_welcome(const uint8_t bytes[WELCOME_BYTES], struct welcome *welcome) {
     uint64_t numbers[WELCOME_NUMBERS];
     if (memcmp(bytes, WELCOME_MAGIC, MAGIC) || !is_summed(bytes, WELCOME_BYTES)) return false;
     take_numbers(bytes + MAGIC, numbers, WELCOME_NUMBERS);
-    *welcome = (struct welcome){numbers[0] != 0, numbers[1], numbers[2], (enum cache)(numbers[3] < 3 ? numbers[3] : 0), numbers[4], numbers[5] != 0, numbers[6], numbers[7], "", "", "", ""};
+    *welcome = (struct welcome){numbers[0] != 0, numbers[1], numbers[2], (enum cache)(numbers[3] < 3 ? numbers[3] : 0), numbers[4], numbers[5] != 0, numbers[6], numbers[7], {numbers[8], numbers[9]}, "", "", "", ""};
     const uint8_t *texts = bytes + MAGIC + 8 * WELCOME_NUMBERS;
     memcpy(welcome->why, texts, MAX_WHY - 1), memcpy(welcome->drive, texts + MAX_WHY, MAX_DRIVE - 1);
     memcpy(welcome->boot, texts + MAX_WHY + MAX_DRIVE, MAX_BOOT - 1), memcpy(welcome->way, texts + MAX_WHY + MAX_DRIVE + MAX_BOOT, MAX_WAY - 1);

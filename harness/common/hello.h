@@ -3,6 +3,7 @@
 #ifndef HELLO_H
 #define HELLO_H
 
+#include "atomic.h"
 #include "identity.h"
 #include "region.h"
 #include "way.h"
@@ -11,10 +12,10 @@
 #include <stdint.h>
 
 /* The last byte of each magic is the version of all that goes over the link. */
-#define HELLO_MAGIC "FCHELLO3"
-#define WELCOME_MAGIC "FCAGENT3"
+#define HELLO_MAGIC "FCHELLO4"
+#define WELCOME_MAGIC "FCAGENT4"
 
-enum { MAGIC = 8, HELLO_NUMBERS = 11, WELCOME_NUMBERS = 8, MAX_WHY = 256 };
+enum { MAGIC = 8, HELLO_NUMBERS = 11, WELCOME_NUMBERS = 10, MAX_WHY = 256 };
 enum { SUM = 4, HELLO_BYTES = MAGIC + 8 * HELLO_NUMBERS + MAX_DRIVE + SUM, WELCOME_BYTES = MAGIC + 8 * WELCOME_NUMBERS + MAX_WHY + MAX_DRIVE + MAX_BOOT + MAX_WAY + SUM };
 
 /* The witness's: what it wants. */
@@ -44,6 +45,7 @@ struct welcome {
     uint64_t flush;
     bool cached;
     uint64_t block_size, blocks; /* those of the hello */
+    struct atomic_unit unit;     /* what the system tells of atomic writes to the target */
     char why[MAX_WHY];
     char drive[MAX_DRIVE], boot[MAX_BOOT]; /* which drive it has, and the start of its machine */
     char way[MAX_WAY];                     /* what its writes rest on */

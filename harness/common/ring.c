@@ -1,5 +1,6 @@
 #include "ring.h"
 
+#include "atomic.h"
 #include "say.h"
 
 #include <errno.h>
@@ -70,9 +71,11 @@ void put_read(struct ring *ring, uint64_t what, int fd, const struct iovec *piec
     call->addr = (uintptr_t)pieces, call->len = (unsigned)count, call->off = (uint64_t)-1;
 }
 
-void put_write(struct ring *ring, uint64_t what, int fd, const void *bytes, uint64_t length, uint64_t at) {
-    struct io_uring_sqe *call = next_call(ring, what, fd, ring->has_memory ? IORING_OP_WRITE_FIXED : IORING_OP_WRITE);
+void put_write(struct ring *ring, uint64_t what, int fd, const void *bytes, uint64_t length, uint64_t at, bool is_atomic) {
+    bool is_known = ring->has_memory && !is_atomic; /* (Linux makes no atomic write from memory that it knows) */
+    struct io_uring_sqe *call = next_call(ring, what, fd, is_known ? IORING_OP_WRITE_FIXED : IORING_OP_WRITE);
     call->addr = (uintptr_t)bytes, call->len = (unsigned)length, call->off = at;
+    call->rw_flags = is_atomic ? ATOMIC_FLAG : 0;
 }
 
 void put_flush(struct ring *ring, uint64_t what, int fd) {

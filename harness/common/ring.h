@@ -31,7 +31,7 @@ void close_ring(struct ring *ring);
 
 /* Puts a call there; `what` is told again once it has ended. */
 void put_read(struct ring *ring, uint64_t what, int fd, const struct iovec *pieces, int count);
-void put_write(struct ring *ring, uint64_t what, int fd, const void *bytes, uint64_t length, uint64_t at);
+void put_write(struct ring *ring, uint64_t what, int fd, const void *bytes, uint64_t length, uint64_t at, bool is_atomic);
 void put_flush(struct ring *ring, uint64_t what, int fd);
 
 /* Gives the kernel what was put there. */

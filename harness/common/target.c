@@ -65,6 +65,7 @@ static void look_at(struct target *target, const struct stat *is) {
     read_queue(target->device, "physical_block_size", whole, sizeof whole);
     target->whole = strtoull(whole, NULL, 10);
     read_queue(target->device, "write_cache", target->cache, sizeof target->cache);
+    target->unit = atomic_unit_of(target->fd, S_ISBLK(is->st_mode) ? is->st_rdev : 0);
 }
 
 /* Has the target for itself, or with others that read it. A harness that was just killed may still
@@ -113,9 +114,21 @@ static void refuse_torn(const struct target *target, uint64_t block_size, bool t
     if (target->whole == 0) say("nobody tells how many bytes %s writes whole", target->name);
     if (may_tear(target, block_size) && !torn) {
         char why[200];
-        snprintf(why, sizeof why, "a block of %" PRIu64 " bytes may be torn, as it writes %" PRIu64 " whole: take bs=%" PRIu64 ", or --torn, and --unit %" PRIu64 " for the check", block_size, target->whole, target->whole, target->whole);
+        const char *other = is_atomic_size(&target->unit, block_size) ? ", --atomic" : "";
+        snprintf(why, sizeof why, "a block of %" PRIu64 " bytes may be torn, as it writes %" PRIu64 " whole: take bs=%" PRIu64 "%s, or --torn, and --unit %" PRIu64 " for the check", block_size, target->whole, target->whole, other, target->whole);
         give_up(target->name, why);
     }
+}
+
+/* Has blocks written by atomic writes: the most that one may have is then what the target writes
+ * whole. Refuses blocks that are none. */
+static void make_atomic(struct target *target, uint64_t block_size) {
+    char why[200];
+    const struct atomic_unit *unit = &target->unit;
+    if (unit->most) snprintf(why, sizeof why, "--atomic: an atomic write to it has %" PRIu64 " to %" PRIu64 " bytes, a power of two, and a block has %" PRIu64, unit->least, unit->most, block_size);
+    else snprintf(why, sizeof why, "--atomic: the system tells of no atomic write to it (0 bytes), and a block has %" PRIu64, block_size);
+    if (!is_atomic_size(unit, block_size)) give_up(target->name, why);
+    target->is_atomic = true, target->whole = unit->most;
 }
 
 /* Makes a file as large as the region wants, and has the disk keep that. */
@@ -144,6 +157,7 @@ struct target open_to_write(const struct opening *opening, const struct region *
     bool is_new;
     struct target target = open_guarded(opening, region, &is_new);
     if (is_device(&target) && target.size < end_of(region)) give_up(target.name, "it is shorter than the job's region");
+    if (opening->atomic) make_atomic(&target, region->block_size);
     refuse_torn(&target, region->block_size, opening->torn);
     if (target.size < end_of(region)) make_room(&target, end_of(region));
     return target;

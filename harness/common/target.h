@@ -2,6 +2,7 @@
 #ifndef TARGET_H
 #define TARGET_H
 
+#include "atomic.h"
 #include "region.h"
 
 #include <stdbool.h>
@@ -14,6 +15,7 @@ struct opening {
     bool flushed; /* without O_DSYNC: who writes makes it keep what was written */
     bool yes;     /* over what it holds */
     bool torn;    /* also for blocks larger than what it writes whole */
+    bool atomic;  /* each block by an atomic write, of the sizes that the system tells of */
     const char *drive; /* the drive that it has to be, as `tell_drive` tells it; NULL: any */
 };
 
@@ -23,7 +25,10 @@ struct target {
     uint64_t size; /* of a device, and of a file as it is once it is open */
     bool is_direct;
     dev_t device;       /* a device itself, or that of the file system where a file lies */
-    uint64_t whole;     /* how many bytes its device writes whole, or 0 where nobody tells */
+    uint64_t whole;     /* how many bytes its device writes whole, or 0 where nobody tells; of
+                         * atomic writes the most that one may have */
+    struct atomic_unit unit; /* what is told of atomic writes to it */
+    bool is_atomic;          /* its blocks are written by these */
     /* What its device says of its cache: "write back" or "write through", or nothing. */
     char cache[32];
 };
@@ -31,8 +36,9 @@ struct target {
 /* Opens a target for writes to a region. A file that isn't there is made, as large as the region
  * wants, but never below /dev. Refused are what is mounted, in use, or tested by another harness; a
  * device that is too short; what holds other bytes than zeros and stamps, unless `yes` is set;
- * blocks that are larger than what the device writes whole, unless `torn` is. Before this has
- * returned, no byte of what was there has changed. */
+ * blocks that are larger than what the device writes whole, unless `torn` is; and with `atomic`
+ * those that are no atomic write. Before this has returned, no byte of what was there has
+ * changed. */
 struct target open_to_write(const struct opening *opening, const struct region *region);
 
 /* The same where the region isn't known yet: a file that is made is empty, and nothing is refused

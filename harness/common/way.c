@@ -43,7 +43,8 @@ enum by settle_way(const struct way *way, struct opening *opening, char words[MA
     const char *promise = promise_of(way, opening);
     opening->flushed = way->flush > 0 || is_word(promise, "through");
     if (opening->cached && way->by) give_up("--by", "with --cached writes go to memory by turns");
+    if (opening->cached && opening->atomic) give_up("--atomic", "with --cached writes go to memory, and no write there is atomic");
     enum by by = opening->cached ? BY_ANY : calls_of(way->by);
-    snprintf(words, MAX_WAY, "%s%s", promise, by == BY_RING ? " by io_uring" : by == BY_THREADS ? " by threads" : "");
+    snprintf(words, MAX_WAY, "%s%s%s", promise, opening->atomic ? " atomic" : "", by == BY_RING ? " by io_uring" : by == BY_THREADS ? " by threads" : "");
     return by;
 }

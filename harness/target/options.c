@@ -26,6 +26,7 @@ static const char USAGE[] =
     "  --cpu N           runs on processor N alone, with `drive`: the turns between the two are cheaper\n"
     "  --yes             writes over what the target holds; what is mounted or in use it never writes\n"
     "  --torn            takes blocks that are larger than what the device writes whole\n"
+    "  --atomic          writes each block by an atomic write, RWF_ATOMIC, where the system tells of such writes of its size\n"
     "check, map:\n"
     "  --run N           checks as run N, which a full pass has to say\n"
     "  --unit BYTES      the target writes so many bytes whole, and not a block\n"
@@ -44,8 +45,18 @@ static enum command command_of(const char *name) {
     return strcmp(name, "map") ? 0 : MAP;
 }
 
+/* The command that the first word names, with three words behind it. Else the program says how it
+ * goes, and ends. */
+static enum command read_command(int count, char **words) {
+    bool asks = asks_for_help(count, words);
+    enum command command = count > 4 && !asks ? command_of(words[1]) : 0;
+    if (command) return command;
+    fputs(USAGE, asks ? stdout : stderr);
+    exit(asks ? STATUS_SOUND : STATUS_FAILED);
+}
+
 struct options read_options(int count, char **words) {
-    struct options read = {0};
+    struct options read = {.command = read_command(count, words)};
     const struct option all[] = {
         {"--job", 0, &read.job, 0, WRITE | CHECK | MAP},
         {"--after", 0, &read.after, 0, WRITE},
@@ -59,6 +70,7 @@ struct options read_options(int count, char **words) {
         {"--cpu", &read.cpu, 0, 0, WRITE},
         {"--yes", 0, 0, &read.opening.yes, WRITE},
         {"--torn", 0, 0, &read.opening.torn, WRITE},
+        {"--atomic", 0, 0, &read.opening.atomic, WRITE},
         {"--run", 0, &read.run, 0, CHECK | MAP},
         {"--unit", 0, &read.unit, 0, CHECK | MAP},
         {"--dump", 0, &read.dump, 0, CHECK | MAP},
@@ -68,15 +80,6 @@ struct options read_options(int count, char **words) {
         {"--cached", 0, 0, &read.opening.cached, WRITE | CHECK | MAP},
         {0, 0, 0, 0, 0},
     };
-    if (asks_for_help(count, words)) {
-        fputs(USAGE, stdout);
-        exit(STATUS_SOUND);
-    }
-    read.command = count > 4 ? command_of(words[1]) : 0;
-    if (!read.command) {
-        fputs(USAGE, stderr);
-        exit(STATUS_FAILED);
-    }
     read.job_file = words[2], read.opening.name = words[3], read.state = words[4];
     read_words(all, (int)read.command, count - 5, words + 5);
     if (read.command != WRITE && is_full_pass(&read) && read.run == 0) give_up("-", "a full pass wants --run, the number of the run that wrote");

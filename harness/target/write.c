@@ -74,6 +74,7 @@ int write_target(const struct options *options, const struct job *job) {
     static struct kept kept;
     kept = kept_of(draw_number(), job, &region);
     tell_drive(&target, kept.drive), tell_boot(kept.boot), memcpy(kept.way, way, MAX_WAY);
+    if (target.unit.most) say("the system tells of atomic writes to it, of %" PRIu64 " to %" PRIu64 " bytes", target.unit.least, target.unit.most);
     say("writes rest on this: %s", way);
     put_aside(options->state);
     hold_signals();

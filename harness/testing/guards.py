@@ -9,8 +9,8 @@ from trying import LIAR, QUIET, TARGET, job, read, run, skip, tell, tell_has, wr
 from witness import link, witness
 
 
-def refused(what, words, part):
-    status, printed, said = run(*words)
+def refused(what, words, part, **more):
+    status, printed, said = run(*words, **more)
     tell(f"{what}: the status", (status, printed), (2, ""))
     tell_has(f"{what}: what is said", said, part)
 

@@ -2,12 +2,15 @@
  *
  * LIE=KIND:EVERY[:FROM] harms each EVERYth write of a block, from the FROMth on. Kinds: lost; torn,
  * its first half alone; misdirected, to the block behind it; flipped, its last bit; late, behind
- * LIE_HELD further writes; failed, and not made; fallen, failed once the file LIE_UNTIL is there; doubtful, failed but made; short, half of it
- * written and told; slow, it takes a while; stalled, it never comes back. LIE=cached:N is a drive with a volatile cache of
+ * LIE_HELD further writes; failed, and not made; fallen, failed once the file LIE_UNTIL is there;
+ * doubtful, failed but made; short, half of it written and told; slow, it takes a while; stalled,
+ * it never comes back; cut, nor does it, and its first half is made, or of an atomic write all or
+ * nothing, by turns (atomic_liar.c). LIE=cached:N is a drive with a volatile cache of
  * N blocks: each write is told at once, whatever O_DSYNC says, and another one, by chance, makes
  * room for it; LIE_FLUSHES has fdatasync empty it. As its process ends, it loses the rest.
  * LIE_FLUSH_FAILS=N has the Nth fdatasync of the target empty nothing and fail. LIE_LOG=FILE has a
- * line for each: `KIND BLOCK WRITE`, in the order in which they were told; LIE_SYNCS has it tell
+ * line for each: `KIND BLOCK WRITE`, in the order in which they were told: `made` or `atomic` for
+ * one that isn't harmed; LIE_SYNCS has it tell
  * each fsync, too: `synced PATH`. LIE_UNREADABLE=BYTE fails each read of the target that has this
  * byte. LIE_TARGET=NAME is the end of the target's path. LIE_PIECES has standard output take five
  * bytes at a time, with other threads' turn behind them. The kernel's io_uring passes a library by:
@@ -58,7 +61,7 @@ static void path_of(int fd, char path[4096]) {
     path[length < 0 ? 0 : length] = 0;
 }
 
-static int is_target(int fd) {
+bool is_target(int fd) {
     char path[4096];
     const char *name = getenv("LIE_TARGET");
     path_of(fd, path);
@@ -173,7 +176,12 @@ long syscall(long number, ...) {
     return real(number, words[0], words[1], words[2], words[3], words[4], words[5]);
 }
 
-ssize_t write_or_lie(int fd, const void *bytes, size_t length, off_t at, bool *never) {
+/* Makes what there is of a write when its drive is cut within it. */
+static void cut_within(int fd, const void *bytes, size_t length, off_t at, bool is_atomic) {
+    if (!is_atomic || count % 2) real_write(fd, bytes, is_atomic ? length : length / 2, at);
+}
+
+ssize_t write_or_lie(int fd, const void *bytes, size_t length, off_t at, bool is_atomic, bool *never) {
     *never = false;
     if (!is_target(fd)) return real_write(fd, bytes, length, at);
     pthread_mutex_lock(&lock);
@@ -183,9 +191,10 @@ ssize_t write_or_lie(int fd, const void *bytes, size_t length, off_t at, bool *n
         pthread_mutex_unlock(&lock);
         return (ssize_t)length;
     }
-    int harms = every && ++count >= from && count % every == 0;
-    note(harms ? kind : "made", bytes, length, at);
-    *never = harms && !strcmp(kind, "stalled");
+    int harms = every && ++count >= from && count % every == 0, cuts = harms && !strcmp(kind, "cut");
+    note(harms ? kind : is_atomic ? "atomic" : "made", bytes, length, at);
+    *never = cuts || (harms && !strcmp(kind, "stalled"));
+    if (cuts) cut_within(fd, bytes, length, at, is_atomic);
     if (*never || (harms && !strcmp(kind, "slow"))) {
         pthread_mutex_unlock(&lock);
         return *never ? 0 : (usleep(SLOW), real_write(fd, bytes, length, at));
@@ -200,7 +209,7 @@ ssize_t write_or_lie(int fd, const void *bytes, size_t length, off_t at, bool *n
 
 ssize_t pwrite64(int fd, const void *bytes, size_t length, off_t at) {
     bool never;
-    ssize_t told = write_or_lie(fd, bytes, length, at, &never);
+    ssize_t told = write_or_lie(fd, bytes, length, at, false, &never);
     while (never) sleep(1000);
     return told;
 }

@@ -98,12 +98,18 @@ static int or_error(long answer) {
     return answer < 0 ? -errno : (int)answer;
 }
 
+/* What Linux answers to an atomic write by a ring: it makes none from memory that it knows. */
+static int refusal_of(const struct io_uring_sqe *call) {
+    return call->opcode == IORING_OP_WRITE_FIXED ? EINVAL : refuse_atomic(call->fd, call->len, (off_t)call->off);
+}
+
 /* Makes the next few writes that are out, but for those that never come back. */
 static void make_writes(struct ring *ring) {
     for (int made = 0; made < A_FEW && ring->writing; made++, ring->first = (ring->first + 1) % ring->entries, ring->writing--) {
         const struct io_uring_sqe *call = ring->writes + ring->first;
-        bool never = false;
-        int answer = or_error(write_or_lie(call->fd, (const void *)(uintptr_t)call->addr, call->len, (off_t)call->off, &never));
+        bool never = false, is_atomic = call->rw_flags & ATOMIC;
+        int answer = is_atomic ? -refusal_of(call) : 0;
+        if (!answer) answer = or_error(write_or_lie(call->fd, (const void *)(uintptr_t)call->addr, call->len, (off_t)call->off, is_atomic, &never));
         if (!never) end_call(ring, call, answer);
     }
 }

@@ -13,7 +13,8 @@ import time
 from trying import AGENT, BLOCK, HANG, HERE, LIAR, QUIET, WITNESS, await_file, comes, job, read, report, run, run_of, stamp, state_in, tell, tell_has, write
 
 # What a welcome takes of a link, and the head of a piece of what was read.
-WELCOME, CHUNK = 692, 24
+WELCOME, CHUNK = 708, 24
+LIED = WELCOME + 155 * 24 # (behind so many notices)
 PASS_ON = f"python3 {shlex.quote(f'{HERE}/pass_on.py')}"
 
 
@@ -159,15 +160,15 @@ def broken_links():
     ends = {
         "an order": {"before": f"{PASS_ON} 100003 |"},
         "a notice": {"behind": f"| {PASS_ON} 5003"},
-        "noise": {"behind": f"| {PASS_ON} 4424 noise"},
-        "a notice that nobody gave": {"behind": f"| {PASS_ON} 4424 lie"},
+        "noise": {"behind": f"| {PASS_ON} {LIED} noise"},
+        "a notice that nobody gave": {"behind": f"| {PASS_ON} {LIED} lie"},
     }
     for what, way in ends.items():
         status, printed, told = witness("write", "long.fio", "bs", "--quiet", "500", *link("bl", **way))
         tell(f"a link that ends within {what}", (status, "at the cut" in printed), (0, True))
         status, printed, _ = witness("check", "long.fio", "bs", *link("bl"))
         tell(f"a link that ends within {what}: the check", (status in (0, 3), "faults 0 end whole" in printed), (True, True))
-        if "4424" in way.get("behind", ""):
+        if str(LIED) in way.get("behind", ""):
             tell_has(f"{what} is told", told, "what no agent says")
     status, printed, said = witness("write", "long.fio", "bq", "--quiet", "300", *link("bl", behind=f"| {PASS_ON} 5000 silent"))
     tell("a link that falls silent", (status, "at the cut" in printed, "nothing was heard" in said), (0, True, True))

@@ -81,6 +81,7 @@ void tell_welcome(const struct link *link) {
     static const char *const caches[] = {"nobody tells of its cache", "without a volatile cache", "with a volatile cache"};
     const struct welcome *welcome = &link->welcome;
     say("the agent has %" PRIu64 " bytes, writes %" PRIu64 " whole, %s", welcome->size, welcome->whole, caches[welcome->cache]);
+    if (welcome->unit.most) say("its system tells of atomic writes, of %" PRIu64 " to %" PRIu64 " bytes", welcome->unit.least, welcome->unit.most);
     say("its writes rest on this: %s", welcome->way);
     if (welcome->flush) say("it tells writes as done behind a flush of at most %" PRIu64, welcome->flush);
     if (welcome->cached && !welcome->flush) say("it tells writes as done that may lie in its memory alone: a cut loses them");
