@@ -105,9 +105,9 @@ def cut_writes(what, job_file, words, env, *by_witness):
         if os.path.exists(file):
             os.remove(file)
     ran = subprocess.Popen([WITNESS, "write", job_file, "as", *by_witness, *link("ac", *words)], env={**os.environ, **env}, **QUIET)
-    comes(lambda: os.path.exists("log") and read("log").count(b"cut ") > 4) # (some may wait for a flush)
+    is_cut = comes(lambda: os.path.exists("log") and read("log").count(b"cut ") > 4) # (some may wait for a flush)
     kill_agent()
-    tell(f"{what}: the run", ran.wait(HANG), 0)
+    tell(f"{what}: the run", (is_cut, ran.wait(HANG)), (True, 0))
     due = faults_by(read("log"), state_in("as"), read("ac"), 64)
     tell(f"{what}: its check", witness("check", job_file, "as", *link("ac", *words))[:2], (1 if due else 0, report(due)))
     return due
@@ -116,7 +116,7 @@ def cut_writes(what, job_file, words, env, *by_witness):
 def cut_atomic_writes():
     """A drive that tears what it writes as it is cut, but makes an atomic write whole or not at all: with
     --atomic no block is at fault, and without it those are that were in flight."""
-    job("cut.fio", blocks=64, writes=1_000_000)
+    job("cut.fio", blocks=64, writes=1_000_000, more="x_window=32\n") # (none waits for one that is done late)
     for by, ring in WAYS.items():
         env = lying("ac", LIE="cut:1:200", **ring)
         for words in ((), ("--local",)):
