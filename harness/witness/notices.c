@@ -83,7 +83,10 @@ void take_notices(struct course *course) {
         return;
     }
     course->last_heard = milliseconds();
-    if (course->power->off_ended && course->last_heard - course->power->off_ended > STILL_THERE) give_up(course->options->off, "the power is still there: writes are told as done seconds after this has ended");
+    const uint64_t told = course->tally->told;
     course->heard_length += (size_t)count;
     hand_on(course);
+    const uint64_t off_ended = course->power->off_ended;
+    bool is_late = off_ended && course->last_heard - off_ended > STILL_THERE;
+    if (is_late && course->tally->told > told) give_up(course->options->off, "the power is still there: writes are told as done seconds after this has ended");
 }
