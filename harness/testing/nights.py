@@ -88,6 +88,7 @@ def no_cuts():
     tell_has("and the last line", last_lines(printed)[0], "no verdict: ")
     status, printed, _ = witness("cycle", "long.fio", "trusted", *link("np"), *CUT, "--cycles", "2", "--trust-off")
     tell("by the word of --off", (status, [it["cut"] for it in rows_of("trusted")], len(last_lines(printed))), (0, ["word", "word"], 2))
+    tell("each line says whose word it is", [", cut by the word of --off, " in it for it in cycles_in(printed)], [True, True])
     rows = rows_of("trusted")
     due = f"sound: {sum(it['checked'] for it in rows)} blocks checked, 0 faults; 2 cuts by the word of --off, {sum(it['in_flight'] > 0 for it in rows)} with writes in flight ({sum(it['in_flight'] for it in rows)} in all), 0 cycles without a cut"
     tell("the last line", last_lines(printed)[0], due)

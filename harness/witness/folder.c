@@ -179,6 +179,6 @@ void keep_cycle(struct folder *folder, const struct cycle *cycle, const struct o
     else
         printf("%scycle %" PRIu64 ": run %" PRIu64 ", %" PRIu64 " ordered, %" PRIu64 " told, %" PRIu64 " in flight, %" PRIu64 " checked, %" PRIu64 " faults%s%s%s, %.1f s\n",
                whose, cycle->number, tally->run, tally->ordered, tally->told, in_flight(tally), cycle->checked, cycle->faults, *cycle->kinds ? ": " : "", cycle->kinds,
-               cycle->cut == NO_CUT ? ", no cut" : "", (double)tally->milliseconds / 1000);
+               cycle->cut == NO_CUT ? ", no cut" : cycle->cut == CUT_BY_WORD ? ", cut by the word of --off" : "", (double)tally->milliseconds / 1000);
     fflush(stdout);
 }
