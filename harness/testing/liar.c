@@ -2,7 +2,8 @@
  *
  * LIE=KIND:EVERY[:FROM] harms each EVERYth write of a block, from the FROMth on. Kinds: lost; torn,
  * its first half alone; misdirected, to the block behind it; flipped, its last bit; late, behind
- * LIE_HELD further writes; failed, and not made; fallen, failed once the file LIE_UNTIL is there;
+ * LIE_HELD further writes; failed, and not made; fallen, failed once the file LIE_UNTIL is there,
+ * with LIE_FALLS_SLOWLY after seven seconds;
  * doubtful, failed but made; short, half of it written and told; slow, it takes a while; stalled,
  * it never comes back; cut, nor does it, and its first half is made, or of an atomic write all or
  * nothing, by turns (atomic_liar.c). LIE=cached:N is a drive with a volatile cache of
@@ -12,7 +13,7 @@
  * line for each: `KIND BLOCK WRITE`, in the order in which they were told: `made` or `atomic` for
  * one that isn't harmed; LIE_SYNCS has it tell
  * each fsync, too: `synced PATH`. LIE_UNREADABLE=BYTE fails each read of the target that has this
- * byte. LIE_TARGET=NAME is the end of the target's path. LIE_PIECES has standard output take five
+ * byte, and LIE_READS_FALL each one while the file LIE_UNTIL is there. LIE_TARGET=NAME is the end of the target's path. LIE_PIECES has standard output take five
  * bytes at a time, with other threads' turn behind them. The kernel's io_uring passes a library by:
  * LIE_RING has one of this library's own in its place (ring_liar.c), and without it there is none, so
  * that the harness writes by threads. LIE_DIES=N kills the process behind the Nth flush by that. */
@@ -93,7 +94,11 @@ static void let_go(void) {
 
 static ssize_t lie(int fd, const void *bytes, size_t length, off_t at) {
     const char *until = getenv("LIE_UNTIL");
-    if (!strcmp(kind, "fallen")) return until && access(until, F_OK) == 0 ? (errno = EIO, -1) : real_write(fd, bytes, length, at);
+    if (!strcmp(kind, "fallen")) {
+        if (!until || access(until, F_OK)) return real_write(fd, bytes, length, at);
+        if (getenv("LIE_FALLS_SLOWLY")) sleep(7);
+        return errno = EIO, -1;
+    }
     if (!strcmp(kind, "lost")) return (ssize_t)length;
     if (!strcmp(kind, "torn")) return real_write(fd, bytes, length / 2, at), (ssize_t)length;
     if (!strcmp(kind, "misdirected")) return real_write(fd, bytes, length, at + (off_t)length), (ssize_t)length;
@@ -215,7 +220,8 @@ ssize_t pwrite64(int fd, const void *bytes, size_t length, off_t at) {
 }
 
 ssize_t pread64(int fd, void *bytes, size_t length, off_t at) {
-    const char *bad = getenv("LIE_UNREADABLE");
+    const char *bad = getenv("LIE_UNREADABLE"), *until = getenv("LIE_UNTIL");
+    if (getenv("LIE_READS_FALL") && until && is_target(fd) && access(until, F_OK) == 0) return errno = EIO, -1;
     if (bad && is_target(fd) && at <= atoll(bad) && atoll(bad) < at + (off_t)length) return errno = EIO, -1;
     return real_read(fd, bytes, length, at);
 }

@@ -128,6 +128,13 @@ def fallen_drives():
     off = ("--off", "touch fell", "--on", "rm -f fell", "--every", "0.2..0.3", "--drive-only")
     status, printed, said = witness("cycle", "endless.fio", "fallen", *link("fd"), *off, "--cycles", "2", env=env)
     tell("a drive that falls", (status, [(it["cut"], it["failed"], it["faults"]) for it in rows_of("fallen")]), (0, [("fall", 0, 0)] * 2))
+    slowly = ("--off", "touch slow-on", "--on", "(sleep 2; rm -f slow-on) >/dev/null 2>&1 &", *off[4:])
+    late = {**env, "LIE_TARGET": "/sl", "LIE_UNTIL": os.path.abspath("slow-on"), "LIE_READS_FALL": "1"}
+    status, printed, said = witness("cycle", "endless.fio", "slowly", *link("sl"), *slowly, "--cycles", "1", env=late)
+    tell("a drive that answers no read until some time behind --on", (status, [(it["cut"], it["faults"]) for it in rows_of("slowly")], "may not be ready yet" in said), (0, [("fall", 0)], True))
+    hangs = {**env, "LIE_TARGET": "/hd", "LIE_FALLS_SLOWLY": "1"}
+    status, printed, said = witness("cycle", "endless.fio", "hangs", *link("hd"), *off, "--cycles", "1", env=hangs)
+    tell("a drive whose writes fail seconds behind --off", (status, [(it["cut"], it["failed"], it["faults"]) for it in rows_of("hangs")]), (0, [("fall", 0, 0)]))
     write("fell", "")
     status, printed, said = witness("cycle", "endless.fio", "failed", *link("fd"), *off[:4], "--every", "60..60", "--drive-only", "--cycles", "1", env=env)
     tell("a write that fails before that", (status, "failed at the agent" in said), (2, True))

@@ -7,6 +7,7 @@
 #include "map.h"
 #include "reading.h"
 #include "say.h"
+#include "verdict.h"
 
 #include <endian.h>
 #include <inttypes.h>
@@ -15,6 +16,9 @@
 #include <string.h>
 
 enum { MAX_CHUNK = 1 << 20 };
+
+/* So long a drive whose power is there again may answer no read: milliseconds. */
+enum { READY_WITHIN = 60000 };
 
 /* What a link brings, each piece within so many milliseconds. */
 struct source {
@@ -72,6 +76,13 @@ static bool map_once(const struct options *options, const struct job *job, struc
     return is_whole;
 }
 
+/* Whether a check that has come to its end is to be tried again: its drive lost its power alone, blocks
+ * of it can't be read, and it may not be ready yet. */
+static bool may_be_early(const struct options *options, const struct map *map, uint64_t since) {
+    const struct verdict verdict = verdict_of(map);
+    return options->drive_only && verdict.is_report && strstr(verdict.kinds, "unread") && milliseconds() - since < READY_WITHIN;
+}
+
 /* Each block of a target that isn't there any more is one that can't be read. */
 static void map_nothing(const struct job *job, const struct region *region, const struct kept *kept, const char *why, struct map *map) {
     say("the target can't be read: %s", why);
@@ -84,14 +95,16 @@ void check_by_link(const struct options *options, const struct job *job, const s
     struct hello hello = {.depth = job->depth, .region = *region};
     struct link link;
     char why[MAX_WHY];
-    uint64_t until = milliseconds() + options->wait * 1000;
+    const uint64_t since = milliseconds(), until = since + options->wait * 1000;
     if (!options->other_drive) memcpy(hello.drive, kept->drive, MAX_DRIVE);
     while (try_link(&link, options->link, &hello, job, until, why)) {
         *welcome = link.welcome;
-        if (map_once(options, job, &link, kept, map)) return;
+        bool is_whole = map_once(options, job, &link, kept, map), has_time = milliseconds() + 1000 < until;
+        if (is_whole && !(has_time && may_be_early(options, map, since))) return;
         free_map(map);
-        if (milliseconds() + 1000 >= until) give_up("the link", "it ended before the region did: nothing was checked");
-        say("the link ended before the region did: the check begins anew");
+        if (!has_time) give_up("the link", "it ended before the region did: nothing was checked");
+        say(is_whole ? "blocks can't be read, as the drive may not be ready yet: the check begins anew" : "the link ended before the region did: the check begins anew");
+        if (is_whole) pause_for(1000);
     }
     if (!*why) give_up("the link", "no agent answers");
     if (!*hello.drive || strstr(why, "another drive") || strstr(why, "in use") || strstr(why, "at work")) give_up("the agent refuses", why);

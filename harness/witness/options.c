@@ -16,7 +16,7 @@ static const char USAGE[] =
     "  --job N           job N of the file, from 0\n"
     "  --offset BYTES    where the first block begins, 0 else; --stride BYTES: from one block's front to the next\n"
     "  --wait SECONDS    so long for the link to be there: 30, in a cycle 600\n"
-    "  --quiet MS        silence so long, while writes are out, is the cut; in a cycle 10000 where nothing else is said\n"
+    "  --quiet MS        silence so long, while writes are out, is the cut; in a cycle 10000, with --drive-only 200000\n"
     "write, cycle:\n"
     "  --local           the agent has a drive of its own, DRIVE there: for a link too slow for the blocks\n"
     "check, map, cycle:\n"
@@ -109,6 +109,7 @@ struct options read_options(int count, char **words) {
     refuse_missing(&read);
     read.link = read.links[0];
     if (!read.wait) read.wait = read.command == CYCLE ? 600 : 30;
-    if (!read.quiet && read.command == CYCLE) read.quiet = 10000;
+    /* (a drive that has lost its power may hang until the kernel gives its writes up) */
+    if (!read.quiet && read.command == CYCLE) read.quiet = read.drive_only ? 200000 : 10000;
     return read;
 }
