@@ -73,7 +73,8 @@ def rows_of(folder):
         except ValueError:
             return {}
 
-    return [row(it) for it in read(f"{folder}/cycles.jsonl").decode().splitlines()]
+    lines = f"{folder}/cycles.jsonl"
+    return [row(it) for it in read(lines).decode().splitlines()] if os.path.exists(lines) else []
 
 
 def no_cuts():
