@@ -24,10 +24,10 @@ use Rattle.net_world.specs.Trace.{client_opening}
 use Rattle.filters.specs.declared.kinds.Told.{Told}
 use Rattle.filters.specs.declared.kinds.Told.TheVariants as told
 use Rattle.filters.specs.Kinds.{told_numbered}
-use Rattle.filters.specs.ClientAsks.{input_in, or_bad, trigger_in, number_alone}
+use Rattle.filters.specs.ClientAsks.{ends_in, input_in, or_bad, trigger_in, number_alone}
 use Rattle.filters.specs.NodeCuts.{CutsAnswer}
 use Rattle.filters.specs.NodeSteps.{Leaves, with_frame}
-use Rattle.filters.specs.ClientLives.{ClientAt, TakesBody, TakesKind, at_by, reply_by}
+use Rattle.filters.specs.ClientLives.{ClientAt, TakesBody, TakesKind, TellsEnds, at_by, reply_by}
 use Rattle.filter_traces.specs.Members.{Happening, Answers, Ends, EndsWithin, Becomes, ClientRestarts, ClientRenews, client_member, may_restart, may_renew}
 use Rattle.filter_traces.proofs.MayLemmas.{GoesTo, ClientMay, AllMay, frame_if, frame_read}
 
@@ -83,6 +83,7 @@ asked_may w sent told.Blocks body h = tt
 asked_may w sent told.Unread body h = tt
 asked_may w sent told.Look body h = tt
 asked_may w sent told.Show body h = tt
+asked_may w sent told.Ends body h = tt
 
 -- ---- what it adds
 
@@ -110,11 +111,17 @@ module _ (w : Setup) (o : Opening) (sent : List Frame) where
   body_adds (Ok e) at now answer may (inr (fault, memory, (is, said))) = none_more w sent at now is
   body_adds (Err why) at now answer may (is, said) = none_more w sent at now is
 
+  ends_adds : (asked : _) (at now : ClientAt) (answer : List ℕ) → TellsEnds o at asked now answer → Added w sent at now
+  ends_adds (Some asked) at now answer (inl (is, said)) = none_more w sent at now is
+  ends_adds (Some asked) at now answer (inr (fault, memory, (is, said))) = none_more w sent at now is
+  ends_adds None at now answer (is, said) = none_more w sent at now is
+
   kind_adds : (kind : Option Told) (body : List ℕ) (at now : ClientAt) (answer : List ℕ) → IfSome (frame_if kind body) (GoesTo sent Client)
       → TakesKind o at kind body now answer → Added w sent at now
   kind_adds None body at now answer h (is, said) = none_more w sent at now is
   kind_adds (Some told.Look) body at now answer h (is, said) = none_more w sent at now is
   kind_adds (Some told.Show) body at now answer h (is, said) = none_more w sent at now is
+  kind_adds (Some told.Ends) body at now answer h takes = ends_adds (ends_in body) at now answer takes
   kind_adds (Some told.Note) body at now answer h takes = body_adds (input_in told.Note body) at now answer (asked_may w sent told.Note body h) takes
   kind_adds (Some told.Frame) body at now answer h takes = body_adds (input_in told.Frame body) at now answer (asked_may w sent told.Frame body h) takes
   kind_adds (Some told.Done) body at now answer h takes = body_adds (input_in told.Done body) at now answer (asked_may w sent told.Done body h) takes

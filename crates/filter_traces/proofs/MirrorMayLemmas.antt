@@ -68,6 +68,7 @@ module _ (sent : List Frame) where
   kind_adds (Some told.Tick) body at now answer h (is, said) = none_more sent at now is
   kind_adds (Some told.Look) body at now answer h (is, said) = none_more sent at now is
   kind_adds (Some told.Show) body at now answer h (is, said) = none_more sent at now is
+  kind_adds (Some told.Ends) body at now answer h (is, said) = none_more sent at now is
 
 begins_anew : (sent : List Frame) (at left now : MirrorAt) → Added sent at left → now ≡ record { list = Restart ∷ (Cut ∷ left.list); note = left.note }
     → Added sent at now

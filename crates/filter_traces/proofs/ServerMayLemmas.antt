@@ -198,6 +198,7 @@ module _ (o : Opening) (s : ℕ) (sent : List Frame) where
   kind_adds (Some told.Tick) body at now answer h (is, said) = none_more s sent at now is
   kind_adds (Some told.Look) body at now answer h (is, said) = none_more s sent at now is
   kind_adds (Some told.Show) body at now answer h (is, said) = none_more s sent at now is
+  kind_adds (Some told.Ends) body at now answer h (is, said) = none_more s sent at now is
 
 -- ---- a life that ends
 

@@ -277,6 +277,7 @@ reads_frame laws w few servers client mirrored sent (t, told) node h reads = by 
     of_kind (Some kinds.Tick) body was = tt
     of_kind (Some kinds.Look) body was = tt
     of_kind (Some kinds.Show) body was = tt
+    of_kind (Some kinds.Ends) body was = tt
 
     by : (h : Happening) → IfSome (frame_bytes_read h) (WasSentTo sent node) → IfSome (frame_read h) (GoesTo sent node)
     by (Answers r answer) was = of_kind (told_numbered r.kind) r.body was

@@ -18,11 +18,12 @@ use Rattle.filters.specs.declared.kinds.Told.{Told}
 use Rattle.filters.specs.declared.kinds.Told.TheVariants as told
 use Rattle.filters.specs.Kinds.{told_numbered}
 use Rattle.filters.specs.Records.{end_bytes}
-use Rattle.filters.specs.ClientAsks.{input_in}
+use Rattle.filters.specs.declared.asking.EndsAsked.{EndsAsked}
+use Rattle.filters.specs.ClientAsks.{ends_in, input_in}
 use Rattle.filters.specs.NodeSteps.{Leaves}
 use Rattle.filters.specs.NodeCuts.{CutsAnswer}
 use Rattle.filters.specs.ClientSteps.{noted, after_answer}
-use Rattle.filters.specs.ClientLives.{ClientAt, ClientTakes, MayBegin, TakesBody, TakesKind, at_by, new_note, reply_by, restarts, starts}
+use Rattle.filters.specs.ClientLives.{ClientAt, ClientTakes, MayBegin, TakesBody, TakesKind, TellsEnds, at_by, new_note, reply_by, restarts, starts}
 use Rattle.filters.specs.Lives.{RecordParts}
 use Rattle.filters.specs.ClientCuts.{LivesGoOn, RenewalsGoOn}
 use Rattle.filters.proofs.BeginLemmas.{blank_said, first_is}
@@ -52,11 +53,18 @@ body_first o before (Ok e) after answer (inl leaves) = input_first o (refusal o 
 body_first o before (Ok e) after answer (inr (fault, memory, (is, said))) = inl (ap note is)
 body_first o before (Err why) after answer (is, said) = inl (ap note is)
 
+ends_first : (o : Opening) (before : ClientAt) (asked : Option EndsAsked) (after : ClientAt) (answer : List ℕ) → TellsEnds o before asked after answer
+    → SaysFirst note before after answer
+ends_first o before (Some asked) after answer (inl (is, said)) = inl (ap note is)
+ends_first o before (Some asked) after answer (inr (fault, memory, (is, said))) = inl (ap note is)
+ends_first o before None after answer (is, said) = inl (ap note is)
+
 kind_first : (o : Opening) (before : ClientAt) (kind : Option Told) (body : List ℕ) (after : ClientAt) (answer : List ℕ)
     → TakesKind o before kind body after answer → SaysFirst note before after answer
 kind_first o before None body after answer (is, said) = inl (ap note is)
 kind_first o before (Some told.Look) body after answer (is, said) = inl (ap note is)
 kind_first o before (Some told.Show) body after answer (is, said) = inl (ap note is)
+kind_first o before (Some told.Ends) body after answer takes = ends_first o before (ends_in body) after answer takes
 kind_first o before (Some told.Note) body after answer takes = body_first o before (input_in told.Note body) after answer takes
 kind_first o before (Some told.Frame) body after answer takes = body_first o before (input_in told.Frame body) after answer takes
 kind_first o before (Some told.Done) body after answer takes = body_first o before (input_in told.Done body) after answer takes

@@ -6,6 +6,8 @@ pub mod FrameLemmas
 pub mod NodeLemmas
 pub mod ClientLemmas
 pub mod TakeLemmas
+pub mod AttemptLemmas
+pub mod EndingLemmas
 pub mod OpenLemmas
 pub mod BeginLemmas
 pub mod CutLemmas

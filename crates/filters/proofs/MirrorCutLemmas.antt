@@ -56,6 +56,7 @@ kind_first o before (Some told.Verify) body after answer (is, said) = inl (ap no
 kind_first o before (Some told.Tick) body after answer (is, said) = inl (ap note is)
 kind_first o before (Some told.Look) body after answer (is, said) = inl (ap note is)
 kind_first o before (Some told.Show) body after answer (is, said) = inl (ap note is)
+kind_first o before (Some told.Ends) body after answer (is, said) = inl (ap note is)
 
 takes_first : (o : MirrorNote) (before after : MirrorAt) (r : RecordParts) (answer : List ℕ) → MirrorTakes o before r after answer
     → SaysFirst note before after answer

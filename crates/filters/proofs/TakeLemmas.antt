@@ -46,7 +46,7 @@ note_so None spelled was old new leaves is = ap (λ (n : Note). n.bytes) leaves 
 note_so (Some x) spelled was old new leaves is = ap (λ (n : Note). n.bytes) leaves
 
 -- What is written of an answer is what the list says.
-answer_is : {T : Type 0} (note : T → Note) (o : Opening) (past : List FrameEntry) (e : FrameInput) (old new : Client T) (a : Answered)
+pub answer_is : {T : Type 0} (note : T → Note) (o : Opening) (past : List FrameEntry) (e : FrameInput) (old new : Client T) (a : Answered)
     → IsAnswered note o past e old new a → result_bytes (note_in note new).bytes (Ok a) ≡ taken_bytes o past e
 answer_is note o past e old new a h =
     let saved = saved_so (due o past e) (new_note o past e) (note_in note old) (note_in note new) a.saves h.saves h.leaves in
@@ -56,7 +56,7 @@ answer_is note o past e old new a h =
     h.frames_are
 
 -- What an input that isn't answered leaves.
-not_taken : {T : Type 0} (note : T → Note) (o : Opening) (at : ClientAt) (e : FrameInput) (old new : Client T) (sort : FaultSort) (fault : Fault)
+unfoldable pub not_taken : {T : Type 0} (note : T → Note) (o : Opening) (at : ClientAt) (e : FrameInput) (old new : Client T) (sort : FaultSort) (fault : Fault)
     → sort_of fault ≡ sort → (note_in note old).bytes ≡ at.note → NotAnswered note o at.list e sort fault old new
     → (now : ClientAt) × IsAt note new o now × TakesBody o at (Ok e) now (end_bytes (Err fault))
 not_taken note o at e old new sorts.Memory fault is was (same, stands) =
@@ -69,7 +69,7 @@ not_taken note o at e old new sorts.Refusal fault is was (why, (same, stands)) =
 )
 
 -- What the client makes of a body, by how its call ends.
-pub body_taken : {T : Type 0} (note : T → Note) (o : Opening) (at : ClientAt) (asked : Result FrameInput Fault) (old new : Client T)
+unfoldable pub body_taken : {T : Type 0} (note : T → Note) (o : Opening) (at : ClientAt) (asked : Result FrameInput Fault) (old new : Client T)
     (result : Result Answered Fault)
     → (note_in note old).bytes ≡ at.note → BodyEnds note o at.list asked old new result
     → (now : ClientAt) × IsAt note new o now × TakesBody o at asked now (result_bytes (note_in note new).bytes result)
@@ -87,30 +87,31 @@ body_taken note o at (Err why) old new (Err fault) was (is, (same, stands)) =
 pub note_says : {T : Type 0} (note : T → Note) (client : Client T) (o : Opening) (at : ClientAt) → IsAt note client o at → Says at.note (noted o at.list)
 note_says note client o at (stands, is) = subst (λ bytes. Says bytes (noted o at.list)) is stands.core.durable
 
--- All other kinds than two are asked of the client.
+-- All other kinds than three are asked of the client.
 pub kind_taken : (o : Opening) (at : ClientAt) (kind : Told) (body : List ℕ) (now : ClientAt) (answer : List ℕ)
-    → (kind ≡ told.Look → ⊥) → (kind ≡ told.Show → ⊥) → TakesBody o at (input_in kind body) now answer
+    → (kind ≡ told.Look → ⊥) → (kind ≡ told.Show → ⊥) → (kind ≡ told.Ends → ⊥) → TakesBody o at (input_in kind body) now answer
     → TakesKind o at (Some kind) body now answer
-kind_taken o at told.Look body now answer look show takes = absurd (look refl)
-kind_taken o at told.Show body now answer look show takes = absurd (show refl)
-kind_taken o at told.Note body now answer look show takes = takes
-kind_taken o at told.Frame body now answer look show takes = takes
-kind_taken o at told.Done body now answer look show takes = takes
-kind_taken o at told.Failed body now answer look show takes = takes
-kind_taken o at told.Blocks body now answer look show takes = takes
-kind_taken o at told.Unread body now answer look show takes = takes
-kind_taken o at told.Begin body now answer look show takes = takes
-kind_taken o at told.Trigger body now answer look show takes = takes
-kind_taken o at told.Stop body now answer look show takes = takes
-kind_taken o at told.Verify body now answer look show takes = takes
-kind_taken o at told.Tick body now answer look show takes = takes
+kind_taken o at told.Look body now answer look show ends takes = absurd (look refl)
+kind_taken o at told.Show body now answer look show ends takes = absurd (show refl)
+kind_taken o at told.Ends body now answer look show ends takes = absurd (ends refl)
+kind_taken o at told.Note body now answer look show ends takes = takes
+kind_taken o at told.Frame body now answer look show ends takes = takes
+kind_taken o at told.Done body now answer look show ends takes = takes
+kind_taken o at told.Failed body now answer look show ends takes = takes
+kind_taken o at told.Blocks body now answer look show ends takes = takes
+kind_taken o at told.Unread body now answer look show ends takes = takes
+kind_taken o at told.Begin body now answer look show ends takes = takes
+kind_taken o at told.Trigger body now answer look show ends takes = takes
+kind_taken o at told.Stop body now answer look show ends takes = takes
+kind_taken o at told.Verify body now answer look show ends takes = takes
+kind_taken o at told.Tick body now answer look show ends takes = takes
 
 -- What only looks leaves the client where it is.
-pub only_looks : {T : Type 0} (note : T → Note) (client : Client T) (kind : Told) (body bytes : List ℕ) (old mid new : Option (List ℕ)) → Appends old mid bytes
+pub only_looks : (IsHere : Opening → ClientAt → Type 0) (kind : Told) (body bytes : List ℕ) (old mid new : Option (List ℕ)) → Appends old mid bytes
     → Appends mid new (end_bytes (Ok tt))
-    → ((o : Opening) (at : ClientAt) → IsAt note client o at → TakesKind o at (Some kind) body at (bytes ++ end_bytes (Ok tt)))
-    → AnswersBy (λ o at now answer. TakesKind o at (Some kind) body now answer) (IsAt note client) (IsAt note client) old new
-only_looks note client kind body bytes old mid new wrote ended takes = record {
+    → ((o : Opening) (at : ClientAt) → IsHere o at → TakesKind o at (Some kind) body at (bytes ++ end_bytes (Ok tt)))
+    → AnswersBy (λ o at now answer. TakesKind o at (Some kind) body now answer) IsHere IsHere old new
+only_looks IsHere kind body bytes old mid new wrote ended takes = record {
   answer = bytes ++ end_bytes (Ok tt);
   written = Appends-trans old mid new bytes (end_bytes (Ok tt)) wrote ended;
   takes = λ o at h. (at, h, takes o at h);

@@ -19,6 +19,7 @@ use Rattle.client_core.specs.declared.outcome.RequestKind.TheVariants as request
 use Rattle.client_core.specs.declared.received.Received.{Received}
 use Rattle.filters.specs.declared.asking.TriggerAsked.{TriggerAsked}
 use Rattle.filters.specs.declared.asking.LookAsked.{LookAsked}
+use Rattle.filters.specs.declared.asking.EndsAsked.{EndsAsked}
 use Rattle.filters.specs.declared.kinds.Told.{Told}
 use Rattle.filters.specs.declared.kinds.Told.TheVariants as told
 use Rattle.filters.specs.NodeSteps.{with_frame}
@@ -53,6 +54,13 @@ look_in body =
       kind = kind;
     })
     (kind_numbered (number_in w8 (drop 4 (drop 8 body))))
+    else None
+
+-- The attempt that sixteen bytes name: its run in eight, and its number in eight.
+abbrev pub ends_in : List ℕ → Option EndsAsked
+ends_in body =
+    if length body == 16
+    then Some (record { run = number_in w64 body; attempt = number_in w64 (drop 8 body) })
     else None
 
 -- What a body asks of the client, or the fault of one that can't be read.

@@ -22,6 +22,8 @@ use Rattle.client_core.specs.Stands.{IsBadNote}
 use Rattle.client_core.specs.Hearing.{FrameEntry, Restart, Renew, packets_heard}
 use Rattle.client_core.specs.FrameAnswers.{refusal, due, frames, answered_entry}
 use Rattle.client_core.specs.FrameEnds.{StandsFor, note_in}
+use Rattle.attempt_ends.specs.AttemptEnds.{ends_told}
+use Rattle.filters.specs.declared.asking.EndsAsked.{EndsAsked}
 use Rattle.filters.specs.declared.asking.LookAsked.{LookAsked}
 use Rattle.filters.specs.declared.beginning.Beginning.{Beginning}
 use Rattle.filters.specs.declared.beginning.Beginning.TheVariants.{Alone, Mirrored, Renewed}
@@ -31,7 +33,8 @@ use Rattle.filters.specs.declared.kinds.Said.TheVariants.{Save, Outcome, Report}
 use Rattle.filters.specs.Kept.{note_with}
 use Rattle.filters.specs.Kinds.{told_numbered, said_number}
 use Rattle.filters.specs.Records.{record_bytes, end_bytes}
-use Rattle.filters.specs.ClientAsks.{number_alone, look_in, input_in, outcome_number, report_names, report_counts}
+use Rattle.filters.specs.EndTells.{told_bytes}
+use Rattle.filters.specs.ClientAsks.{number_alone, look_in, ends_in, input_in, outcome_number, report_names, report_counts}
 use Rattle.filters.specs.ClientSteps.{noted, after_answer, after_refusal, number_given, save_bytes, number_bytes, send_bytes}
 use Rattle.filters.specs.NodeSteps.{Leaves, WantsMemory}
 use Rattle.filters.specs.Lives.{RecordParts, Filter}
@@ -116,12 +119,27 @@ abbrev pub shown_or_bad : {A : Type 0} → (A → List ℕ) → Option A → Lis
 shown_or_bad show (Some asked) = show asked ++ end_bytes (Ok tt)
 shown_or_bad show None = end_bytes (Err BadNotice)
 
+-- What is told of how an attempt of a run ended: at each of its places, and in one word.
+abbrev pub ends_bytes : Opening → List FrameEntry → EndsAsked → List ℕ
+ends_bytes opening past asked =
+    told_bytes asked
+    (ends_told opening (shown_entries (packets_heard opening past)) asked.run asked.attempt)
+
+-- It is told how an attempt ended, which changes nothing; or memory is wanting.
+abbrev pub TellsEnds : Opening → ClientAt → Option EndsAsked → ClientAt → List ℕ → Type 0
+TellsEnds opening at (Some asked) now answer =
+    Leaves at (ends_bytes opening at.list asked ++ end_bytes (Ok tt)) now answer
+    ⊎ WantsMemory at now answer
+TellsEnds opening at None now answer = Leaves at (end_bytes (Err BadNotice)) now answer
+
 -- What is made of a record of this kind, if it is one. To look and to show changes nothing.
 abbrev pub TakesKind : Opening → ClientAt → Option Told → List ℕ → ClientAt → List ℕ → Type 0
 TakesKind opening at (Some told.Look) body now answer =
     Leaves at (shown_or_bad (look_bytes opening at.list body) (look_in body)) now answer
 TakesKind opening at (Some told.Show) body now answer =
     Leaves at (shown_or_bad (show_bytes opening at.list) (number_alone body)) now answer
+TakesKind opening at (Some told.Ends) body now answer =
+    TellsEnds opening at (ends_in body) now answer
 TakesKind opening at (Some kind) body now answer =
     TakesBody opening at (input_in kind body) now answer
 TakesKind opening at None body now answer = Leaves at (end_bytes (Err BadNotice)) now answer

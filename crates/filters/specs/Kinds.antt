@@ -20,12 +20,14 @@ told_number told.Verify = 10
 told_number told.Tick = 11
 told_number told.Look = 12
 told_number told.Show = 13
+told_number told.Ends = 14
 
 -- The kind that is read with this number.
 unfoldable pub told_numbered : ℕ → Option Told
 told_numbered n = find (λ kind. told_number kind == n)
     (told.Note ∷ told.Frame ∷ told.Done ∷ told.Failed ∷ told.Blocks ∷ told.Unread ∷ told.Begin
-    ∷ told.Trigger ∷ told.Stop ∷ told.Verify ∷ told.Tick ∷ told.Look ∷ told.Show ∷ [])
+    ∷ told.Trigger ∷ told.Stop ∷ told.Verify ∷ told.Tick ∷ told.Look ∷ told.Show
+    ∷ told.Ends ∷ [])
 
 -- The number of a kind that is written.
 abbrev pub said_number : Said → ℕ
@@ -38,3 +40,5 @@ said_number said.Number = 70
 said_number said.Outcome = 71
 said_number said.Report = 72
 said_number said.End = 73
+said_number said.PlaceEnd = 74
+said_number said.AttemptEnd = 75

@@ -8,6 +8,7 @@ pub mod Steps
 pub mod NodeSteps
 pub mod NodeCuts
 pub mod ClientAsks
+pub mod EndTells
 pub mod ClientSteps
 pub mod ClientLives
 pub mod ClientRuns

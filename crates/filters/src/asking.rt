@@ -1,11 +1,11 @@
 //! What the bodies of records ask of the client.
 
 ghost use Rattle.std.specs.Prelude.{◌≡◌, IfSome, drop};
-ghost use Rattle.filters.specs.ClientAsks.{number_alone, trigger_in, kind_numbered, look_in};
+ghost use Rattle.filters.specs.ClientAsks.{number_alone, trigger_in, kind_numbered, look_in, ends_in};
 ghost use Rattle.fc_base.specs.Layouts.{number_in};
 
 use client_core::RequestKind;
-use fc_base::{RunNo, ServerNo, split_u8, split_u32, split_u64};
+use fc_base::{Attempt, RunNo, ServerNo, split_u8, split_u32, split_u64};
 use messages::Act;
 
 /// The number in these eight bytes; `None` where they are more or fewer.
@@ -70,6 +70,28 @@ pub(crate) fn look_in(bytes: &[u8]) -> Option<LookAsked>
         }),
         None => None,
     }
+}
+
+/// Which attempt's end is asked for, of which run.
+#[derive(Clone, Copy, Debug)]
+pub(crate) struct EndsAsked {
+    pub run: RunNo,
+    pub attempt: Attempt,
+}
+
+/// The attempt that these 16 bytes name: its run in eight, and its number in eight.
+pub(crate) fn ends_in(bytes: &[u8]) -> Option<EndsAsked>
+    ensures { result ≡ ends_in bytes.now }
+{
+    if bytes.len() != 16 {
+        return None;
+    }
+    let (run, rest) = split_u64(bytes);
+    let (attempt, _) = split_u64(rest);
+    Some(EndsAsked {
+        run: RunNo(run),
+        attempt: Attempt(attempt),
+    })
 }
 
 /// The kind of requests that has this number.

@@ -11,10 +11,12 @@ ghost use Rattle.filters.specs.Lives.{RunsOver, Runs};
 ghost use Rattle.filters.specs.Records.{end_bytes};
 ghost use Rattle.filters.specs.Steps.{AnswersBy, AnswersRecord, parts_of};
 ghost use Rattle.filters.specs.ClientSteps.{save_bytes};
-ghost use Rattle.filters.specs.ClientLives.{ClientAt, IsAt, ClientTakes, TakesKind, client_filter, is_renewal};
+ghost use Rattle.filters.specs.ClientLives.{ClientAt, ClientTakes, TakesKind, client_filter, is_renewal};
+ghost use Rattle.filters.specs.ClientRuns.{FilterIsAt};
 
 mod asks;
 mod begins;
+mod ends;
 mod tells;
 
 use crate::beginning::Beginning;
@@ -24,6 +26,7 @@ use crate::reading::first_note;
 use crate::record::Record;
 use crate::records_node::{RecordsNode, run_records};
 use crate::writing::{put_end, put_save, refuse};
+use attempt_ends::Attempts;
 use begins::open;
 use client_core::Client;
 use fc_base::Fault;
@@ -75,16 +78,23 @@ fn run_over<R: Read, W: Write>(
         Ok(client) => client,
         Err(fault) => return refuse(writer, fault),
     };
-    let mut filter = ClientFilter { alloc, client };
+    let mut filter = ClientFilter {
+        alloc,
+        servers,
+        client,
+        attempts: Attempts::new(alloc),
+    };
     filter.put_opening(&beginning, writer)?;
     run_records(alloc, &mut filter, reader, writer)
 }
 
-/// The client over its note.
+/// The client over its note, of so many servers, and the attempts of its life.
 #[derive(Drop)]
 pub(crate) struct ClientFilter {
     alloc: Global,
+    servers: u32,
     client: Client<KeptNotes>,
+    attempts: Attempts,
 }
 
 impl RecordsNode for ClientFilter {
@@ -94,7 +104,7 @@ impl RecordsNode for ClientFilter {
 
     ghost Makes = { ClientTakes };
 
-    ghost StandsAt = { λ filter opening at. IsAt note_kept filter.client opening at };
+    ghost StandsAt = { FilterIsAt };
 
     fn answer_record<W: Write>(&mut self, came: &Record, writer: &mut W) -> io::Result<()> {
         self.answer(came, writer)
@@ -115,9 +125,8 @@ impl ClientFilter {
     /// Answers a record.
     fn answer<W: Write>(&mut self, came: &Record, writer: &mut W) -> io::Result<()>
         ensures { OnOk result
-            (AnswersRecord ClientTakes (IsAt note_kept self.old.client)
-            (IsAt note_kept self.new.client) (parts_of came.now)
-            (W.contents writer.old) (W.contents writer.new)) }
+            (AnswersRecord ClientTakes (FilterIsAt self.old) (FilterIsAt self.new)
+            (parts_of came.now) (W.contents writer.old) (W.contents writer.new)) }
     {
         let body = came.body.as_slice();
         match Told::numbered(came.kind) {
@@ -131,12 +140,13 @@ impl ClientFilter {
         ensures { OnOk result
             (AnswersBy (λ opening at now answer.
             TakesKind opening at (Some kind) body.now now answer)
-            (IsAt note_kept self.old.client) (IsAt note_kept self.new.client)
+            (FilterIsAt self.old) (FilterIsAt self.new)
             (W.contents writer.old) (W.contents writer.new)) }
     {
         match kind {
             Told::Look => self.look(body, writer),
             Told::Show => self.show(body, writer),
+            Told::Ends => self.tell_ends(body, writer),
             _ => self.answer_body(kind, body, writer),
         }
     }

@@ -32,6 +32,8 @@ pub enum Told {
     Look = 12,
     /// Show a report.
     Show = 13,
+    /// Tell how an attempt ended.
+    Ends = 14,
 }
 
 /// The kinds of records that are written. The discriminants are their numbers.
@@ -55,9 +57,13 @@ pub enum Said {
     Report = 72,
     /// The answer ends.
     End = 73,
+    /// How an attempt ended at a place.
+    PlaceEnd = 74,
+    /// How an attempt ended, in one word.
+    AttemptEnd = 75,
 }
 
-const ALL_TOLD: [Told; 13] = [
+const ALL_TOLD: [Told; 14] = [
     Told::Note,
     Told::Frame,
     Told::Done,
@@ -71,6 +77,7 @@ const ALL_TOLD: [Told; 13] = [
     Told::Tick,
     Told::Look,
     Told::Show,
+    Told::Ends,
 ];
 
 impl Told {

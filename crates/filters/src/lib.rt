@@ -17,6 +17,7 @@ mod beginning;
 mod checking;
 mod client_filter;
 mod command;
+mod ending;
 mod kept_notes;
 mod kinds;
 mod law;

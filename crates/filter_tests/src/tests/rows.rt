@@ -5,7 +5,7 @@ use super::draft::Draft;
 use std::alloc::{AllocError, Global};
 
 /// The kinds of records, by name.
-static KINDS: [(&str, u8); 22] = [
+static KINDS: [(&str, u8); 25] = [
     ("note", 1),
     ("frame", 2),
     ("done", 3),
@@ -19,6 +19,7 @@ static KINDS: [(&str, u8); 22] = [
     ("tick", 11),
     ("look", 12),
     ("show", 13),
+    ("ends", 14),
     ("save", 65),
     ("send", 66),
     ("order", 67),
@@ -28,6 +29,8 @@ static KINDS: [(&str, u8); 22] = [
     ("outcome", 71),
     ("report", 72),
     ("end", 73),
+    ("place", 74),
+    ("word", 75),
 ];
 
 /// A life: what is read, and what is written.

@@ -1,6 +1,6 @@
 //! What a record asks of the client, and what it answers.
 
-ghost use Rattle.std.specs.Prelude.{◌≡◌, List};
+ghost use Rattle.std.specs.Prelude.{◌≡◌, ◌≤◌, ◌++◌, List, Ok};
 ghost use Rattle.client_core.specs.Inputs as inputs;
 ghost use Rattle.client_core.specs.History.{Opening};
 ghost use Rattle.client_core.specs.Hearing.{FrameEntry};
@@ -9,21 +9,28 @@ ghost use Rattle.filters.specs.declared.kinds.Told.TheVariants as told;
 ghost use Rattle.filters.specs.Kept.{note_kept};
 ghost use Rattle.filters.specs.ClientAsks.{input_in};
 ghost use Rattle.filters.specs.ClientSteps.{InputEnds, BodyEnds};
+ghost use Rattle.filters.specs.ClientRuns.{AttemptsGoOn, SameAttempts, attempts_numbered};
 
 use super::ClientFilter;
 use crate::answered::Answered;
 use crate::asking::{number_alone, trigger_in};
 use crate::kinds::Told;
-use fc_base::{Fault, RunNo, split_u64};
+use attempt_ends::{AskedPlaces, Attempted, Attempts, places_asked};
+use client_core::looks_at_all;
+use fc_base::{Attempt, Fault, RunNo, split_u64};
 use messages::{Act, Frame, decode_frame};
 
 impl ClientFilter {
     /// Asks the client what a record says.
     pub(super) fn ask(&mut self, kind: Told, body: &[u8]) -> Result<Answered, Fault>
-        ensures { (opening : Opening) (past : List FrameEntry) →
+        ensures ends { (opening : Opening) (past : List FrameEntry) →
             StandsFor note_kept self.old.client opening past →
             BodyEnds note_kept opening past
             (input_in kind body.now) self.old.client self.new.client result }
+        ensures attempts { (opening : Opening) (past : List FrameEntry) →
+            StandsFor note_kept self.old.client opening past →
+            AttemptsGoOn opening past (input_in kind body.now) self.old self.new result }
+        ensures servers { self.new.servers ≡ self.old.servers }
     {
         match kind {
             Told::Frame => self.take(body),
@@ -44,11 +51,12 @@ impl ClientFilter {
 
     /// Takes the frame that these bytes are.
     fn take(&mut self, bytes: &[u8]) -> Result<Answered, Fault>
-        ensures { (opening : Opening) (past : List FrameEntry) →
+        ensures ends { (opening : Opening) (past : List FrameEntry) →
             StandsFor note_kept self.old.client opening past →
             BodyEnds note_kept opening past
             (input_in told.Frame bytes.now) self.old.client self.new.client
             result }
+        ensures same { SameAttempts self.old self.new }
     {
         match decode_frame(self.alloc, bytes) {
             Ok(frame) => self.deliver(frame),
@@ -58,11 +66,15 @@ impl ClientFilter {
 
     /// Verifies the run that stands in the first eight bytes, by the job file behind it.
     fn verify_in(&mut self, body: &[u8]) -> Result<Answered, Fault>
-        ensures { (opening : Opening) (past : List FrameEntry) →
+        ensures ends { (opening : Opening) (past : List FrameEntry) →
             StandsFor note_kept self.old.client opening past →
             BodyEnds note_kept opening past
             (input_in told.Verify body.now) self.old.client self.new.client
             result }
+        ensures attempts { (opening : Opening) (past : List FrameEntry) →
+            StandsFor note_kept self.old.client opening past →
+            AttemptsGoOn opening past (input_in told.Verify body.now) self.old self.new result }
+        ensures servers { self.new.servers ≡ self.old.servers }
     {
         if body.len() < 8 {
             return Err(Fault::BadNotice);
@@ -72,10 +84,11 @@ impl ClientFilter {
     }
 
     fn begin(&mut self, text: &[u8]) -> Result<Answered, Fault>
-        ensures { (opening : Opening) (past : List FrameEntry) →
+        ensures ends { (opening : Opening) (past : List FrameEntry) →
             StandsFor note_kept self.old.client opening past →
             InputEnds note_kept opening past
             (inputs.Begin text.now) self.old.client self.new.client result }
+        ensures same { SameAttempts self.old self.new }
     {
         let saves = self.client.begin_would_save(text);
         let (run, frames) = self.client.begin(text)?;
@@ -87,10 +100,11 @@ impl ClientFilter {
     }
 
     fn trigger(&mut self, run: RunNo, act: Act) -> Result<Answered, Fault>
-        ensures { (opening : Opening) (past : List FrameEntry) →
+        ensures ends { (opening : Opening) (past : List FrameEntry) →
             StandsFor note_kept self.old.client opening past →
             InputEnds note_kept opening past
             (inputs.Trigger run act) self.old.client self.new.client result }
+        ensures same { SameAttempts self.old self.new }
     {
         let frames = self.client.trigger(run, act)?;
         Ok(Answered {
@@ -101,10 +115,11 @@ impl ClientFilter {
     }
 
     fn stop(&mut self, run: RunNo) -> Result<Answered, Fault>
-        ensures { (opening : Opening) (past : List FrameEntry) →
+        ensures ends { (opening : Opening) (past : List FrameEntry) →
             StandsFor note_kept self.old.client opening past →
             InputEnds note_kept opening past
             (inputs.Stop run) self.old.client self.new.client result }
+        ensures same { SameAttempts self.old self.new }
     {
         let frames = self.client.stop(run)?;
         Ok(Answered {
@@ -115,10 +130,40 @@ impl ClientFilter {
     }
 
     fn verify(&mut self, run: RunNo, text: &[u8]) -> Result<Answered, Fault>
-        ensures { (opening : Opening) (past : List FrameEntry) →
+        ensures ends { (opening : Opening) (past : List FrameEntry) →
             StandsFor note_kept self.old.client opening past →
             InputEnds note_kept opening past
             (inputs.Verify run text.now) self.old.client self.new.client result }
+        ensures attempts { (opening : Opening) (past : List FrameEntry) →
+            StandsFor note_kept self.old.client opening past →
+            AttemptsGoOn opening past (Ok (inputs.Verify run text.now)) self.old self.new result }
+        ensures servers { self.new.servers ≡ self.old.servers }
+    {
+        looks_at_all();
+        let asked = match places_asked(self.alloc, &self.client, self.servers, run, text) {
+            Ok(asked) => asked,
+            Err(_) => return Err(Fault::NoMemory),
+        };
+        match self.attempts.reserve() {
+            Ok(()) => {}
+            Err(_) => return Err(Fault::NoMemory),
+        }
+        match self.verify_by_client(run, text) {
+            Ok(answered) => {
+                push_answered(&mut self.attempts, run, asked, &answered);
+                Ok(answered)
+            }
+            Err(fault) => Err(fault),
+        }
+    }
+
+    /// Verifies a run, and leaves it to the caller to know the attempt.
+    fn verify_by_client(&mut self, run: RunNo, text: &[u8]) -> Result<Answered, Fault>
+        ensures ends { (opening : Opening) (past : List FrameEntry) →
+            StandsFor note_kept self.old.client opening past →
+            InputEnds note_kept opening past
+            (inputs.Verify run text.now) self.old.client self.new.client result }
+        ensures same { SameAttempts self.old self.new }
     {
         let saves = self.client.verify_would_save(run, text);
         let (attempt, frames) = self.client.verify(run, text)?;
@@ -144,10 +189,11 @@ impl ClientFilter {
 
     #[tactic(auto, using(crate::proofs::ClientLemmas::not_answered))]
     fn deliver(&mut self, frame: Frame) -> Result<Answered, Fault>
-        ensures { (opening : Opening) (past : List FrameEntry) →
+        ensures ends { (opening : Opening) (past : List FrameEntry) →
             StandsFor note_kept self.old.client opening past →
             InputEnds note_kept opening past
             (inputs.Deliver frame) self.old.client self.new.client result }
+        ensures same { SameAttempts self.old self.new }
     {
         let Ok(saves) = self.client.would_save(&frame) else {
             return Err(Fault::NoMemory);
@@ -158,5 +204,20 @@ impl ClientFilter {
             number: None,
             frames,
         })
+    }
+}
+
+/// Adds the attempt that was answered with a number, of a run, which asks for these places.
+fn push_answered(attempts: &mut Attempts, run: RunNo, asked: AskedPlaces, answered: &Answered)
+    requires { 1 ≤ attempts.old.room }
+    ensures { attempts.new.made
+        ≡ attempts.old.made ++ attempts_numbered run asked answered.now.number }
+{
+    if let Some(number) = answered.number {
+        attempts.push(Attempted {
+            attempt: Attempt(number),
+            run,
+            asked,
+        });
     }
 }

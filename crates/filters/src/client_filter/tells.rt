@@ -8,7 +8,8 @@ ghost use Rattle.client_core.specs.FrameEnds.{note_in};
 ghost use Rattle.filters.specs.Kept.{note_kept};
 ghost use Rattle.filters.specs.ClientAsks.{input_in};
 ghost use Rattle.filters.specs.ClientSteps.{result_bytes};
-ghost use Rattle.filters.specs.ClientLives.{IsAt, TakesBody, TakesKind, report_if};
+ghost use Rattle.filters.specs.ClientLives.{TakesBody, TakesKind, report_if};
+ghost use Rattle.filters.specs.ClientRuns.{FilterIsAt};
 ghost use Rattle.filters.specs.Steps.{AnswersBy};
 
 use super::ClientFilter;
@@ -33,7 +34,7 @@ impl ClientFilter {
         ensures { OnOk result
             (AnswersBy (λ opening at now answer.
             TakesBody opening at (input_in kind body.now) now answer)
-            (IsAt note_kept self.old.client) (IsAt note_kept self.new.client)
+            (FilterIsAt self.old) (FilterIsAt self.new)
             (W.contents writer.old) (W.contents writer.new)) }
     {
         let answer = self.ask(kind, body);
@@ -57,7 +58,7 @@ impl ClientFilter {
         ensures { OnOk result
             (AnswersBy (λ opening at now answer.
             TakesKind opening at (Some told.Look) body.now now answer)
-            (IsAt note_kept self.now.client) (IsAt note_kept self.now.client)
+            (FilterIsAt self.now) (FilterIsAt self.now)
             (W.contents writer.old) (W.contents writer.new)) }
     {
         match look_in(body) {
@@ -75,7 +76,7 @@ impl ClientFilter {
         ensures { OnOk result
             (AnswersBy (λ opening at now answer.
             TakesKind opening at (Some told.Show) body.now now answer)
-            (IsAt note_kept self.now.client) (IsAt note_kept self.now.client)
+            (FilterIsAt self.now) (FilterIsAt self.now)
             (W.contents writer.old) (W.contents writer.new)) }
     {
         match number_alone(body) {

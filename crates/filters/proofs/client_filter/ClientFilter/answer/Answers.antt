@@ -17,7 +17,7 @@ returns-in-Some g c =
         (
           subst (λ k. TakesKind o at k c.args.came.now.body.items t.0 b.answer) (sym (sym c.numbered.ensures ∙ c.in-Some.is))
               (subst (λ l. TakesKind o at (Some c.in-Some.kind) l t.0 b.answer) c.as_slice-body.ensures.value t.2),
-          note_says note_kept c.answer_kind.new.self.client o t.0 t.1,
+          note_says note_kept c.answer_kind.new.self.client o t.0 t.1.client,
         ),
       );
     })

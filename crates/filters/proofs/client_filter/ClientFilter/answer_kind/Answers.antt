@@ -1,3 +1,8 @@
+use Rattle.std.proofs.Common.{Some, sym, subst}
+use Rattle.std.specs.Prelude.{OnOk}
+use Rattle.filters.specs.ClientLives.{TakesKind}
+use Rattle.filters.specs.ClientRuns.{FilterIsAt}
+use Rattle.filters.specs.Steps.{AnswersBy}
 use Rattle.filters.proofs.TakeLemmas.{kind_taken}
 use Rattle.filters.proofs.WriteLemmas.{on_ok}
 use Rattle.filters.proofs.client_filter.ClientFilter.answer_kind.Goals as goal
@@ -11,6 +16,12 @@ returns-in_default g c =
       takes = λ o at h. let t = b.takes o at h in (
         t.0,
         t.1,
-        kind_taken o at c.args.kind c.args.body.now t.0 b.answer c.in_default.not-Look c.in_default.not-Show t.2,
+        kind_taken o at c.args.kind c.args.body.now t.0 b.answer c.in_default.not-Look c.in_default.not-Show c.in_default.not-Ends t.2,
       );
     })
+
+pub returns-in-Ends : goal.returns-in-Ends
+returns-in-Ends g c =
+    subst (λ kind. OnOk c.tell_ends.result (AnswersBy (λ o at now answer. TakesKind o at (Some kind) c.args.body.now now answer)
+    (FilterIsAt c.args.self.now) (FilterIsAt c.args.self.now) (g.W.Write.contents c.args.writer.now) (g.W.Write.contents c.tell_ends.new.writer)))
+    (sym c.in-Ends.is) c.tell_ends.ensures

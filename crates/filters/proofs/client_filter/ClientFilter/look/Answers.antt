@@ -1,7 +1,7 @@
 use Rattle.std.proofs.Common.{◌∷◌, [], ◌++◌, Ok, refl, ap, sym, ◌∙◌}
 use Rattle.filters.specs.declared.kinds.Told.TheVariants as told
 use Rattle.filters.specs.declared.kinds.Said.TheVariants.{Outcome}
-use Rattle.filters.specs.Kept.{note_kept}
+use Rattle.filters.specs.ClientRuns.{FilterIsAt}
 use Rattle.filters.specs.Kinds.{said_number}
 use Rattle.filters.specs.Records.{record_bytes, end_bytes}
 use Rattle.filters.specs.ClientAsks.{outcome_number}
@@ -14,12 +14,12 @@ pub returns-in_ok-put_with-in-Some : goal.returns-in_ok-put_with-in-Some
 returns-in_ok-put_with-in-Some g c =
     let body = c.args.body.now in
     on_ok c.put_end.result c.put_end.ensures
-    (λ ended. only_looks note_kept c.args.self.now.client told.Look body (record_bytes (said_number Outcome) (body ++ c.outcome_number.result ∷ []))
+    (λ ended. only_looks (FilterIsAt c.args.self.now) told.Look body (record_bytes (said_number Outcome) (body ++ c.outcome_number.result ∷ []))
     (g.W.Write.contents c.args.writer.now) (g.W.Write.contents c.put_with.new.writer) (g.W.Write.contents c.put_end.new.writer)
     c.in_ok-put_with-in-Some.ensures ended
     (λ o at h. (
       refl,
       ap (λ n. record_bytes (said_number Outcome) (body ++ n ∷ []) ++ end_bytes (Ok tt))
-          (c.outcome_number.ensures ∙ ap outcome_number (c.outcome-outcome.ensures o at.list h.0))
+          (c.outcome_number.ensures ∙ ap outcome_number (c.outcome-outcome.ensures o at.list h.client.0))
           ∙ sym (ap (shown_or_bad (look_bytes o at.list body)) (sym c.look_in.ensures ∙ c.in-Some.is)),
     )))

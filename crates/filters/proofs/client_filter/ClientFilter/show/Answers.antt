@@ -2,7 +2,7 @@ use Rattle.std.proofs.Common.{◌++◌, Ok, refl, ap, sym, ◌∙◌}
 use Rattle.std.specs.Prelude.{slice_get}
 use Rattle.std.specs.Option.{option_copied}
 use Rattle.filters.specs.declared.kinds.Told.TheVariants as told
-use Rattle.filters.specs.Kept.{note_kept}
+use Rattle.filters.specs.ClientRuns.{FilterIsAt}
 use Rattle.filters.specs.Records.{end_bytes}
 use Rattle.filters.specs.ClientLives.{report_if, show_bytes, shown_or_bad}
 use Rattle.filters.proofs.TakeLemmas.{only_looks}
@@ -13,11 +13,11 @@ pub returns-in_ok-put_if_any-in-Some : goal.returns-in_ok-put_if_any-in-Some
 returns-in_ok-put_if_any-in-Some g c =
     let body = c.args.body.now in
     on_ok c.put_end.result c.put_end.ensures
-    (λ ended. only_looks note_kept c.args.self.now.client told.Show body (report_if (option_copied c.report_at.result))
+    (λ ended. only_looks (FilterIsAt c.args.self.now) told.Show body (report_if (option_copied c.report_at.result))
     (g.W.Write.contents c.args.writer.now) (g.W.Write.contents c.put_if_any.new.writer) (g.W.Write.contents c.put_end.new.writer)
     c.in_ok-put_if_any-in-Some.ensures ended
     (λ o at h. (
       refl,
-      ap (λ r. report_if r ++ end_bytes (Ok tt)) (c.report_at.ensures ∙ ap (λ rs. slice_get rs c.in-Some.place) (c.reports.ensures o at.list h.0))
+      ap (λ r. report_if r ++ end_bytes (Ok tt)) (c.report_at.ensures ∙ ap (λ rs. slice_get rs c.in-Some.place) (c.reports.ensures o at.list h.client.0))
           ∙ sym (ap (shown_or_bad (show_bytes o at.list)) (sym c.number_alone.ensures ∙ c.in-Some.is)),
     )))

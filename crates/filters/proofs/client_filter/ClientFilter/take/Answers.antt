@@ -7,8 +7,8 @@ use Rattle.filters.specs.ClientSteps.{BodyEnds, NotAnswered}
 use Rattle.filters.proofs.FrameLemmas.{unread}
 use Rattle.filters.proofs.client_filter.ClientFilter.take.Goals as goal
 
-pub returns-in-Err : goal.returns-in-Err
-returns-in-Err c o past stands =
+pub returns-in-Err-clause-ends : goal.returns-in-Err-clause-ends
+returns-in-Err-clause-ends c o past stands =
     let client = c.args.self.now.client in
     elim (unread Deliver c.args.bytes.now c.in-Err.fault c.in-Err.ensures.answer) [
       | inl (frame, is, none) ↦

@@ -1,0 +1,5 @@
+mod ListLemmas
+mod EndLemmas
+mod AttemptLemmas
+mod LawLemmas
+mod ExampleLemmas

@@ -1,0 +1,177 @@
+//! How an attempt ended, as it is told.
+
+ghost use Rattle.std.specs.Prelude.{◌≡◌, ◌≤◌, OnOk, length};
+ghost use Rattle.std.specs.List.{flat_map};
+ghost use Rattle.std.specs.Io.KnownBytes.{Appends};
+ghost use Rattle.attempt_ends.specs.declared.place.TheConstants.{PLACES};
+ghost use Rattle.filters.specs.EndTells.{bare, numbers_of, end_names, end_counts, place_bytes, word_number, attempt_bytes, sums_bytes, word_bytes, told_bytes};
+
+use crate::asking::EndsAsked;
+use crate::kinds::Said;
+use crate::writing::{put_head, put_u32, put_u64};
+use attempt_ends::{AttemptEnd, EndAt, Place, PlaceEnd, Sums, attempt_end, sums_of};
+use std::io;
+use std::io::Write;
+
+/// The number of an end at a place, and those that go with it; 0 where one doesn't.
+#[derive(Clone, Copy, Debug)]
+pub(crate) struct EndNumbers {
+    pub end: u32,
+    /// How many blocks were checked.
+    pub checked: u32,
+    /// How many of them were at fault.
+    pub faults: u32,
+    /// The block that could not be read.
+    pub block: u32,
+    /// The reason of a refusal.
+    pub reason: u32,
+}
+
+/// An end that has no numbers with it.
+fn bare(end: u32) -> EndNumbers
+    ensures { result ≡ bare end }
+{
+    EndNumbers {
+        end,
+        checked: 0,
+        faults: 0,
+        block: 0,
+        reason: 0,
+    }
+}
+
+/// The numbers of an end at a place.
+fn numbers_of(end: PlaceEnd) -> EndNumbers
+    ensures { result ≡ numbers_of end }
+{
+    match end {
+        PlaceEnd::Refused(reason) => EndNumbers {
+            reason: u32::from(reason.number()),
+            ..bare(1)
+        },
+        PlaceEnd::Unasked => bare(2),
+        PlaceEnd::Unanswered => bare(3),
+        PlaceEnd::InFull(counts) => EndNumbers {
+            checked: counts.checked,
+            faults: counts.faults,
+            ..bare(4)
+        },
+        PlaceEnd::Unread(counts, block) => EndNumbers {
+            checked: counts.checked,
+            faults: counts.faults,
+            block,
+            ..bare(5)
+        },
+        PlaceEnd::Nothing => bare(6),
+        PlaceEnd::Faults(counts) => EndNumbers {
+            checked: counts.checked,
+            faults: counts.faults,
+            ..bare(7)
+        },
+        PlaceEnd::Sound(checked) => EndNumbers { checked, ..bare(8) },
+    }
+}
+
+/// The number of the word for all places.
+fn word_number(end: AttemptEnd) -> u8
+    ensures { result ≡ word_number end }
+{
+    match end {
+        AttemptEnd::Sound => 0,
+        AttemptEnd::Faults => 1,
+        AttemptEnd::NotWhole => 2,
+        AttemptEnd::NoVerdict => 3,
+    }
+}
+
+/// Writes how an attempt ended: place by place, and then in one word.
+pub(crate) fn put_ends<W: Write>(
+    writer: &mut W,
+    asked: &EndsAsked,
+    ends: &[EndAt],
+) -> io::Result<()>
+    requires { length ends.now ≤ PLACES }
+    ensures { OnOk result (Appends (W.contents writer.old) (W.contents writer.new)
+        (told_bytes asked.now ends.now)) }
+{
+    put_places(writer, asked, ends)?;
+    put_word(writer, asked, attempt_end(ends), sums_of(ends))
+}
+
+/// Writes how an attempt ended at its places.
+fn put_places<W: Write>(writer: &mut W, asked: &EndsAsked, ends: &[EndAt]) -> io::Result<()>
+    ensures { OnOk result (Appends (W.contents writer.old) (W.contents writer.new)
+        (flat_map (place_bytes asked.now) ends.now)) }
+{
+    for end in ends {
+        put_place(writer, asked, end)?;
+    }
+    Ok(())
+}
+
+/// Writes how an attempt ended at a place.
+fn put_place<W: Write>(writer: &mut W, asked: &EndsAsked, end: &EndAt) -> io::Result<()>
+    ensures { OnOk result (Appends (W.contents writer.old) (W.contents writer.new)
+        (place_bytes asked.now end.now)) }
+{
+    put_head(writer, Said::PlaceEnd, 44)?;
+    put_names(writer, asked, &end.place)?;
+    put_counts(writer, numbers_of(end.end))
+}
+
+/// Writes whose an end is.
+fn put_names<W: Write>(writer: &mut W, asked: &EndsAsked, place: &Place) -> io::Result<()>
+    ensures { OnOk result (Appends (W.contents writer.old) (W.contents writer.new)
+        (end_names asked.now place.now)) }
+{
+    put_u64(writer, asked.run.0)?;
+    put_u64(writer, asked.attempt.0)?;
+    put_u32(writer, place.server.0)?;
+    put_u32(writer, place.job.0)
+}
+
+/// Writes the numbers of an end.
+fn put_counts<W: Write>(writer: &mut W, numbers: EndNumbers) -> io::Result<()>
+    ensures { OnOk result (Appends (W.contents writer.old) (W.contents writer.new)
+        (end_counts numbers)) }
+{
+    put_u32(writer, numbers.end)?;
+    put_u32(writer, numbers.checked)?;
+    put_u32(writer, numbers.faults)?;
+    put_u32(writer, numbers.block)?;
+    put_u32(writer, numbers.reason)
+}
+
+/// Writes how an attempt ended in one word, and in sums.
+fn put_word<W: Write>(
+    writer: &mut W,
+    asked: &EndsAsked,
+    end: AttemptEnd,
+    sums: Sums,
+) -> io::Result<()>
+    ensures { OnOk result (Appends (W.contents writer.old) (W.contents writer.new)
+        (word_bytes asked.now end sums)) }
+{
+    put_head(writer, Said::AttemptEnd, 33)?;
+    put_attempt(writer, asked)?;
+    writer.write_all(&[word_number(end)])?;
+    put_sums(writer, sums)
+}
+
+/// Writes which attempt it is, of which run.
+fn put_attempt<W: Write>(writer: &mut W, asked: &EndsAsked) -> io::Result<()>
+    ensures { OnOk result (Appends (W.contents writer.old) (W.contents writer.new)
+        (attempt_bytes asked.now)) }
+{
+    put_u64(writer, asked.run.0)?;
+    put_u64(writer, asked.attempt.0)
+}
+
+/// Writes sums.
+fn put_sums<W: Write>(writer: &mut W, sums: Sums) -> io::Result<()>
+    ensures { OnOk result (Appends (W.contents writer.old) (W.contents writer.new)
+        (sums_bytes sums)) }
+{
+    put_u64(writer, sums.checked)?;
+    put_u64(writer, sums.faults)
+}
