@@ -13,7 +13,7 @@ use Rattle.client_core.specs.History as client
 use Rattle.net_world.specs.Setup.{Setup}
 use Rattle.net_world.specs.Frames.{FrameStep, at_server, at_client, trace_heard}
 use Rattle.net_world.specs.Claims.{OfEachList, OfEachTrace}
-use Rattle.net_world.specs.Headline.{OneTaking, HeldIsTheTaken, CountsTheCompleted, QuietUntilTheCheck}
+use Rattle.net_world.specs.Headline.{OneTaking, HeldIsTheTaken, CountsTheCompleted, QuietUntilTheCheck, KeptWhereServed, KeptWhereCut, StatePacketsAreEqual, RunsAreGivenOnce, AttemptsAreGivenOnce, StartsAreAcceptedOnce, OneTextOfEachRun, OneTextOfEachAttempt}
 use Rattle.filters.specs.ClientLives.{ClientAt}
 use Rattle.filters.specs.ServerAt.{ServerAt}
 use Rattle.filters.specs.MirrorLives.{MirrorAt}
@@ -113,6 +113,14 @@ pub record Claims : Type 0 where
   pub held : OfEachTrace HeldIsTheTaken
   pub counted : OfEachTrace CountsTheCompleted
   pub quiet : OfEachTrace QuietUntilTheCheck
+  pub served : OfEachTrace KeptWhereServed
+  pub cut : OfEachTrace KeptWhereCut
+  pub equal : OfEachList StatePacketsAreEqual
+  pub runs : OfEachTrace RunsAreGivenOnce
+  pub attempts : OfEachTrace AttemptsAreGivenOnce
+  pub starts : OfEachList StartsAreAcceptedOnce
+  pub run_texts : OfEachTrace OneTextOfEachRun
+  pub attempt_texts : OfEachTrace OneTextOfEachAttempt
 
 is_trace : (w : Setup) (at : FleetAt) (t : List FrameStep) → w.servers ≤ 8 → IsTold w (λ s. (at.servers s).list) at.client.list at.mirror.list at.sent t
     → IsTraceOf w at t
@@ -137,6 +145,14 @@ holds laws claims w at t is =
       held = claims.held w (trace_heard w t) heard_legal;
       counted = claims.counted w (trace_heard w t) heard_legal;
       quiet = claims.quiet w (trace_heard w t) heard_legal;
+      served = claims.served w (trace_heard w t) heard_legal;
+      cut = claims.cut w (trace_heard w t) heard_legal;
+      equal = claims.equal w (trace_heard w t);
+      runs = claims.runs w (trace_heard w t) heard_legal;
+      attempts = claims.attempts w (trace_heard w t) heard_legal;
+      starts = claims.starts w (trace_heard w t);
+      run_texts = claims.run_texts w (trace_heard w t) heard_legal;
+      attempt_texts = claims.attempt_texts w (trace_heard w t) heard_legal;
     }
 
 pub fleets_are_traces : Laws → Claims → FleetsAreTraces

@@ -11,7 +11,7 @@ use Rattle.net_world.specs.Trace.{opening_of, client_opening}
 use Rattle.net_world.specs.Trace as packets
 use Rattle.net_world.specs.Frames.{FrameStep, of_server, of_client, of_mirror, frames_sent, trace_heard, IsFrameTrace}
 use Rattle.net_world.specs.InRange.{FitsFrames}
-use Rattle.net_world.specs.Headline.{OneTaking, HeldIsTheTaken, CountsTheCompleted, QuietUntilTheCheck}
+use Rattle.net_world.specs.Headline.{OneTaking, HeldIsTheTaken, CountsTheCompleted, QuietUntilTheCheck, KeptWhereServed, KeptWhereCut, StatePacketsAreEqual, RunsAreGivenOnce, AttemptsAreGivenOnce, StartsAreAcceptedOnce, OneTextOfEachRun, OneTextOfEachAttempt}
 use Rattle.filters.specs.ServerLives.{next_boot}
 use Rattle.filter_traces.specs.Fleets.{FleetAt, FleetStep, FleetBegins, Ran}
 use Rattle.filter_traces.specs.Again.{BeginsAgain, CanBeDrawn, IsOlder}
@@ -39,6 +39,14 @@ pub record HoldsOneState (w : Setup) (at : FleetAt) (t : List FrameStep) : Type 
   pub held : HeldIsTheTaken w (trace_heard w t)
   pub counted : CountsTheCompleted w (trace_heard w t)
   pub quiet : QuietUntilTheCheck w (trace_heard w t)
+  pub served : KeptWhereServed w (trace_heard w t)
+  pub cut : KeptWhereCut w (trace_heard w t)
+  pub equal : StatePacketsAreEqual w (trace_heard w t)
+  pub runs : RunsAreGivenOnce w (trace_heard w t)
+  pub attempts : AttemptsAreGivenOnce w (trace_heard w t)
+  pub starts : StartsAreAcceptedOnce w (trace_heard w t)
+  pub run_texts : OneTextOfEachRun w (trace_heard w t)
+  pub attempt_texts : OneTextOfEachAttempt w (trace_heard w t)
 
 -- Whatever happened to a fleet is one trace, and its nodes hold one state of each job.
 pub record IsOneTrace (w : Setup) (at : FleetAt) : Type 0 where

@@ -5,7 +5,8 @@ ghost use Rattle.filter_traces.specs.Laws.{FleetsAreTraces, FleetsCanBegin, Flee
 use client_core::notes_are_read_back;
 use messages::{frames_are_read_back, frames_are_readable};
 use net_world::{
-    frames_are_of_packets, one_state_of_each_job, only_sent_is_heard, sent_are_in_range,
+    ends_are_kept, frames_are_of_packets, nothing_differs, numbers_are_given_once,
+    one_state_of_each_job, one_text_of_each, only_sent_is_heard, sent_are_in_range,
 };
 
 /// Whatever happens to the filters of a client, its servers and its mirror, what came to their nodes is one trace, of
@@ -20,6 +21,10 @@ pub fn fleet_law()
     frames_are_readable();
     frames_are_read_back();
     one_state_of_each_job();
+    ends_are_kept();
+    nothing_differs();
+    numbers_are_given_once();
+    one_text_of_each();
 }
 
 /// A fleet of any number of servers can begin, with a mirror and without one, all of whose servers begin over empty

@@ -17,4 +17,12 @@ returns c =
       held = c.one_state_of_each_job.ensures.held;
       counted = c.one_state_of_each_job.ensures.counted;
       quiet = c.one_state_of_each_job.ensures.quiet;
+      served = c.ends_are_kept.ensures.served;
+      cut = c.ends_are_kept.ensures.cut;
+      equal = c.nothing_differs.ensures.packets;
+      runs = c.numbers_are_given_once.ensures.runs;
+      attempts = c.numbers_are_given_once.ensures.attempts;
+      starts = c.numbers_are_given_once.ensures.starts;
+      run_texts = c.one_text_of_each.ensures.runs;
+      attempt_texts = c.one_text_of_each.ensures.attempts;
     })
