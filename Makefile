@@ -10,7 +10,8 @@ build:
 test:
 	./test
 
-# Installs what `make build` has built, the scripts for job files and for worlds, and the licences.
+# Installs what `make build` has built, the scripts for job files and for worlds, the unit of a fleet's
+# servers, which it doesn't enable, and the licences.
 install:
 	@for it in $(PROGRAMS); do [ -x $$it ] || { echo "make install: $$it isn't there: make build" >&2; exit 1; }; done
 	install -d $(TO)/bin $(TO)/share/doc/fiocut
@@ -21,6 +22,8 @@ install:
 	install -m 644 harness/client/*.py $(TO)/lib/fiocut/harness/client
 	install -m 755 examples/from-fio $(TO)/lib/fiocut/examples
 	ln -sf ../lib/fiocut/harness/fleet $(TO)/bin/fleet
+	install -d $(TO)/lib/systemd/system
+	sed 's|/usr/local/|$(PREFIX)/|' harness/server/fleet-server@.service >$(TO)/lib/systemd/system/fleet-server@.service
 	install -m 644 LICENSE-MIT LICENSE-APACHE CHANGELOG.md VERSION $(TO)/share/doc/fiocut
 
 clean:

@@ -44,6 +44,7 @@ MAY_BE = {
     "mounts": ("where nothing can be mounted", mounts_nothing),
     "boot id": ("where the number of a machine's start can't be replaced", fails("unshare", "-m", "mount", "--bind", "/dev/null", "/proc/sys/kernel/random/boot_id")),
     "loop device": ("where there is no loop device", has_no_loop_device),
+    "systemd-analyze": ("where systemd isn't installed", lacks("systemd-analyze")),
     "mkfs.ext4": ("where mkfs.ext4 isn't installed", lacks("mkfs.ext4")),
 }
 

@@ -22,22 +22,41 @@ on = "./relay on"
 """
 
 
+# What a book may say, the option of each, and of what kind it is.
+KEYS = {"servers": ("server", list), "note": ("note", str), "mirror": ("mirror", str), "cut": ("cut", str), "off": ("off", str), "on": ("on", str)}
+MOST_SERVERS = 8
+
+
+def book_in(path):
+    """Returns what a book says, where each word of it is known, and of its kind."""
+    import tomllib # (since Python 3.11; who has none says all by options)
+
+    try:
+        with open(path, "rb") as it:
+            book = tomllib.load(it)
+    except (tomllib.TOMLDecodeError, UnicodeDecodeError) as error:
+        raise Refused(f"{path}: {error}") from None
+    for key, said in book.items():
+        if key not in KEYS:
+            raise Refused(f"{path}: {key}: there is no such word; there are {', '.join(KEYS)}")
+        if not isinstance(said, KEYS[key][1]) or (key == "servers" and not all(isinstance(it, str) for it in said)):
+            raise Refused(f"{path}: {key}: this wants {'a list of commands' if key == 'servers' else 'a text'}")
+    return book
+
+
 def read_book(of):
     """Fills in what the command line doesn't say."""
-    book = {}
-    if of.book:
-        import tomllib # (since Python 3.11; who has none says all by options)
-
-        with open(of.book, "rb") as it:
-            try:
-                book = tomllib.load(it)
-            except tomllib.TOMLDecodeError as error:
-                raise Refused(f"{of.book}: {error}") from None
-    for name, key in (("server", "servers"), ("note", "note"), ("mirror", "mirror"), ("cut", "cut"), ("off", "off"), ("on", "on")):
+    try:
+        book = book_in(of.book) if of.book else {}
+    except ImportError:
+        raise Refused(f"{of.book}: an address book wants Python 3.11; options say the same") from None
+    for key, (name, _) in KEYS.items():
         if hasattr(of, name) and getattr(of, name) is None:
             setattr(of, name, book.get(key))
     for name, option in (("server", "--server"), ("note", "--note")):
         if not getattr(of, name):
             raise Refused(f"{option} has to be said, or an address book that has it")
+    if len(of.server) > MOST_SERVERS:
+        raise Refused(f"--server: a fleet has {MOST_SERVERS} servers at most, and here are {len(of.server)}")
     if of.command == "cycle" and not (of.off and of.on):
         raise Refused("--off and --on have to be said, or an address book that has them")

@@ -7,48 +7,72 @@ import time
 
 from links import Link
 from mirror import Copies
-from note import KeptNote, Refused, first_note, new_generation, numbers_of
-from queries import Answers, is_answer
-from records import BEGIN, ENDED, FRAME, GOOD, LOOK, MIRROR, NONE, NOTE, NO_SAVED, NUMBER, OPEN, OUTCOME, REFUSALS, REPORT, REQUESTS, SAVE, SEND, SHOW, STOP, TICK, TRIGGER, VERIFY
+from note import KeptNote, Refused, drawn_fleet, first_note, new_generation, numbers_of
+from queries import HELLO, QUERY_HELLO, Answers, is_answer, query
+from records import BEGIN, ENDED, ENDS_OF, END_AT, END_OF_ALL, FRAME, GOOD, LOOK, MIRROR, NONE, NOTE, NUMBER, OPEN, OUTCOME, REFUSALS, REPORT, REQUESTS, SAVE, SEND, SHOW, STOP, TICK, TRIGGER, VERIFY
 from records import Report, addressee, read_record, record
+from verdicts import Place, Verdict
 
 # So often what isn't answered is asked for again.
 TICKS = 1
+# So long a check is waited for behind the last moment in which its server has read, in seconds.
+LONGEST_READ = 2
+# What a refusal of the client's own, and one of a server, means to who reads it.
+REASONS = {1: ": the job file is longer than 16,384 bytes", 73: ": the note has no room for more states, and a new one has to be begun"}
+WHY_REFUSED = {60: ": it has served a later run than any of this note: of another fleet, or by a clock that was ahead"}
 
 
 class Fleet:
     """Carries out what the node says, in its order: a save is on the disk before anything behind it
     leaves this process."""
 
-    def __init__(self, note, commands, run=0, mirror=None):
+    def __init__(self, note, commands, run=0, mirror=None, wait=60):
         """Starts the client on its note, or on a first one by which that run was begun. With a mirror
         it begins anew where there is no note."""
         self.kept, self.commands, self.copies = KeptNote(note), commands, Copies()
-        opening, more = self.open(run, mirror)
         self.lock, self.changed = threading.Lock(), threading.Condition()
         self.told, self.answered, self.answers = 0, 0, {}
-        self.number, self.outcomes, self.reports, self.full_passes, self.end = None, {}, [], set(), None
+        self.number, self.outcomes, self.reports, self.end = None, {}, [], None
+        self.places, self.verdict = [], None # as an attempt was told last
+        self.process, self.links, self.servers, self.mirror = None, [], [], None
+        before = self.kept.read()
+        self.name_fleet(mirror, wait)
+        opening, more = self.open(before, run, mirror)
         words = [os.environ.get("NODE", "fiocut_node"), "client", str(len(commands)), *more]
         try:
             self.process = subprocess.Popen(words, stdin=subprocess.PIPE, stdout=subprocess.PIPE, start_new_session=True)
         except OSError as error:
             raise Refused(f"{words[0]}: {error.strerror}") from None
-        self.links, self.servers, self.mirror = [], [], None
         self.listener = threading.Thread(target=self.run, daemon=True)
         self.listener.start()
         fault = self.ask(NOTE, opening)
         if fault:
             raise Refused(f"{note}: the node refuses it, {fault}")
-        self.links = [Link(it, lambda frame, at=at: self.hear(at, frame)) for at, it in enumerate(commands)]
+        self.links = [Link(it, lambda frame, at=at: self.hear(at, frame), lambda at=at: self.hello(at), self.ask_again) for at, it in enumerate(commands)]
         self.servers = [Answers(it) for it in self.links]
         if mirror:
-            self.mirror = Link(mirror, self.hear_mirror)
             self.tell(TICK)
         threading.Thread(target=self.tick, daemon=True).start()
 
-    def open(self, run, mirror):
+    def hello(self, whom):
+        return query(QUERY_HELLO, HELLO.pack(self.kept.fleet, whom, len(self.commands), self.kept.before))
+
+    def name_fleet(self, mirror, wait):
+        """Begins the link to the mirror. Where the note doesn't say which fleet this is, the mirror may
+        know it; else it is drawn. It is kept with the note from then on."""
+        if self.kept.servers not in (0, len(self.commands)):
+            raise Refused(f"{self.kept.path}: this is the note of a fleet of {self.kept.servers} servers, and here are {len(self.commands)}")
+        self.kept.servers = len(self.commands)
+        if mirror:
+            self.mirror = Link(mirror, self.hear_mirror, lambda: self.hello(MIRROR), self.ask_again)
+        if not self.kept.fleet and mirror:
+            if not self.mirror.welcomed.wait(wait):
+                raise Refused("the mirror doesn't answer, and which fleet it is of isn't known")
+            self.kept.fleet = self.mirror.welcome.fleet
+        self.kept.fleet = self.kept.fleet or drawn_fleet()
+
+    def open(self, note, run, mirror):
         """Returns the note that the node is opened over, and how."""
-        note = self.kept.read()
         if note is None and mirror:
             return b"", ["renew", str(new_generation())]
         if note is None:
@@ -59,7 +83,7 @@ class Fleet:
         return note, ["mirror"] if mirror else []
 
     def hear_mirror(self, frame):
-        if not is_answer(frame):
+        if not is_answer(frame) and self.process:
             self.tell(FRAME, frame)
         self.copies.hear(frame)
 
@@ -101,6 +125,10 @@ class Fleet:
                 raise Refused(self.end)
             return self.answers.pop(turn)
 
+    def hears(self):
+        """Whether the node is there."""
+        return not self.end
+
     def run(self):
         """Where the note can't be kept, the node ends: nothing behind the save may be carried
         out."""
@@ -110,7 +138,9 @@ class Fleet:
                 self.carry_out(*said)
         except OSError as error:
             end = f"{self.kept.path}: {error.strerror}"
-            self.process.kill()
+        except (struct.error, IndexError, MemoryError):
+            end = "fiocut_node: it says what no client says"
+        self.process.kill()
         with self.changed:
             self.end = end
             self.changed.notify_all()
@@ -119,7 +149,6 @@ class Fleet:
         if kind == SAVE:
             self.kept.keep(body)
         elif kind == SEND:
-            self.note_full_pass(body)
             to = self.mirror if addressee(body) == MIRROR else self.links and self.links[addressee(body)]
             if to: # (the node may say some before there are any: they are lost)
                 to.send(body)
@@ -136,16 +165,19 @@ class Fleet:
             self.outcomes[request, number, server] = outcome
         elif kind == REPORT:
             self.reports.append(Report(body))
+        elif kind == END_AT:
+            self.places.append(Place(body))
+        elif kind == END_OF_ALL:
+            self.verdict = Verdict(body, self.places)
         elif kind == ENDED:
             self.answered += 1
             if self.answered in self.answers:
                 self.answers[self.answered] = body[0]
 
-    def note_full_pass(self, frame):
-        """Where the client says that it has no such state, the job is checked without one."""
-        if frame[3] == NO_SAVED:
-            attempt, job = struct.unpack(">QI", frame[24:36])
-            self.full_passes.add((attempt, addressee(frame), job))
+    def ask_again(self):
+        """What was said before a link was there is lost: it is said again."""
+        if self.process:
+            self.tell(TICK)
 
     def tick(self):
         while not self.end:
@@ -156,7 +188,7 @@ class Fleet:
         """Asks for a run or an attempt, and returns its number."""
         fault = self.ask(kind, body)
         if fault:
-            raise Refused(f"{what}: refused {fault}")
+            raise Refused(f"{what}: refused {fault}{REASONS.get(fault, '')}")
         return self.number
 
     def begin(self, text):
@@ -178,14 +210,32 @@ class Fleet:
         return [self.outcomes.get((REQUESTS[request], number, it), NONE) for it in range(len(self.commands))]
 
     def settle(self, request, number, seconds):
-        """Waits until a request has ended at each server, so long at most, and returns how it
-        stands."""
-        until = time.monotonic() + seconds
+        """Waits until a request has ended at each server, so long at most, or a check as long as a server
+        says that it reads; and returns how it stands."""
+        until, asks = time.monotonic() + seconds, 0
         while True:
             now = self.stand(request, number)
-            if not {NONE, OPEN} & set(now) or time.monotonic() > until:
+            still = [it for it, outcome in zip(self.servers, now) if outcome in (NONE, OPEN)]
+            if request == "verify" and any(it.reads_now() for it in still):
+                until = max(until, time.monotonic() + LONGEST_READ)
+            if not still or time.monotonic() > until:
                 return now
+            if time.monotonic() > asks:
+                for it in self.servers:
+                    it.ask_ends()
+                asks = time.monotonic() + 1
             time.sleep(0.02)
+
+    def stands(self, server, outcome, run):
+        """Returns in words how a request of a run stands at a server."""
+        if outcome == GOOD:
+            return "good"
+        if outcome not in (NONE, OPEN):
+            return f"refused {outcome} {REFUSALS.get(outcome, '')}".strip() + WHY_REFUSED.get(outcome, "")
+        if self.links[server].refusal:
+            return f"no answer: {self.links[server].refusal}"
+        other = self.servers[server].writes_now()
+        return f"busy with run {other}" if other not in (0, run) else "no answer"
 
     def take_reports(self):
         """Returns all reports that came in this life."""
@@ -194,6 +244,14 @@ class Fleet:
             had = len(self.reports)
             self.ask(SHOW, struct.pack(">Q", had))
         return self.reports
+
+    def ask_verdict(self, run, attempt):
+        """Returns how an attempt to verify a run ended, by all that came in this life."""
+        self.places, self.verdict = [], None
+        fault = self.ask(ENDS_OF, struct.pack(">QQ", run, attempt))
+        if fault or not self.verdict:
+            raise Refused(f"how the check of run {run} ended isn't told: refused {fault}")
+        return self.verdict
 
     def close(self):
         """Ends this life. What the node had said by then is carried out before its note is given up:
@@ -204,9 +262,3 @@ class Fleet:
         self.process.wait()
         self.listener.join()
         self.kept.close()
-
-
-def told(outcome):
-    """Returns an outcome in words."""
-    words = {NONE: "no answer", OPEN: "no answer", GOOD: "good"}
-    return words.get(outcome) or f"refused {outcome} {REFUSALS.get(outcome, '')}".strip()

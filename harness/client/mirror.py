@@ -8,9 +8,9 @@ import sys
 import threading
 import time
 
-from note import MIRROR, KeptNote, Refused
-from queries import COPIES, COPIES_SENT, is_answer, query
-from records import COPY, COPY_OK, ENDED, FRAME, FRAME_HEAD, GRANTED, NOTE, SAVE, SEND, read_frame, read_record, record
+from note import MIRROR, KeptNote, Refused, open_own
+from queries import COPIES, COPIES_SENT, HEAD, HELLO, QUERY_HELLO, is_answer, query, welcome
+from records import COPY, COPY_OK, ENDED, FRAME, FRAME_HEAD, GRANTED, NOTE, SAVE, SEND, enveloped, read_frame, read_record, record
 
 # So often a mirror looks whether another has taken its place.
 LOOKS = 0.1
@@ -33,15 +33,22 @@ def take_place(path):
             time.sleep(LOOKS)
         os._exit(0) # (a save that it was about to make wasn't answered)
 
-    with open(path + ".new", "w", encoding="ascii") as it:
+    beside = f"{path}.{mine}.new" # (two may begin at once)
+    with open(open_own(beside, os.O_WRONLY | os.O_EXCL), "w", encoding="ascii") as it:
         it.write(mine)
-    os.replace(path + ".new", path)
+    os.replace(beside, path)
     threading.Thread(target=watch, daemon=True).start()
 
 
-def write_all(data):
-    while data:
-        data = data[os.write(sys.stdout.fileno(), data) :]
+writing = threading.Lock()
+
+
+def send_frame(frame):
+    """Writes a frame to the link, whole."""
+    data = enveloped(frame)
+    with writing:
+        while data:
+            data = data[os.write(sys.stdout.fileno(), data) :]
 
 
 class Mirror:
@@ -65,13 +72,25 @@ class Mirror:
 
     def hear_all(self):
         """Hands the node what comes over the link, up to its end."""
+        is_welcome = False
         try:
             while frame := read_frame(sys.stdin.buffer):
-                if not is_answer(frame):
+                if is_answer(frame):
+                    is_welcome = frame[3] == QUERY_HELLO and self.greet(frame[HEAD:])
+                elif is_welcome:
                     self.tell(FRAME, frame)
             self.process.stdin.close()
         except OSError:
             pass # the node has ended
+
+    def greet(self, hello):
+        """Answers a hello, and returns whether it is welcome: a mirror is of the first fleet that it kept
+        a state of."""
+        fleet, _, servers, _ = HELLO.unpack(hello) if len(hello) == HELLO.size else (0, 0, 0, 0)
+        self.kept.fleet, self.kept.servers = self.kept.fleet or fleet, self.kept.servers or servers
+        why = "this mirror keeps the states of another fleet" if fleet not in (0, self.kept.fleet) else ""
+        send_frame(welcome(MIRROR, self.kept.fleet, why))
+        return not why
 
     def run(self):
         """Serves until the link ends. The first end answers the note."""
@@ -83,7 +102,7 @@ class Mirror:
                 self.kept.keep(body)
             elif kind == SEND:
                 sent.append(body)
-                write_all(body)
+                send_frame(body)
             elif kind == ENDED and not is_open and body[0]:
                 raise Refused(f"{self.kept.path}: the node refuses it, {body[0]}")
             elif kind == ENDED:
@@ -94,7 +113,7 @@ class Mirror:
         """Where a generation was granted, says behind the copies how many there were."""
         for granted in (it for it in sent if it[3] == GRANTED):
             generation = struct.unpack(">Q", granted[FRAME_HEAD : FRAME_HEAD + 8])[0]
-            write_all(query(COPIES, COPIES_SENT.pack(generation, sum(it[3] == COPY for it in sent))))
+            send_frame(query(COPIES, COPIES_SENT.pack(generation, sum(it[3] == COPY for it in sent))))
 
 
 class Copies:
@@ -109,12 +128,13 @@ class Copies:
         kind, body = frame[3], frame[FRAME_HEAD:]
         with self.changed:
             if is_answer(frame):
-                generation, self.sent[generation] = COPIES_SENT.unpack(body)
-            elif kind == GRANTED:
+                if len(body) == COPIES_SENT.size:
+                    generation, self.sent[generation] = COPIES_SENT.unpack(body)
+            elif kind == GRANTED and len(body) == 8:
                 self.granted.add(struct.unpack(">Q", body)[0])
             elif kind == COPY:
                 self.came.add(body)
-            elif kind == COPY_OK:
+            elif kind == COPY_OK and len(body) >= 16:
                 self.kept.add(struct.unpack(">QII", body[:16]))
             self.changed.notify_all()
 

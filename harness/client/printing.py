@@ -1,12 +1,14 @@
 """What a fleet prints: the writes of a run, the reports of a check, and the maps of what is faulty."""
 import json
 import re
+import time
 
 import texts
 from mapping import map_job
 from say import say
 from states import states_in
-from stories import FAILED, FAULTS, NO_VERDICT, SOUND, status_of
+from stories import FAILED, SOUND
+from verdicts import UNREAD, WORDS
 
 
 def print_written(written, as_json):
@@ -15,26 +17,38 @@ def print_written(written, as_json):
     if written.states and not as_json:
         print(form.format(*names))
     for it in written.states:
-        row = (it.server, it.job, it.issued, it.done, it.issued - it.done, round(it.done / written.seconds))
+        row = (it.server, it.job, it.issued, it.done, it.issued - it.done, round(it.done / max(written.seconds, 0.001)))
         print(json.dumps({"run": written.run, **dict(zip(names, row))}) if as_json else form.format(*row), flush=True)
     if as_json:
-        print(json.dumps({"run": written.run, "kept": written.is_kept, "seconds": round(written.seconds, 3)}), flush=True)
+        print(json.dumps({"run": written.run, "kept": written.is_kept, "seconds": round(written.seconds, 3), "failure": written.failure}), flush=True)
     else:
-        print(f"run {written.run}: " + ("the states are kept" if written.is_kept else "not all states are kept"), flush=True)
+        failed = f"; a write has failed: {written.failure}" if written.failure else ""
+        print(f"run {written.run}: " + ("the states are kept" if written.is_kept else "not all states are kept") + failed, flush=True)
 
 
-def print_reports(run, reports, as_json, map_of=None):
-    """Prints a line for each job at each server, and behind it what a map tells of its blocks, where
-    it has faults, or one that can't be read."""
-    for it, is_full in reports:
-        whose = {"run": run, "server": it.server, "job": it.job}
-        by = "without a state, which is no verdict: " if is_full else ""
+def print_places(verdict, reports, as_json, map_of=None):
+    """Prints a line for each job at each server, how its check ended, and behind it what a map tells of its
+    blocks, where it has faults, or one that can't be read."""
+    for it in verdict.places:
+        report = reports.get((it.server, it.job)) if it.has_report() else None
         if as_json:
-            print(json.dumps({**whose, "by_state": not is_full, "checked": it.checked, "faults": it.faults, "end": it.end, "first": it.first}), flush=True)
+            print(json.dumps(row_of(it, report)), flush=True)
         else:
-            print(f"server {it.server} job {it.job}: {by}report {it.line()}", flush=True)
-        for line in map_of(it, is_full) if map_of and (it.faults or it.end != "whole") else ():
+            print(f"server {it.server} job {it.job}: {told(it, report)}", flush=True)
+        for line in map_of(report, not it.is_by_state()) if report and map_of and (it.faults or it.end == UNREAD) else ():
+            whose = {"run": it.run, "server": it.server, "job": it.job}
             print(json.dumps({**whose, **block_in(line), "map": line}) if as_json else f"server {it.server} job {it.job}: {line}", flush=True)
+
+
+def told(place, report):
+    """How a check ended at a place, in words."""
+    by = "" if place.is_by_state() else "without a state, which is no verdict: "
+    return f"{by}report {report.line()}" if report else place.why()
+
+
+def row_of(place, report):
+    row = {"run": place.run, "server": place.server, "job": place.job, "by_state": place.is_by_state(), "checked": place.checked, "faults": place.faults}
+    return row | ({"end": report.end, "first": report.first} if report else {"end": None, "why": place.why()})
 
 
 def block_in(line):
@@ -64,12 +78,41 @@ def maps_of(fleet, job_file, wait=60):
     return map_of
 
 
-def print_total(run, outcomes, reports, as_json):
-    status = status_of(outcomes, reports)
-    words = {SOUND: "sound", FAULTS: "faults", FAILED: "not checked whole", NO_VERDICT: "no verdict"}[status]
-    checked, faults = (sum(getattr(it, name) for it, is_full in reports if not is_full) for name in ("checked", "faults"))
+def print_total(verdict, as_json):
+    """Prints what a check came to, in the node's word, and returns the status that this is."""
+    words = WORDS[verdict.word]
     if as_json:
-        print(json.dumps({"run": run, "verdict": words, "checked": checked, "faults": faults, "status": status}), flush=True)
+        print(json.dumps({"run": verdict.run, "verdict": words, "checked": verdict.checked, "faults": verdict.faults, "status": verdict.word}), flush=True)
     else:
-        print(f"run {run}: {words}, {checked} checked, {faults} faults", flush=True)
-    return status
+        print(f"run {verdict.run}: {words}, {verdict.checked} checked, {verdict.faults} faults", flush=True)
+    return verdict.word
+
+
+def print_status(fleet, wait, as_json):
+    """Prints a line for each server: whether it answers, which run it has written last, and how that went.
+    Returns whether all answer, as a status."""
+    until = time.monotonic() + wait
+    while time.monotonic() < until and not all(it.came for it in fleet.servers):
+        for it in fleet.servers:
+            it.ask_ends()
+        time.sleep(0.2)
+    time.sleep(1)
+    for it in fleet.servers:
+        it.ask_ends()
+    time.sleep(0.5)
+    for server, answers in enumerate(fleet.servers):
+        row = {"server": server, "answers": answers.came is not None, "why": fleet.links[server].refusal or ""}
+        row |= {"run": answers.last_run(), "writes": bool(answers.writes_now())}
+        ends = answers.ends_of(row["run"])
+        row |= {"done": ends.done if ends else 0, "failed": ends.failed if ends else 0, "failure": ends.why if ends else ""}
+        print(json.dumps(row) if as_json else status_line(row), flush=True)
+    return SOUND if all(it.came for it in fleet.servers) else FAILED
+
+
+def status_line(row):
+    if not row["answers"]:
+        return f"server {row['server']}: no answer" + (f": {row['why']}" if row["why"] else "")
+    if not row["run"]:
+        return f"server {row['server']}: it has written nothing since it was started"
+    failed = f", {row['failed']} failed: {row['failure']}" if row["failed"] else ""
+    return f"server {row['server']}: {'writes' if row['writes'] else 'has written'} run {row['run']}, {row['done']} done{failed}"

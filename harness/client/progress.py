@@ -23,6 +23,17 @@ class Progress:
     def total_done(self):
         return sum(self.done)
 
+    def total(self):
+        """How many writes all servers have together, or None where that isn't known."""
+        return self.totals() and self.totals() * len(self.done)
+
+    def failed(self):
+        """Why a write of the run has failed, and where, or nothing."""
+        for server, ends in enumerate(self.ends()):
+            if ends and ends.failed:
+                return f"server {server}: {ends.why or 'it says no more'}"
+        return ""
+
     def ask(self):
         self.asked = time.monotonic()
         for it in self.fleet.servers:
@@ -31,7 +42,7 @@ class Progress:
     def ends(self):
         """How many writes of each server are done, and have failed, by what came last."""
         ends = [it.ends_of(self.run) for it in self.fleet.servers]
-        self.done = [max(had, it[0]) if it else had for had, it in zip(self.done, ends)]
+        self.done = [max(had, it.done) if it else had for had, it in zip(self.done, ends)]
         return ends
 
     def step(self):
@@ -54,6 +65,6 @@ class Progress:
             return f"server {server} doesn't say"
         total = self.totals()
         far = f" of {total}" if total else ""
-        failed = f", {ends[1]} failed" if ends[1] else ""
+        failed = f", {ends.failed} failed" if ends.failed else ""
         speed = f"{(self.done[server] - self.before[server]) / seconds:.0f} writes a second, " if seconds else ""
         return f"server {server} {speed}{self.done[server]}{far} done{failed}"

@@ -27,14 +27,14 @@ def reading(path):
 
 
 class Total:
-    """How many writes the jobs of a text have together, which `fiocut jobs` tells; none where it
-    isn't at hand, or hasn't told it yet."""
+    """What `fiocut jobs` tells of a text: of each job how large its blocks are and how many there are, and
+    how many writes all have together."""
 
     def __init__(self, text):
-        self.text, self.value = text, None
-        self.program = os.environ.get("FIOCUT") or shutil.which("fiocut")
-        if self.program:
-            threading.Thread(target=self.ask, daemon=True).start()
+        self.text, self.jobs, self.value, self.refusal = text, [], None, ""
+        self.program = os.environ.get("FIOCUT") or shutil.which("fiocut") or ""
+        self.thread = threading.Thread(target=self.ask, daemon=True)
+        self.thread.start()
 
     def ask(self):
         try:
@@ -42,7 +42,22 @@ class Total:
         except OSError:
             return
         if ran.returncode == 0:
-            self.value = sum(int(it) for it in re.findall(rb"^job .* total=(\d+) bs=", ran.stdout, re.M))
+            rows = [[int(it) for it in row] for row in re.findall(rb"^job (\d+) .* blocks=(\d+) total=(\d+) bs=(\d+)", ran.stdout, re.M)]
+            self.jobs = [(job, size, blocks) for job, blocks, _, size in rows]
+            self.value = sum(total for _, _, total, _ in rows)
+        else:
+            self.refusal = ran.stdout.decode(errors="replace").strip()
+
+    def await_jobs(self):
+        self.thread.join()
+        if self.refusal:
+            raise Refused(f"the job file: {self.refusal}")
+        if not self.jobs:
+            raise Refused(f"{self.program or 'fiocut'}: it tells no job: FIOCUT has to name the program, and the file has to have jobs")
+
+    def wishes(self):
+        """What a server is asked of each job, before it writes."""
+        return self.jobs
 
     def __call__(self):
         return self.value

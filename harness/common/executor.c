@@ -4,6 +4,7 @@
 
 #include <errno.h>
 #include <inttypes.h>
+#include <stdio.h>
 #include <string.h>
 
 uint64_t place_of_slot(const struct executor *executor, size_t slot) {
@@ -21,7 +22,12 @@ static const char *why_failed(const struct executor *executor, long answer) {
 struct ending ending_of(const struct executor *executor, size_t slot, long answer) {
     struct order order = order_of(&executor->slots, slot);
     bool is_done = answer == (long)executor->region.block_size;
-    if (!is_done) say("%s: write %" PRIu64 " to block %" PRIu64 " failed: %s", executor->target->name, order.write, order.block, why_failed(executor, answer));
+    if (!is_done) {
+        char why[240];
+        snprintf(why, sizeof why, "%s: write %" PRIu64 " to block %" PRIu64 " failed: %s", executor->target->name, order.write, order.block, why_failed(executor, answer));
+        say("%s", why);
+        if (executor->tell_why) executor->tell_why(executor->whose, why);
+    }
     return (struct ending){order.write, order.block, is_done};
 }
 

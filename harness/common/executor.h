@@ -36,6 +36,8 @@ struct executor {
     bool summed;    /* it is a link, on which each has its sum */
     void *whose;    /* is given to these two */
     void (*tell)(void *whose, const struct ending *endings, size_t count);
+    /* Where it isn't NULL: why a write failed, before its end is told. */
+    void (*tell_why)(void *whose, const char *why);
     /* The stream has ended, and this stood behind its last order. */
     void (*tell_last)(void *whose, const void *bytes, size_t length);
     struct slots slots;

@@ -137,25 +137,18 @@ static void make_room(struct target *target, uint64_t bytes) {
     target->size = bytes;
 }
 
-/* Opens it, and looks at whether it may be written, and what it holds, also where the region is that
- * is to be written, if that is known. */
-static struct target open_guarded(const struct opening *opening, const struct region *region, bool *is_new) {
+struct target open_for_later(const struct opening *opening, bool *is_new) {
     struct target target = open_target(opening, true, is_new);
-    refuse_unfit(&target, opening, region ? region->block_size : 0);
-    if (!*is_new && !opening->yes) refuse_other_bytes(&target, region);
-    return target;
-}
-
-struct target open_for_later(const struct opening *opening) {
-    bool is_new;
-    struct target target = open_guarded(opening, NULL, &is_new);
-    if (is_new) make_room(&target, 0);
+    refuse_unfit(&target, opening, 0);
+    if (*is_new) make_room(&target, 0);
     return target;
 }
 
 struct target open_to_write(const struct opening *opening, const struct region *region) {
     bool is_new;
-    struct target target = open_guarded(opening, region, &is_new);
+    struct target target = open_target(opening, true, &is_new);
+    refuse_unfit(&target, opening, region->block_size);
+    if (!is_new && !opening->yes) refuse_other_bytes(&target, region);
     if (is_device(&target) && target.size < end_of(region)) give_up(target.name, "it is shorter than the job's region");
     if (opening->atomic) make_atomic(&target, region->block_size);
     refuse_torn(&target, region->block_size, opening->torn);

@@ -42,8 +42,9 @@ struct target {
 struct target open_to_write(const struct opening *opening, const struct region *region);
 
 /* The same where the region isn't known yet: a file that is made is empty, and nothing is refused
- * for its blocks or their number. */
-struct target open_for_later(const struct opening *opening);
+ * for its blocks or their number; nor for what it holds, which is for who calls to look at, unless it is
+ * new. */
+struct target open_for_later(const struct opening *opening, bool *is_new);
 
 /* Whether a cut may tear a block of so many bytes, by what is told of its device. */
 bool may_tear(const struct target *target, uint64_t block_size);

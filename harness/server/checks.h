@@ -4,10 +4,13 @@
 
 #include "lane.h"
 
+#include <stdatomic.h>
+
 struct checks {
     struct node *node;
-    const struct lane *lanes; /* of the jobs, by their number */
+    struct lane *lanes; /* of the jobs, by their number */
     size_t lane_count;
+    atomic_uint_fast64_t read; /* so many bytes were read for checks */
     int wants[2]; /* a pipe: to the thread, what is wanted, as it stands in a record */
 };
 

@@ -1,25 +1,26 @@
 #include "door.h"
 
 #include "bytes.h"
+#include "clock.h"
 #include "say.h"
 
 #include <errno.h>
+#include <inttypes.h>
 #include <poll.h>
 #include <stdio.h>
 #include <stdlib.h>
 #include <string.h>
 #include <sys/socket.h>
-#include <sys/time.h>
 #include <sys/un.h>
 #include <unistd.h>
 
-/* Where it stands in a head how long the rest is; no frame or query is longer than this. A link that
- * takes nothing for so many seconds is closed. */
-enum { LENGTH_AT = 12, LONGEST = 64 << 20, SECONDS = 5 };
+/* What goes out has to be taken within so many milliseconds, else the link is closed; and where the
+ * kind of a query stands, and how long its rest is. */
+enum { TAKEN_WITHIN = 5000, KIND_AT = 3, REST_AT = 12, MOST_WORDS = 160 };
 
 static struct sockaddr_un address_of(const char *path) {
     struct sockaddr_un address = {.sun_family = AF_UNIX};
-    if (strlen(path) >= sizeof address.sun_path) give_up(path, "no socket's path may be so long");
+    if (strlen(path) >= sizeof address.sun_path) give_up(path, "no socket's path may be so long: --socket says another one");
     memcpy(address.sun_path, path, strlen(path) + 1);
     return address;
 }
@@ -28,61 +29,119 @@ static struct sockaddr_un address_of(const char *path) {
 struct visit {
     struct door *door;
     int link;
+    bool is_welcome;
 };
 
-/* A query begins otherwise than a frame. */
-static bool is_query(const uint8_t *bytes) {
-    return memcmp(bytes, "FH", 2) == 0;
+/* Writes two pieces to a link, one behind the other, in time. */
+static bool write_within(int link, struct iovec pieces[2], uint64_t until) {
+    while (pieces[0].iov_len + pieces[1].iov_len > 0) {
+        const struct msghdr message = {.msg_iov = pieces, .msg_iovlen = 2};
+        ssize_t count = sendmsg(link, &message, MSG_DONTWAIT | MSG_NOSIGNAL);
+        if (count < 0 && errno == EAGAIN && milliseconds() < until) poll(&(struct pollfd){link, POLLOUT, 0}, 1, TAKEN_WITHIN);
+        else if (count < 0 && errno != EINTR) return false;
+        for (int at = 0; at < 2 && count > 0; at++) {
+            size_t taken = (size_t)count < pieces[at].iov_len ? (size_t)count : pieces[at].iov_len;
+            pieces[at].iov_base = (uint8_t *)pieces[at].iov_base + taken, pieces[at].iov_len -= taken, count -= (ssize_t)taken;
+        }
+    }
+    return true;
 }
 
-/* Reads a frame or a query. Returns its bytes, from malloc, or NULL where the link has ended. */
-static uint8_t *read_frame(int link, size_t *length) {
-    uint8_t head[FRAME_HEAD];
-    if (read_all(link, head, sizeof head) != sizeof head) return NULL;
-    uint32_t rest = get_32(head + LENGTH_AT);
-    if (rest > LONGEST || (memcmp(head, "FC", 2) && !is_query(head))) return say("what came over the link is no frame: it is closed"), NULL;
-    uint8_t *frame = malloc(FRAME_HEAD + rest);
-    if (!frame) give_up("memory", strerror(ENOMEM));
-    memcpy(frame, head, sizeof head);
-    *length = FRAME_HEAD + rest;
-    if (read_all(link, frame + FRAME_HEAD, rest) == (ssize_t)rest) return frame;
-    free(frame);
-    return NULL;
+/* Sends bytes in an envelope over a link, whole, or ends it: a part may have gone out then, and the rest
+ * is lost with it. What goes out is locked. */
+static void send_over(int link, const uint8_t *bytes, size_t length) {
+    uint8_t head[LINK_HEAD];
+    struct iovec pieces[] = {{head, sizeof head}, {(void *)(uintptr_t)bytes, length}};
+    put_link_head(head, bytes, length);
+    if (!write_within(link, pieces, milliseconds() + TAKEN_WITHIN)) shutdown(link, SHUT_RDWR);
+}
+
+void send_bytes(struct door *door, const uint8_t *bytes, size_t length) {
+    pthread_mutex_lock(&door->sending);
+    pthread_mutex_lock(&door->lock);
+    int link = door->link;
+    pthread_mutex_unlock(&door->lock);
+    if (link >= 0) send_over(link, bytes, length);
+    pthread_mutex_unlock(&door->sending);
+}
+
+/* Why a hello isn't welcome, or nothing. The first that is says which fleet the server serves. */
+static void judge_hello(struct door *door, const uint8_t hello[HELLO_LENGTH], char why[MOST_WORDS]) {
+    uint64_t fleet = get_64(hello), server = get_32(hello + 8);
+    why[0] = 0;
+    if (server != door->me) {
+        snprintf(why, MOST_WORDS, "this link leads to server %" PRIu64, door->me);
+        return;
+    }
+    pthread_mutex_lock(&door->lock);
+    if (door->fleet && door->fleet == get_64(hello + 16)) door->start_anew("another fleet takes the place of the one that was served");
+    if (!door->fleet) door->fleet = fleet;
+    if (!fleet) snprintf(why, MOST_WORDS, "the hello names no fleet");
+    else if (door->fleet != fleet) snprintf(why, MOST_WORDS, "server %" PRIu64 " serves another fleet, since it was started: start it anew for this one", door->me);
+    pthread_mutex_unlock(&door->lock);
+}
+
+/* A link that is welcome takes the place of the one before, which ends. */
+static void take_place(struct visit *visit) {
+    struct door *door = visit->door;
+    pthread_mutex_lock(&door->lock);
+    if (door->link >= 0 && door->link != visit->link) shutdown(door->link, SHUT_RDWR);
+    door->link = visit->link;
+    pthread_mutex_unlock(&door->lock);
+    visit->is_welcome = true;
+}
+
+static void greet(struct visit *visit, const uint8_t *hello) {
+    uint8_t answer[FRAME_HEAD + HERE_LENGTH + MOST_WORDS] = {'F', 'H', 1, ANSWER_WELCOME};
+    char *why = (char *)answer + FRAME_HEAD + HERE_LENGTH;
+    judge_hello(visit->door, hello, why);
+    size_t length = HERE_LENGTH + strlen(why);
+    put_32(answer + REST_AT, (uint32_t)length), put_32(answer + FRAME_HEAD, (uint32_t)visit->door->me), put_64(answer + FRAME_HEAD + 4, visit->door->fleet);
+    if (!*why) take_place(visit);
+    else say("a link isn't welcome: %s", why);
+    pthread_mutex_lock(&visit->door->sending);
+    send_over(visit->link, answer, FRAME_HEAD + length);
+    pthread_mutex_unlock(&visit->door->sending);
 }
 
 /* Takes what has come over a link. False where it is a query that can't be read: then the rest is
  * nothing, either. */
-static bool take(struct door *door, uint8_t *bytes, size_t length) {
+static bool take(struct visit *visit, const uint8_t *bytes, size_t length) {
+    struct door *door = visit->door;
+    if (is_query(bytes) && bytes[KIND_AT] == QUERY_HELLO) {
+        if (length == FRAME_HEAD + HELLO_LENGTH) greet(visit, bytes + FRAME_HEAD);
+        return length == FRAME_HEAD + HELLO_LENGTH;
+    }
+    if (!visit->is_welcome) return true; /* (it is lost, and will be said again) */
+    door->heard = milliseconds();
     if (is_query(bytes)) return door->answer(door->whose, bytes, length);
     await_room(door->node);
-    tell_node(door->node, RECORD_FRAME, &(struct iovec){bytes, length}, 1);
+    tell_node(door->node, RECORD_FRAME, &(struct iovec){(void *)(uintptr_t)bytes, length}, 1);
     return true;
 }
 
 static void *hear(void *given) {
     struct visit visit = *(struct visit *)given;
+    struct door *door = visit.door;
     size_t length;
     bool goes_on = true;
     free(given);
-    for (uint8_t *bytes; goes_on && (bytes = read_frame(visit.link, &length)); free(bytes)) goes_on = take(visit.door, bytes, length);
-    pthread_mutex_lock(&visit.door->lock);
-    if (visit.door->link == visit.link) visit.door->link = -1;
+    for (uint8_t *bytes; goes_on && (bytes = read_envelope(visit.link, &length)); free(bytes)) goes_on = take(&visit, bytes, length);
+    shutdown(visit.link, SHUT_RDWR); /* (who sends over it finds that) */
+    pthread_mutex_lock(&door->lock);
+    if (door->link == visit.link) door->link = -1;
+    pthread_mutex_unlock(&door->lock);
+    pthread_mutex_lock(&door->sending);
     close(visit.link);
-    pthread_mutex_unlock(&visit.door->lock);
+    pthread_mutex_unlock(&door->sending);
     return NULL;
 }
 
-/* Takes a link in the place of the one before, which ends. */
 static void take_link(struct door *door, int link) {
     struct visit *visit = malloc(sizeof *visit);
     pthread_t thread;
     if (!visit) give_up("memory", strerror(ENOMEM));
-    setsockopt(link, SOL_SOCKET, SO_SNDTIMEO, &(struct timeval){SECONDS, 0}, sizeof(struct timeval));
-    *visit = (struct visit){door, link};
-    pthread_mutex_lock(&door->lock);
-    if (door->link >= 0) shutdown(door->link, SHUT_RDWR);
-    door->link = link;
-    pthread_mutex_unlock(&door->lock);
+    *visit = (struct visit){.door = door, .link = link};
     int error = pthread_create(&thread, NULL, hear, visit);
     if (error) give_up("threads", strerror(error));
     pthread_detach(thread);
@@ -97,8 +156,13 @@ static void *stand(void *given) {
     }
 }
 
-struct door shut_door(void) {
-    return (struct door){.lock = PTHREAD_MUTEX_INITIALIZER, .listening = -1, .link = -1};
+struct door shut_door(uint64_t me) {
+    return (struct door){.me = me, .sending = PTHREAD_MUTEX_INITIALIZER, .lock = PTHREAD_MUTEX_INITIALIZER, .listening = -1, .link = -1};
+}
+
+void refuse_long_path(const char *path) {
+    struct sockaddr_un address = address_of(path);
+    if (strlen(address.sun_path) + strlen(".new") >= sizeof address.sun_path) give_up(path, "no socket's path may be so long: --socket says another one");
 }
 
 void open_door(struct door *door, struct node *node, const char *path) {
@@ -115,15 +179,6 @@ void open_door(struct door *door, struct node *node, const char *path) {
     int error = pthread_create(&thread, NULL, stand, door);
     if (error) give_up("threads", strerror(error));
     pthread_detach(thread);
-}
-
-void send_bytes(struct door *door, const uint8_t *bytes, size_t length) {
-    pthread_mutex_lock(&door->lock);
-    if (door->link >= 0 && write_all(door->link, bytes, length)) {
-        shutdown(door->link, SHUT_RDWR); /* (a part of a frame may have gone out: the rest is lost with it) */
-        door->link = -1;
-    }
-    pthread_mutex_unlock(&door->lock);
 }
 
 /* Carries over what is there. False at the end. */

@@ -2,15 +2,16 @@
 
 #include "bytes.h"
 #include "executor.h"
+#include "fits.h"
+#include "options.h"
 #include "say.h"
+#include "taken.h"
 
 #include <errno.h>
 #include <inttypes.h>
+#include <stdio.h>
 #include <string.h>
 #include <unistd.h>
-
-/* The most blocks that a job has. */
-enum { MOST_BLOCKS = 65536 };
 
 /* The orders of one run, as an executor reads them. */
 struct stretch {
@@ -22,6 +23,7 @@ struct stretch {
 struct teller {
     struct lane *lane;
     uint64_t run;
+    const struct executor *executor;
 };
 
 static struct ended ended_of(enum record_kind kind, uint64_t run, uint32_t job, uint64_t write) {
@@ -35,14 +37,21 @@ void tell_end(struct node *node, enum record_kind kind, uint64_t run, uint32_t j
     tell_ended(node, &end, 1);
 }
 
-/* Counts ends that the node was told. Those of a run before the last one come late: they don't
- * count. */
-static void count_ends(struct lane *lane, uint64_t run, size_t done, size_t failed) {
+/* Counts ends that the node was told, and notes why the first that failed did, where that is said.
+ * Those of a run before the last one come late: they don't count. */
+static void count_ends(struct lane *lane, uint64_t run, size_t done, size_t failed, const char *why) {
     lane->done += done;
     pthread_mutex_lock(&lane->lock);
-    if (run > lane->ends.run) lane->ends = (struct ends){.run = run};
-    if (run == lane->ends.run) lane->ends.done += done, lane->ends.failed += failed;
+    struct ends *ends = &lane->ends;
+    if (run > ends->run) *ends = (struct ends){.run = run};
+    if (run == ends->run) ends->done += done, ends->failed += failed;
+    if (run == ends->run && why && !*ends->why) snprintf(ends->why, sizeof ends->why, "%s", why);
     pthread_mutex_unlock(&lane->lock);
+}
+
+static void note_why(void *whose, const char *why) {
+    const struct teller *teller = whose;
+    count_ends(teller->lane, teller->run, 0, 0, why);
 }
 
 struct ends ends_of(struct lane *lane) {
@@ -61,11 +70,13 @@ static void tell_these(void *whose, const struct ending *endings, size_t count) 
         ends[at % MOST_OUT] = ended_of(endings[at].is_done ? RECORD_DONE : RECORD_FAILED, teller->run, teller->lane->job, endings[at].write);
         if (at % MOST_OUT == MOST_OUT - 1 || at + 1 == count) tell_ended(teller->lane->node, ends, at % MOST_OUT + 1);
     }
-    count_ends(teller->lane, teller->run, done, count - done);
+    count_ends(teller->lane, teller->run, done, count - done, NULL);
 }
 
-static void forget_last(void *whose, const void *bytes, size_t length) {
-    (void)whose, (void)bytes, (void)length;
+static void tell_last(void *whose, const void *bytes, size_t length) {
+    const struct teller *teller = whose;
+    (void)bytes, (void)length;
+    end_orders(teller->lane, teller->run, teller->executor);
 }
 
 static void *work(void *given) {
@@ -73,9 +84,10 @@ static void *work(void *given) {
     struct stretch stretch;
     while (read_all(lane->stretches[0], &stretch, sizeof stretch) == sizeof stretch) {
         struct region region = {stretch.block_size, MOST_BLOCKS, lane->offset, lane->stride ? lane->stride : stretch.block_size};
-        struct teller teller = {lane, stretch.run};
+        struct teller teller = {.lane = lane, .run = stretch.run};
         struct executor executor = {.target = lane->target, .region = region, .depth = MOST_OUT, .flush = lane->flush, .orders = stretch.orders, .whose = &teller,
-                                    .tell = tell_these, .tell_last = forget_last};
+                                    .tell = tell_these, .tell_why = note_why, .tell_last = tell_last};
+        teller.executor = &executor;
         carry_out(&executor);
         close(stretch.orders);
     }
@@ -86,19 +98,11 @@ void start_lane(struct lane *lane) {
     pthread_t thread;
     lane->orders = -1;
     pthread_mutex_init(&lane->lock, NULL);
+    if (!lane->target) return;
     make_pipe(lane->stretches);
     int error = pthread_create(&thread, NULL, work, lane);
     if (error) give_up("threads", strerror(error));
     pthread_detach(thread);
-}
-
-/* Whether blocks of this size can be written where the lane writes; else that is said, once a run. */
-static bool is_possible(const struct lane *lane) {
-    bool fits = lane->offset % lane->block_size == 0 && (lane->stride == 0 || (lane->stride % lane->block_size == 0 && lane->stride >= lane->block_size));
-    if (!fits) say("job %" PRIu32 ": blocks of %" PRIu64 " bytes don't lie at its offset and stride: its writes fail", lane->job, lane->block_size);
-    bool tears = may_tear(lane->target, lane->block_size) && !lane->torn;
-    if (tears) say("%s: a cut may tear a block of %" PRIu64 " bytes, as it writes %" PRIu64 " whole; --torn takes that: writes of job %" PRIu32 " fail", lane->target->name, lane->block_size, lane->target->whole, lane->job);
-    return fits && !tears;
 }
 
 /* Begins the orders of a run. Those of the one before end, and its writes. */
@@ -107,8 +111,11 @@ static void begin_run(struct lane *lane, uint64_t run, uint64_t block_size) {
     flush_lane(lane);
     if (lane->orders >= 0) close(lane->orders);
     lane->orders = -1, lane->run = run, lane->block_size = block_size;
-    lane->is_refused = !is_possible(lane);
-    if (lane->is_refused) return;
+    lane->is_refused = !is_fit(lane, block_size, lane->why);
+    if (lane->is_refused) {
+        say("%s: its writes fail", lane->why);
+        return;
+    }
     make_pipe(ends);
     lane->orders = ends[1];
     struct stretch stretch = {run, block_size, ends[0]};
@@ -119,9 +126,10 @@ void take_order(struct lane *lane, const struct record *record) {
     if (record->length <= ORDER_HEAD) give_up("fiocut_node", "it says an order without a block");
     uint64_t run = get_64(record->body), write = get_64(record->body + 12), block_size = record->length - ORDER_HEAD;
     if (run != lane->run || block_size != lane->block_size) begin_run(lane, run, block_size);
+    else if (lane->orders < 0 && !lane->is_refused) give_up("fiocut_node", "it says an order of a run whose state it has taken");
     if (lane->is_refused) {
         tell_end(lane->node, RECORD_FAILED, run, lane->job, write);
-        count_ends(lane, run, 0, 1);
+        count_ends(lane, run, 0, 1, lane->why);
         return;
     }
     uint8_t *head = lane->heads[lane->count];

@@ -2,6 +2,7 @@
  * orders out, reads for its checks, and sends its frames. docs/FLEET.md is the manual. */
 #include "bytes.h"
 #include "checks.h"
+#include "clock.h"
 #include "door.h"
 #include "keeping.h"
 #include "lane.h"
@@ -10,17 +11,21 @@
 #include "options.h"
 #include "queries.h"
 #include "say.h"
+#include "story.h"
+#include "taken.h"
+#include "targets.h"
 
-#include <errno.h>
 #include <inttypes.h>
 #include <libgen.h>
 #include <limits.h>
 #include <signal.h>
+#include <stdatomic.h>
 #include <stdio.h>
 #include <stdlib.h>
 #include <string.h>
 #include <sys/stat.h>
 #include <time.h>
+#include <unistd.h>
 
 struct server {
     struct options options;
@@ -30,38 +35,18 @@ struct server {
     struct queries queries;
     struct target targets[MOST_JOBS];
     struct lane lanes[MOST_JOBS];
+    uint64_t run; /* that of the last order */
+    struct story story;
 };
 
-/* What the server's targets are, in words. */
-static void describe_targets(const struct options *options, char *text, size_t size) {
-    size_t have = 0;
-    for (size_t at = 0; at < options->place_count && have < size; at++)
-        have += (size_t)snprintf(text + have, size - have, "%s@%" PRIu64 "/%" PRIu64 "\n", options->places[at].path, options->places[at].offset, options->places[at].stride);
-    if (have >= size) give_up("the targets", strerror(ENAMETOOLONG));
-}
-
-/* Opens the targets: those that several jobs have once. What they hold is looked at before the server
- * first has them, which stands beside its note: later it may be anything that a cut has left. */
-static void open_targets(struct server *server) {
-    const struct place *places = server->options.places;
-    char path[PATH_MAX], text[8192], before[sizeof text] = "";
-    describe_targets(&server->options, text, sizeof text);
-    path_beside(path, server->options.note, ".targets");
-    if (read_file(path, before, sizeof before - 1) < 0 && errno != ENOENT) give_up_by_errno(path);
-    bool has_them = strcmp(text, before) == 0;
-    for (size_t at = 0; at < server->options.place_count; at++) {
-        size_t same = 0;
-        while (strcmp(places[same].path, places[at].path)) same++;
-        if (same == at) {
-            struct opening opening = server->options.opening;
-            opening.name = places[at].path;
-            opening.yes = opening.yes || has_them;
-            server->targets[at] = open_for_later(&opening);
-        }
-        server->lanes[at] = (struct lane){.node = &server->node, .target = &server->targets[same], .job = (uint32_t)at, .offset = places[at].offset,
-                                          .stride = places[at].stride, .flush = server->options.flush, .torn = server->options.opening.torn};
-    }
-    if (!has_them) keep_file(path, text, strlen(text));
+/* Opens the targets, and gives each job its way there. */
+static void make_lanes(struct server *server) {
+    const struct options *options = &server->options;
+    size_t target_of[MOST_JOBS];
+    open_targets(options, server->targets, target_of);
+    for (size_t at = 0; at < options->place_count; at++)
+        server->lanes[at] = (struct lane){.node = &server->node, .target = &server->targets[target_of[at]], .job = (uint32_t)at, .offset = options->places[at].offset,
+                                          .stride = options->places[at].stride, .flush = options->flush, .torn = options->opening.torn};
 }
 
 /* Says so where keeping the note makes a tested drive keep what lies in its cache. */
@@ -90,30 +75,64 @@ static void *tell_progress(void *given) {
     return NULL;
 }
 
+/* This process, for who begins it anew. */
+static struct server *own_server;
+static char **own_words;
+static atomic_bool begins_anew;
+
+/* Begins anew, as if the machine had been started: the run is over, and what was ordered has landed by
+ * then, or never will, as the process that has ordered it is over, too. */
+static void start_anew(const char *why) {
+    say("%s: the server starts anew", why);
+    begins_anew = true;
+    rest_lanes(own_server->lanes, own_server->options.place_count);
+    kill(own_server->node.child.pid, SIGKILL);
+    wait_for(&own_server->node.child);
+    execv("/proc/self/exe", own_words);
+    give_up_by_errno("/proc/self/exe");
+}
+
+/* Starts anew where a run's client has been gone for too long. */
+static void *look_for_client(void *given) {
+    const struct server *server = given;
+    uint64_t before = 0, since = milliseconds();
+    while (nanosleep(&(struct timespec){1, 0}, NULL) == 0) {
+        uint64_t now = 0, heard = server->door.heard;
+        for (size_t at = 0; at < server->options.place_count; at++) now += server->lanes[at].done;
+        if (heard > since) since = heard;
+        if (now == before) since = milliseconds(); /* (nothing is written) */
+        before = now;
+        if (milliseconds() - since > server->options.orphan * 1000) start_anew("no client is there, and a run goes on");
+    }
+    return NULL;
+}
+
 static void start_all(struct server *server) {
     size_t length;
     pthread_t thread;
     uint8_t *note = read_note(server->options.note, (uint32_t)server->options.me, &length);
-    server->door = shut_door();
-    server->queries = (struct queries){&server->door, server->lanes, server->options.place_count};
-    server->door.whose = &server->queries, server->door.answer = answer_query;
+    server->door = shut_door(server->options.me);
+    server->queries = (struct queries){&server->door, server->lanes, server->options.place_count, &server->checks};
+    server->door.whose = &server->queries, server->door.answer = answer_query, server->door.start_anew = start_anew;
     start_node(&server->node, server->options.me);
     tell_node(&server->node, RECORD_NOTE, &(struct iovec){note, length}, 1);
     free(note);
-    for (size_t at = 0; at < server->options.place_count; at++) start_lane(&server->lanes[at]);
+    for (size_t at = 0; at < MOST_JOBS; at++) {
+        if (at >= server->options.place_count) server->lanes[at] = (struct lane){.node = &server->node, .job = (uint32_t)at};
+        start_lane(&server->lanes[at]);
+    }
     server->checks = (struct checks){.node = &server->node, .lanes = server->lanes, .lane_count = server->options.place_count};
     start_checks(&server->checks);
     if (pthread_create(&thread, NULL, tell_progress, server) == 0) pthread_detach(thread);
+    if (server->options.orphan && pthread_create(&thread, NULL, look_for_client, server) == 0) pthread_detach(thread);
 }
 
 static void take_any_order(struct server *server, const struct record *record) {
     uint32_t job = record->length > ORDER_HEAD ? get_32(record->body + 8) : MOST_JOBS;
-    if (job < server->options.place_count) {
-        take_order(&server->lanes[job], record);
-    } else if (record->length > ORDER_HEAD) {
-        say("job %" PRIu32 " has no target: write %" PRIu64 " fails", job, get_64(record->body + 12));
-        tell_end(&server->node, RECORD_FAILED, get_64(record->body), job, get_64(record->body + 12));
-    }
+    if (job >= MOST_JOBS) give_up("fiocut_node", "it says an order of no job");
+    if (get_64(record->body) != server->run) rest_lanes(server->lanes, server->options.place_count);
+    server->run = get_64(record->body);
+    take_order(&server->lanes[job], record);
 }
 
 static void flush_lanes(struct server *server) {
@@ -126,13 +145,21 @@ static void cut(const struct server *server) {
     if (server->options.cut && run_command(server->options.cut, NULL, 0)) say("%s: it didn't cut the power", server->options.cut);
 }
 
+/* Sends a frame. Where it has a state, its job's target is to stay busy from now on. */
+static void send_frame(struct server *server, const struct record *record) {
+    const uint8_t *state = state_in_frame(record->body, record->length);
+    if (state && job_of_state(state) < server->options.place_count) take_state(&server->lanes[job_of_state(state)], state);
+    send_bytes(&server->door, record->body, record->length);
+    tell_frame(&server->story, record->body, record->length);
+}
+
 /* Carries out what the node says, in its order: what is to be kept is kept before anything behind it
  * leaves this process. */
 static void carry_out_record(struct server *server, const struct record *record) {
     if (record->kind != RECORD_ORDER && record->kind != RECORD_END) flush_lanes(server);
     switch (record->kind) {
     case RECORD_SAVE: keep_note(server->options.note, (uint32_t)server->options.me, record->body, record->length); break;
-    case RECORD_SEND: send_bytes(&server->door, record->body, record->length); break;
+    case RECORD_SEND: send_frame(server, record); break;
     case RECORD_ORDER: take_any_order(server, record); break;
     case RECORD_WANT: take_want(&server->checks, record); break;
     case RECORD_CUT: cut(server); break;
@@ -158,14 +185,17 @@ int main(int count, char **words) {
     struct record record;
     speak_as("fleet-server");
     server.options = read_options(count, words);
+    own_server = &server, own_words = words;
     signal(SIGPIPE, SIG_IGN);
     if (server.options.links) return tie_to(server.options.socket);
+    refuse_long_path(server.options.socket);
     lock_note(server.options.note);
-    open_targets(&server);
+    make_lanes(&server);
     warn_of_one_drive(&server);
     start_all(&server);
     await_opening(&server);
     open_door(&server.door, &server.node, server.options.socket);
     while (next_record(&server.node, &record)) carry_out_record(&server, &record);
+    while (begins_anew) pause(); /* (its node was ended for that) */
     return wait_for(&server.node.child) == 0 ? STATUS_SOUND : STATUS_FAILED;
 }

@@ -4,6 +4,7 @@
 #include "keeping.h"
 #include "record.h"
 #include "say.h"
+#include "sum.h"
 
 #include <errno.h>
 #include <fcntl.h>
@@ -19,20 +20,10 @@
 #define MAGIC "FCNOTE1\n"
 enum { WHOSE_AT = 8, SUM_AT = 12, HEAD = 16, LONGEST = 64 << 20 };
 
-/* The CRC-32 of zlib and of Ethernet, over what comes behind the bytes that gave `sum`. */
-static uint32_t sum_over(uint32_t sum, const uint8_t *bytes, size_t length) {
-    sum = ~sum;
-    for (size_t at = 0; at < length; at++) {
-        sum ^= bytes[at];
-        for (int bit = 0; bit < 8; bit++) sum = sum >> 1 ^ (sum & 1 ? 0xedb88320 : 0);
-    }
-    return ~sum;
-}
-
 void lock_note(const char *path) {
     char beside[PATH_MAX];
     path_beside(beside, path, ".lock");
-    int fd = open(beside, O_RDWR | O_CREAT | O_CLOEXEC, 0644);
+    int fd = open(beside, O_RDWR | O_CREAT | O_NOFOLLOW | O_CLOEXEC, 0644);
     if (fd < 0) give_up_by_errno(beside);
     for (int look = 0; flock(fd, LOCK_EX | LOCK_NB); look++) {
         if (errno != EWOULDBLOCK) give_up_by_errno(beside);
@@ -53,7 +44,7 @@ uint8_t *read_note(const char *path, uint32_t whose, size_t *length) {
     if (!bytes) give_up("memory", strerror(ENOMEM));
     if (read_file(path, bytes, have) != (ssize_t)have) give_up_by_errno(path);
     if (have < HEAD || memcmp(bytes, MAGIC, WHOSE_AT)) give_up(path, "this is no note of a node");
-    if (get_32(bytes + SUM_AT) != sum_over(sum_over(0, bytes + WHOSE_AT, SUM_AT - WHOSE_AT), bytes + HEAD, have - HEAD)) give_up(path, "its bytes aren't those that were kept");
+    if (get_32(bytes + SUM_AT) != zip_sum_over(zip_sum_over(0, bytes + WHOSE_AT, SUM_AT - WHOSE_AT), bytes + HEAD, have - HEAD)) give_up(path, "its bytes aren't those that were kept");
     if (get_32(bytes + WHOSE_AT) != whose) give_up(path, "this is another node's note");
     *length = have - HEAD;
     memmove(bytes, bytes + HEAD, *length);
@@ -66,7 +57,7 @@ void keep_note(const char *path, uint32_t whose, const uint8_t *bytes, size_t le
     memcpy(all, MAGIC, WHOSE_AT);
     put_32(all + WHOSE_AT, whose);
     memcpy(all + HEAD, bytes, length);
-    put_32(all + SUM_AT, sum_over(sum_over(0, all + WHOSE_AT, SUM_AT - WHOSE_AT), bytes, length));
+    put_32(all + SUM_AT, zip_sum_over(zip_sum_over(0, all + WHOSE_AT, SUM_AT - WHOSE_AT), bytes, length));
     keep_file(path, all, HEAD + length);
     free(all);
 }

@@ -18,6 +18,7 @@ static const char USAGE[] =
     "  --socket PATH     the socket of the link; without it FILE.socket\n"
     "  --cut COMMAND     has a shell run COMMAND where the node asks for its cut; without it the client's machine does that\n"
     "  --flush N         tells writes as done behind a flush: N of them, or fewer where no other is out\n"
+    "  --orphan SECONDS  ends a run whose client is gone for so long, by starting anew: 60; 0: it goes on\n"
     "  --yes             writes over what the targets hold; what is mounted or in use it never writes\n"
     "  --torn            takes blocks that are larger than what a device writes whole\n"
     "  --cached          without O_DIRECT and O_DSYNC\n"
@@ -56,12 +57,13 @@ static int read_places(struct options *read, int count, char **words) {
 struct options read_options(int count, char **words) {
     static char socket[PATH_MAX];
     enum { SERVE = 1, LINK = 2 };
-    struct options read = {0};
+    struct options read = {.orphan = 60};
     const struct option all[] = {
         {"--note", &read.note, 0, 0, SERVE | LINK},
         {"--socket", &read.socket, 0, 0, SERVE | LINK},
         {"--cut", &read.cut, 0, 0, SERVE},
         {"--flush", 0, &read.flush, 0, SERVE},
+        {"--orphan", 0, &read.orphan, 0, SERVE},
         {"--yes", 0, 0, &read.opening.yes, SERVE},
         {"--torn", 0, 0, &read.opening.torn, SERVE},
         {"--cached", 0, 0, &read.opening.cached, SERVE},

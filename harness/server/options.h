@@ -4,8 +4,8 @@
 
 #include "target.h"
 
-/* The most jobs that a server has, and so the most targets. */
-enum { MOST_JOBS = 16 };
+/* The most jobs that a server has, and so the most targets; and the most blocks that a job has. */
+enum { MOST_JOBS = 16, MOST_BLOCKS = 65536 };
 
 /* A word for a target: a path, where the first block begins, and how far blocks stand apart. */
 struct place {
@@ -21,6 +21,7 @@ struct options {
     struct opening opening; /* of each target, but for its name */
     const char *note, *socket, *cut;
     uint64_t flush;
+    uint64_t orphan; /* seconds; 0: a run goes on without its client */
 };
 
 /* Reads it; where it can't be read, or asks for help, the program ends. */

@@ -1,6 +1,7 @@
 #include "wanted.h"
 
 #include "say.h"
+#include "taken.h"
 
 #include <errno.h>
 #include <stdlib.h>
@@ -37,9 +38,10 @@ static ssize_t read_blocks(const struct lane *lane, const struct want *want, uin
     return have ? have : -1;
 }
 
-struct found read_wanted(const struct lane *lanes, size_t lane_count, const struct want *want) {
+struct found read_wanted(struct lane *lanes, size_t lane_count, const struct want *want) {
     if (want->job >= lane_count) return (struct found){.name = "no target", .why = "there is none for that job"};
     struct found found = {.name = lanes[want->job].target->name};
+    rest_lanes(lanes, lane_count);
     if (posix_memalign(&found.bytes, PAGE, (size_t)want->count * want->block_size)) give_up("memory", strerror(ENOMEM));
     ssize_t have = read_blocks(&lanes[want->job], want, found.bytes);
     if (have < 0) {

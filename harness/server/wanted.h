@@ -25,7 +25,8 @@ struct found {
     const char *name, *why; /* of the target; and NULL where there are bytes */
 };
 
-/* Reads what is wanted, as far as it can be read, of the target of its job. */
-struct found read_wanted(const struct lane *lanes, size_t lane_count, const struct want *want);
+/* Reads what is wanted, as far as it can be read, of the target of its job. What was in flight at a taking
+ * is written no more then. */
+struct found read_wanted(struct lane *lanes, size_t lane_count, const struct want *want);
 
 #endif

@@ -1,5 +1,6 @@
 #include "commands.h"
 
+#include "busy.h"
 #include "drive.h"
 #include "say.h"
 #include "state.h"
@@ -36,12 +37,31 @@ static void keep_and_cut(const struct options *options, struct kept *kept) {
     if (options->cut && run_command(options->cut, NULL, 0)) give_up(options->cut, "it didn't cut the power");
 }
 
-static void tell_these(void *drive, const struct ending *endings, size_t count) {
-    tell_endings(drive, endings, count);
+/* Who gives the orders, who carries them out, and what is done behind the last one. */
+struct run {
+    struct drive drive;
+    struct executor executor;
+    struct busy busy;
+};
+
+static void tell_these(void *run, const struct ending *endings, size_t count) {
+    tell_endings(&((struct run *)run)->drive, endings, count);
 }
 
-static void tell_last(void *drive, const void *bytes, size_t length) {
-    note_last(drive, bytes, length);
+/* Notes the state. The writes that it has in flight are copied while the executor still has them. */
+static void tell_last(void *given, const void *bytes, size_t length) {
+    struct run *run = given;
+    copy_in_flight(&run->busy, &run->executor, bytes, length);
+    note_last(&run->drive, bytes, length);
+}
+
+/* Has the drive stay busy until it is cut, where that is asked for. */
+static void stay_busy(const struct options *options, struct busy *busy) {
+    char words[160];
+    if (!options->cut && !options->keep) return;
+    describe_busy(busy, words, sizeof words);
+    say("%s", words);
+    start_busy(busy, options->queue);
 }
 
 static void *carry_all_out(void *executor) {
@@ -59,10 +79,10 @@ static void start_executor(struct executor *executor) {
 }
 
 int write_target(const struct options *options, const struct job *job) {
-    static struct drive drive; /* (its threads may outlive this call) */
+    static struct run run; /* (its threads may outlive this call) */
     static struct target target;
-    static struct executor executor;
     static struct watch watch;
+    struct drive *drive = &run.drive;
     struct region region = region_of(job, options->offset, options->stride);
     refuse_old_trigger(options->trigger);
     refuse_place(options->state, options->job_file, options->opening.name);
@@ -78,20 +98,22 @@ int write_target(const struct options *options, const struct job *job) {
     say("writes rest on this: %s", way);
     put_aside(options->state);
     hold_signals();
-    open_drive(&drive, kept.run, job, options->after, way_of_orders(job->depth, options->opening.cached));
-    executor = (struct executor){.target = &target, .region = region, .depth = job->depth, .flush = options->way.flush, .queue = options->queue, .by = by, .may_share = true, .orders = drive.child.from, .whose = &drive,
-                                 .tell = tell_these, .tell_last = tell_last};
-    watch = (struct watch){&drive, job, options->trigger};
-    start_executor(&executor);
+    open_drive(drive, kept.run, job, options->after, way_of_orders(job->depth, options->opening.cached));
+    run.executor = (struct executor){.target = &target, .region = region, .depth = job->depth, .flush = options->way.flush, .queue = options->queue, .by = by, .may_share = true, .orders = drive->child.from, .whose = &run,
+                                     .tell = tell_these, .tell_last = tell_last};
+    watch = (struct watch){drive, job, options->trigger};
+    start_executor(&run.executor);
     start_watch(&watch);
-    await_state(&drive); /* and not the writes that are still out: they are to be cut */
-    kept.length = drive.last_length;
-    memcpy(kept.state, drive.last, kept.length);
+    await_state(drive); /* and not the writes that are still out: they are to be cut */
+    kept.length = drive->last_length;
+    memcpy(kept.state, drive->last, kept.length);
+    stay_busy(options, &run.busy);
     keep_state(options->state, &kept);
     let_signals_through();
-    printf("run %" PRIu64 ": %" PRIu64 " writes were done\n", kept.run, drive.done);
+    printf("run %" PRIu64 ": %" PRIu64 " writes were done\n", kept.run, drive->done);
     fflush(stdout);
     keep_and_cut(options, &kept);
-    if (drive.failed) say("a write failed, and the state was taken there: %s", options->state);
-    return drive.failed ? STATUS_FAILED : STATUS_SOUND;
+    end_busy(&run.busy); /* (no write begins from now on, and the program ends behind those that have begun) */
+    if (drive->failed) say("a write failed, and the state was taken there: %s", options->state);
+    return drive->failed ? STATUS_FAILED : STATUS_SOUND;
 }

@@ -8,7 +8,7 @@ import sys
 import time
 from types import SimpleNamespace
 
-from fleet_links import frame, frames_in
+from fleet_links import bare
 from fleet_mirrors import number_in
 from serving import FLEET, TOP, Servers, fleet, job_file, reports
 from trying import HERE, comes, read, tell, tell_has, write
@@ -18,7 +18,7 @@ sys.path.insert(0, f"{TOP}/harness/client")
 import links
 import note
 import stories
-from records import COPY_OK, GOOD, Report
+from records import COPY_OK, GOOD, Report, enveloped
 
 
 def report_of(attempt, server, faults):
@@ -30,9 +30,9 @@ def earlier_reports():
     """Reports of an earlier check of the run don't count for this one."""
     job_file("again.fio", jobs=1)
     reports = [report_of(4, 0, 0), report_of(4, 1, 0), report_of(5, 0, 2)]
-    asked = SimpleNamespace(verify=lambda run, text: 5, settle=lambda *_: [GOOD, GOOD], take_reports=lambda: reports, full_passes={(4, 0, 0)})
-    run, outcomes, found = stories.check(asked, "again.fio", 9)
-    tell("reports of the check that was asked for", [(it.server, it.faults, is_full) for it, is_full in found], [(0, 2, False)])
+    asked = SimpleNamespace(verify=lambda run, text: 5, settle=lambda *_: [GOOD, GOOD], take_reports=lambda: reports, ask_verdict=lambda *of: of, stands=lambda *_: "good")
+    of, found = stories.check(asked, "again.fio", 9)
+    tell("reports of the check that was asked for", (of, [(at, it.faults) for at, it in found.items()]), ((9, 5), [((0, 0), 2)]))
 
 
 def copies_not_kept():
@@ -61,7 +61,8 @@ def drawn_numbers():
         status, printed, _ = fleet("write", "drawn.fio", "--note", name, "--after", "0.1", *servers.links())
         runs.append(int(number_in(printed) or 0))
         tell(f"a client on {name} writes", status, 0)
-        time.sleep(1.1) # (what is drawn to the time is at most so many seconds)
+        servers.cut()
+        servers.restart() # (till then they serve that fleet)
     tell("their runs are later ones", before < runs[0] < runs[1], True)
     servers.cut()
 
@@ -70,12 +71,13 @@ def short_writes():
     """A link that takes five bytes at a time is given each frame whole."""
     whole = os.write
     links.os = SimpleNamespace(**{**vars(os), "write": lambda to, data: whole(to, data[:5])})
-    link, sent = links.Link("cat >>came", lambda _: None), [frame(b"%034d" % at) for at in range(50)]
+    stream, sent = links.Stream("cat >>came"), [bare(b"%034d" % at) for at in range(50)]
     for it in sent:
-        link.send(it)
-    comes(lambda: os.path.exists("came") and os.path.getsize("came") == sum(map(len, sent)))
-    link.close()
-    tell("whole frames", frames_in(read("came")) == sent, True)
+        stream.send(it)
+    due = b"".join(map(enveloped, sent))
+    comes(lambda: os.path.exists("came") and os.path.getsize("came") == len(due))
+    stream.kill()
+    tell("whole frames", read("came") == due, True)
 
 
 def options_first():
@@ -90,6 +92,6 @@ def options_first():
     tell("another cut", fleet("write", "book.fio", "--after", "0.1", "--cut", "touch own-cut")[0], 0)
     tell("is made in the place of the book's", (os.path.exists("own-cut"), os.path.exists("book-cut")), (True, False))
     status, printed, _ = fleet("check", "book.fio", "--note", "own.note", "--wait", "2")
-    tell("another note, which knows no run", (status != 0, reports(printed), os.path.exists("own.note")), (True, {}, True))
+    tell("another note, which isn't there", (status, reports(printed), os.path.exists("own.note")), (2, {}, False))
     tell("another command to check by", fleet("check", "book.fio", "--server", "false", "--wait", "1")[0], 2)
     servers.cut()

@@ -16,18 +16,49 @@ from trying import BLOCK, HANG, HERE, read, tell
 sys.path.insert(0, f"{TOP}/harness/client")
 
 from links import Link
-from records import read_frame
+from queries import HELLO, QUERY_HELLO, WELCOME, WELCOME_HEAD, query
+from records import enveloped, read_frame
+
+# The fleet that these links say they are of.
+FLEET_NUMBER = 4711
+
+
+def bare(body, magic=b"FC", kind=1):
+    """A frame as a node has it."""
+    return magic + bytes([1, kind]) + bytes(8) + struct.pack(">I", len(body)) + body
 
 
 def frame(body, magic=b"FC", kind=1):
-    return magic + bytes([1, kind]) + bytes(8) + struct.pack(">I", len(body)) + body
+    """A frame as it goes over a link."""
+    return enveloped(bare(body, magic, kind))
+
+
+def hello(server=0, fleet=FLEET_NUMBER, before=0):
+    return enveloped(query(QUERY_HELLO, HELLO.pack(fleet, server, 1, before)))
+
+
+def door(path):
+    """A link to a server, which is welcome there."""
+    link = socket.socket(socket.AF_UNIX)
+    link.connect(path)
+    greet(link)
+    return link
+
+
+def greet(link, whom=0):
+    """Says hello, and waits for the welcome."""
+    link.settimeout(HANG)
+    link.sendall(hello(whom))
+    welcome, length = b"", len(enveloped(query(WELCOME, bytes(WELCOME_HEAD.size))))
+    while len(welcome) < length:
+        welcome += link.recv(length - len(welcome)) or bytes(length)
 
 
 def frames_in(data):
     """The frames that stand in these bytes, one behind the other, as a link reads them."""
     stream, found = io.BytesIO(data), []
     while one := read_frame(stream):
-        found.append(one)
+        found.append(enveloped(one))
     return found
 
 
@@ -40,11 +71,9 @@ def cut_links():
     servers.count, servers.running = 1, [None]
     servers.start(0, {"NODE": f"{HERE}/logging_node.py", "LOG": "cut.log"})
     for length in range(1, len(cut)):
-        with socket.socket(socket.AF_UNIX) as link:
-            link.connect("cut-0.note.socket")
-            link.settimeout(3)
+        with door("cut-0.note.socket") as link:
             tell(f"a link that ends after {length} bytes of a frame", ended_by(link, whole + cut[:length], True), True)
-    tell("what a server's node is given", frames_given("cut.log", len(cut) - 1), [whole.hex()] * (len(cut) - 1))
+    tell("what a server's node is given", frames_given("cut.log", len(cut) - 1), [bare(b"whole").hex()] * (len(cut) - 1))
     servers.cut()
     tell("what the client's is", [frames_in(whole + cut[:length]) for length in range(len(cut) + 1)], [[whole]] * len(cut) + [[whole, cut]])
     next_links()
@@ -64,11 +93,10 @@ def full_pipes():
     servers = Servers("full", 0, jobs=1)
     servers.count, servers.running = 1, [None]
     servers.start(0, {"NODE": f"{HERE}/logging_node.py", "LOG": "full.log"})
-    sent = [frame(b"%08d" % at * (1 + at * 37 % 5000)) for at in range(1200)]
-    with socket.socket(socket.AF_UNIX) as link:
-        link.connect("full-0.note.socket")
+    sent = [bare(b"%08d" % at * (1 + at * 37 % 130)) for at in range(12000)]
+    with door("full-0.note.socket") as link:
         try:
-            link.sendall(b"".join(sent))
+            link.sendall(b"".join(map(enveloped, sent)))
         except OSError:
             pass # (the server has ended)
         tell("a node that is slower than its link", frames_given("full.log", len(sent)) == [it.hex() for it in sent], True)
@@ -78,16 +106,17 @@ def full_pipes():
 def next_links():
     """The client's links end in the middle of a frame, again and again."""
     os.mkdir("fronts")
-    link = Link("head -c 123 >fronts/$$; true", lambda _: None)
-    sent = [frame(b"%034d" % at) for at in range(300)]
+    sent = [bare(b"%034d" % at) for at in range(300)]
+    link = Link("head -c 165 >fronts/$$; true", lambda _: None, lambda: sent[0])
     for it in sent:
+        link.stream.is_welcome = True
         link.send(it)
-        time.sleep(0.005)
+        time.sleep(0.015) # (a link that brings nothing is begun anew less and less often)
     link.close()
     time.sleep(0.3)
-    fronts = [data for data in map(read, glob.glob("fronts/*")) if len(data) == 123]
+    fronts = [data for data in map(read, glob.glob("fronts/*")) if len(data) == 165]
     tell("links that ended in the middle of a frame", len(fronts) > 2, True)
-    tell("each began with a frame, and had whole ones", [data for data in fronts if not set(frames_in(data)) <= set(sent) or len(frames_in(data)) != 2], [])
+    tell("each began with a frame, and had whole ones", [data for data in fronts if not set(frames_in(data)) <= set(map(enveloped, sent)) or len(frames_in(data)) != 2], [])
 
 
 def ended_by(link, data, is_last=False):
@@ -111,16 +140,22 @@ def strangers():
     for what, data in (
         ("another protocol", b"GET / HTTP/1.1\r\nHost: a\r\n\r\n"),
         ("another magic", frame(b"", b"fc")),
-        ("a frame that is too long", b"FC\1\1" + bytes(8) + b"\xff\xff\xff\xff"),
-        ("an unknown query", frame(b"", b"FH", 9)),
+        ("a frame without an envelope", bare(b"whole")),
+        ("an envelope that is too long", b"FL\2\0" + b"\xff\xff\xff\xff" + bytes(20)),
+        ("a frame that is too long", frame(bytes(1058))),
+        ("a changed bit", bytes([*frame(b"whole")[:-1], frame(b"whole")[-1] ^ 1])),
+        ("a changed length", bytes([*frame(b"whole")[:7], frame(b"whole")[7] ^ 1, *frame(b"whole")[8:], 0])),
+        ("an unknown query", frame(b"", b"FH", 99)),
         ("a query for too much", frame(struct.pack(">IIII", 0, 0, 2000, BLOCK), b"FH", 3)),
         ("a query that is cut", frame(bytes(15), b"FH", 3)),
     ):
-        with socket.socket(socket.AF_UNIX) as link:
-            link.connect("strange-0.note.socket")
-            link.settimeout(3)
+        with door("strange-0.note.socket") as link:
+            link.settimeout(8)
             tell(f"{what} ends the link", ended_by(link, data), True)
-    tell("and is said, where it is no frame", read(servers.said(0)).count(b"is no frame"), 3)
+    said = read(servers.said(0))
+    tell("and is said, where it is no frame, and where it isn't what was sent", (said.count(b"is no frame"), said.count(b"isn't what was sent")), (3, 4))
+    servers.cut()
+    servers.start(0)
     tell("then a fleet writes", fleet("write", "strange.fio", "--note", "strange.note", "--after-writes", "64", *servers.links())[0], 0)
     servers.cut()
 
@@ -139,7 +174,7 @@ def brought(of, count=300):
             data += more
         link.kill()
     found = frames_in(data)
-    return [struct.unpack(">I", it[16:])[0] for it in found], len(data) > sum(map(len, found))
+    return [struct.unpack(">I", it[-4:])[0] for it in found], len(data) > sum(map(len, found))
 
 
 def harmed_links():

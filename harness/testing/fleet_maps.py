@@ -67,7 +67,7 @@ def unread_block(servers, due, kinds, of_block):
     servers.start(0)
     servers.start(1, {"LD_PRELOAD": LIAR, "LIE_TARGET": "mapped-1-1", "LIE_UNREADABLE": str(10 * BLOCK + 7)})
     status, printed, _ = fleet(*CHECK, "--map", *servers.links())
-    tell("with one that can't be read", (status, "end read 10" in printed, due_lines(due, f"{kinds} unread 1", 63) in printed), (2, True, True))
+    tell("with one that can't be read", (status, "end read 10" in printed, due_lines(due, f"{kinds} unread 1", 63) in printed), (1, True, True))
     servers.cut()
 
 
@@ -77,6 +77,8 @@ def no_drive(servers):
     status, printed, said = fleet(*CHECK, "--map", *servers.links(), env={"DRIVE": "no-such-drive"})
     tell("no drive", (status, printed, "no-such-drive: there is no such program" in said), (2, "", True))
     run_number = re.search(r"run (\d+)", fleet(*CHECK, *servers.links())[1])[1]
+    servers.cut()
+    servers.restart()
     _, _, said = fleet("check", "mapped.fio", "--note", "unknown.note", "--run", run_number, "--map", *servers.links())
     tell_has("no state", said, "server 1 job 1: no map without its state")
     servers.cut()

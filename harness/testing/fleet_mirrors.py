@@ -55,6 +55,8 @@ def lost_with_a_mirror():
     os.remove("mirror.note")
     os.remove("mirror.kept")
     tell_has("where both notes are lost", fleet("check", "mirror.fio", "--note", "mirror.note", *kept, *servers.links())[2], "no run was begun yet")
+    servers.cut()
+    servers.restart() # (till then they serve the fleet that is forgotten)
     status, printed, said = fleet("check", "mirror.fio", "--run", number, "--note", "mirror.note", *kept, *servers.links())
     tell("its run has no verdict", (status, reports(printed), "" if status == 3 else said), (3, {}, ""))
     servers.cut()

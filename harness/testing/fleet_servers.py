@@ -3,19 +3,18 @@ is told."""
 import fcntl
 import os
 import select
-import socket
 import struct
 import subprocess
 import sys
 import termios
 
-from fleet_links import frame
+from fleet_links import bare, door, frame
 from serving import SERVER, TOP, Servers
 from trying import BLOCK, HERE, LIAR, await_that, comes, read, run, skip, stamp, tell, write
 
 sys.path.insert(0, f"{TOP}/harness/client")
 
-from records import FRAME, SEND, record
+from records import FRAME, SEND, enveloped, record
 
 NODE = f"{HERE}/logging_node.py"
 # What a server's node says and is told beside these.
@@ -93,12 +92,12 @@ def short_reads():
 
 
 def other_targets():
-    """A server that had another target looks at what this one holds, as at its first start."""
+    """A server that had another target refuses this one."""
     servers = Servers("had", 1, jobs=1)
     servers.cut()
     write("letter", b"Dear all,\n" * 40000)
     status, _, said = run("0", "letter", "--note", servers.note(0), program=SERVER)
-    tell("another target that holds other bytes", (status, "it holds other bytes" in said), (2, True))
+    tell("another target that holds other bytes", (status, "it isn't what job 0 had here" in said), (2, True))
     tell("is as it was", read("letter"), b"Dear all,\n" * 40000)
     servers.start(0)
     tell("its own target it takes as a cut has left it", servers.running[0].poll(), None)
@@ -131,10 +130,10 @@ def is_hung_up(link):
 def stuck_links():
     """A link that takes nothing for five seconds is closed in the middle of a frame, and no other one
     follows on it."""
-    large, small = frame(bytes(range(256)) * 32768), frame(b"small")
+    large, small = bare(bytes(range(256)) * 32768), bare(b"small")
     servers = ordered("stuck", record(SEND, large) + record(SEND, small), FRAME)
-    with socket.socket(socket.AF_UNIX) as link:
-        link.connect("stuck-0.note.socket")
+    large = enveloped(large)
+    with door("stuck-0.note.socket") as link:
         link.sendall(frame(b"any"))
         await_that(lambda: queued(link), "a part of a frame")
         tell("the link is closed", comes(lambda: is_hung_up(link)), True)

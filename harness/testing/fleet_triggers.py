@@ -10,7 +10,7 @@ from trying import LIAR, tell, tell_has
 sys.path.insert(0, f"{TOP}/harness/client")
 
 from progress import Progress
-from queries import ENDS, ROW, Answers, query
+from queries import ENDS, ROW, ROWS, Answers, query
 
 
 def rows(printed):
@@ -65,8 +65,13 @@ def told_words():
     answers = Answers(None)
     progress = Progress(SimpleNamespace(servers=[answers]), 7, lambda: None)
     tell("a server that hasn't answered", progress.words(0, answers.ends_of(7), 1), "server 0 doesn't say")
-    answers.hear(query(ENDS, ROW.pack(0, 7, 5, 1) + ROW.pack(1, 6, 100, 2) + ROW.pack(2, 7, 30, 0)))
-    tell("jobs whose last run is another", [answers.ends_of(run) for run in (6, 7, 8)], [(100, 2), (35, 1), (0, 0)])
+    why = "t: write 3 to block 5 failed: Input/output error"
+    answers.hear(query(ENDS, ROWS.pack(3, 0) + ROW.pack(0, 7, 5, 1) + ROW.pack(1, 6, 100, 2) + ROW.pack(2, 7, 30, 0) + why.encode()))
+    ends = [answers.ends_of(run) for run in (6, 7, 8)]
+    tell("jobs whose last run is another", [(it.done, it.failed, it.why) for it in ends], [(100, 2, why), (35, 1, why), (0, 0, "")])
+    for body in (b"", bytes(11), ROWS.pack(3, 0) + bytes(80), b"x" * 1000):
+        answers.hear(query(ENDS, body))
+    tell("an answer that can't be read is none", (answers.ends_of(7).done, answers.ends_of(7).failed), (35, 1))
     progress.step()
     tell("and without fiocut", progress.words(0, answers.ends_of(7), 2), "server 0 18 writes a second, 35 done, 1 failed")
     tell("and at the end", progress.words(0, answers.ends_of(7)), "server 0 35 done, 1 failed")

@@ -10,8 +10,8 @@ import shlex
 import struct
 import subprocess
 import sys
-import threading
 import time
+from types import SimpleNamespace
 
 from serving import SERVER, TOP, Servers
 from trying import HANG, HERE, LIAR, read, tell, write
@@ -62,7 +62,7 @@ class Story:
         # (numbers that begin at 1, and no frame twice: the world has no clock)
         KeptNote("world.note").keep(b"FCC2" + struct.pack(">QQQI", 0, 0, 0, 0))
         client.TICKS = 3600
-        self.servers, self.link, self.outcomes, self.reports = servers, link, None, []
+        self.servers, self.link, self.verdict, self.reports = servers, link, None, {}
 
     def run(self, reading):
         with contextlib.redirect_stderr(io.StringIO()):
@@ -70,12 +70,14 @@ class Story:
 
     def play(self, reading):
         fleet = client.Fleet("world.note", [self.link])
-        stories.write(fleet, "world.fio", stories.Trigger(writes=2), wait=10, acts=True)
+        stops = SimpleNamespace(count=0, wait=time.sleep)
+        written = stories.write(fleet, "world.fio", stories.Trigger(stops, writes=2), wait=10, acts=True)
+        stories.cut(fleet, written, None, True, False, 10)
         self.servers.running[0].wait(HANG)
         self.servers.start(0, options=["--cached"])
         self.await_link(fleet)
         texts.reading = lambda _: reading
-        _, self.outcomes, self.reports = stories.check(fleet, "world.fio", wait=10)
+        self.verdict, self.reports = stories.check(fleet, "world.fio", wait=10)
         fleet.close()
 
     def await_link(self, fleet):
@@ -97,10 +99,7 @@ def lost_world():
     servers.start(0, lie, ["--cached", "--cut", "kill -9 $PPID"])
     tap = f"exec {shlex.quote(sys.executable)} {shlex.quote(f'{HERE}/tapped.py')} world.frames"
     story = Story(servers, f"{tap} {shlex.quote(f'exec {shlex.quote(SERVER)} link --note {servers.note(0)} 2>/dev/null')}")
-    # (by a thread, so that the trigger leaves this process its signals)
-    telling = threading.Thread(target=story.run, args=(reading,))
-    telling.start()
-    telling.join(60)
+    story.run(reading)
     servers.cut()
     frames = [bytes.fromhex(line.split()[1]) for line in read("world.frames").decode().splitlines()]
     due, output = frames_of_nodes(world)
@@ -109,5 +108,5 @@ def lost_world():
     names = {0: "0", 8: "client"}
     sent = [f"sent {at} {names[it[7]]} {names[it[11]]} {world.KINDS[it[3]]} {len(it)}" for at, it in enumerate(frames)]
     tell("frame by frame as the world", sent, re.findall(r"^sent .*", said, re.M))
-    tell("the report", [f"ok report {it.line()}" for it, _ in story.reports], re.findall(r"^ok report .*", said, re.M))
-    tell("it is one of a fault", stories.status_of(story.outcomes, story.reports), stories.FAULTS)
+    tell("the report", [f"ok report {it.line()}" for it in story.reports.values()], re.findall(r"^ok report .*", said, re.M))
+    tell("it is one of a fault", story.verdict and story.verdict.word, stories.FAULTS)

@@ -119,6 +119,8 @@ def lost_notes():
     status, printed, _ = fleet("check", "notes.fio", "--note", "notes.note", *servers.links())
     tell("by its own note it is sound", (status, [it[1] for it in reports(printed).values()]), (0, [0, 0]))
     tell("as JSON, too", states_told(number, "notes.note", servers), [True] * 2)
+    servers.cut()
+    servers.restart() # (till then they serve the other fleet)
     status, printed, _ = fleet("check", "notes.fio", "--run", number, "--note", "other.note", *servers.links())
     tell("without the client's note there is no verdict", (status, printed.splitlines()[-1].split(",")[0] if printed else ""), (3, f"run {number}: no verdict"))
     tell("as JSON it is a full pass", states_told(number, "other.note", servers), [False] * 2)
@@ -231,7 +233,7 @@ def failing_target():
     words = ["check", "fail.fio", "--note", "fail.note"]
     checked, printed, _ = fleet(*words, *servers.links())
     found = reports(printed).get((0, 0), (0,))
-    tell("a write fails", (status, checked, 0 < found[0] < 64, found[1:]), (0, 0, True, (0, "whole", [])))
+    tell("a write fails", (status, checked, 0 < found[0] < 64, found[1:]), (2, 0, True, (0, "whole", [])))
     servers.cut()
     block = earliest(read("fail-0-0"))
     servers.start(0, {"LD_PRELOAD": LIAR, "LIE": "none:1", "LIE_TARGET": "fail-0-0", "LIE_UNREADABLE": str(block * BLOCK)})
@@ -249,21 +251,21 @@ def cycles_by_a_book():
     link = f"exec {SERVER} link --note cycle-0.note 2>/dev/null"
     write("fleet.toml", f'servers = ["{link}"]\nnote = "cycle.note"\noff = "sh ./off"\non = "sh ./on"\n')
     subprocess.run(["sh", "./on"], check=True)
-    words = ["cycle", "cycle.fio", "folder", "--every", "1..1.2", "--cycles", "2", "--pause", "0", "--seed", "1"]
+    words = ["cycle", "cycle.fio", "folder", "--every", "30..31", "--cycles", "2", "--pause", "0", "--seed", "1"]
     status, printed, said = fleet(*words)
     tell("two cycles", (status, [it.split(",")[1:6] for it in printed.splitlines()]), (0, [[" 128 ordered", " 128 done", " 64 checked", " 0 faults", " status 0"]] * 2))
     subprocess.run(["sh", "./off"], check=True)
     write("lie", "")
     subprocess.run(["sh", "./on"], check=True)
-    status, printed, _ = fleet(*words, "--json")
+    status, printed, _ = fleet(*words[:2], "lies", *words[3:], "--json")
     told = [json.loads(it) for it in printed.splitlines()]
     tell("it stops at the first with faults", (status, len(told), told[0]["faults"]), (1, 1, len(written(read("cycle.log")))))
-    with open("folder/cycles.jsonl", encoding="ascii") as it:
-        tell("the folder has all cycles", [json.loads(line)["status"] for line in it], [0, 0, 1])
+    tell("each folder has its cycles", [[json.loads(line)["status"] for line in read(f"{it}/cycles.jsonl").splitlines()] for it in ("folder", "lies")], [[0, 0], [1]])
+    tell("a series that is there", fleet(*words)[0], 2)
     subprocess.run(["sh", "./off"], check=True)
     subprocess.run(["sh", "./on"], check=True)
     os.remove("lie")
-    status, printed, _ = fleet(*words, "--keep-going", "--json")
+    status, printed, _ = fleet(*words[:2], "goes-on", *words[3:], "--keep-going", "--json")
     tell("a series that goes on behind a cycle with faults", (status, [json.loads(it)["status"] for it in printed.splitlines()]), (1, [1, 0]))
     subprocess.run(["sh", "./off"], check=True)
 

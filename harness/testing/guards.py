@@ -95,4 +95,4 @@ def ways():
     ):
         refused(" ".join(words), ("write", "two.fio", "way", "ws", *words), why)
     status, _, said = witness("cycle", "long.fio", "told", *link("wt", "--promise", "through", "--by", "threads"), *CUT, "--cycles", "1", "--trust-off")
-    tell("an agent's way", (status, [it["way"] for it in rows_of("told")], "rest on this: through by threads" in said), (0, ["through by threads"], True))
+    tell("an agent's way", (status in (0, 3), [it["way"] for it in rows_of("told")], "rest on this: through by threads" in said), (True, ["through by threads"], True))

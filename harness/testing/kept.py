@@ -66,6 +66,6 @@ def kept_series():
     behind = [lines[at + 1] for at, line in enumerate(lines[:-1]) if line == f"synced {file}"]
     tell("each line is synced, and its folder behind it", behind, [f"synced {os.path.dirname(file)}"] * 2)
     env = {"LD_PRELOAD": LIAR, "LIE_TARGET": "/cu", "LIE_UNREADABLE": "0"}
-    status, printed, said = witness("cycle", "two.fio", "unread", *link("cu"), *OFF, "--cycles", "2", "--keep-going", env=env)
+    status, printed, said = witness("cycle", "two.fio", "unread", *link("cu"), *OFF, "--every", "1.5..1.5", "--cycles", "2", "--keep-going", env=env)
     tell("cycles of which a block can't be read", (status, [it.partition(" checked, ")[2].partition(",")[0] for it in cycles_in(printed)]), (1, ["1 faults: unread 1"] * 2))
     tell_has("which block", said, "block 0 can't be read: Input/output error")

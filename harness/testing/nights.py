@@ -10,6 +10,7 @@ import signal
 import subprocess
 import termios
 
+from crc32c import crc32c
 from trying import AGENT, BLOCK, HANG, LIAR, TARGET, WITNESS, await_file, await_that, check, job, read, report, run, run_of, skip, state_in, tell, tell_has, write
 from witness import PASS_ON, counted, cycles_in, endless, kill_agent, link, witness
 
@@ -94,7 +95,7 @@ def no_cuts():
     due = f"sound: {sum(it['checked'] for it in rows)} blocks checked, 0 faults; 2 cuts by the word of --off, {sum(it['in_flight'] > 0 for it in rows)} with writes in flight ({sum(it['in_flight'] for it in rows)} in all), 0 cycles without a cut"
     tell("the last line", last_lines(printed)[0], due)
     words = ("cycle", "long.fio", "mixed", *link("nm"))
-    tell("a cycle without a cut, which is checked", witness(*words, *CUT, "--cycles", "1")[0], 3)
+    tell("a cycle without a cut, which is checked", witness(*words, *CUT, "--every", "1..1.2", "--cycles", "1")[0], 3)
     env = {"LD_PRELOAD": LIAR, "LIE": "stalled:1", "LIE_TARGET": "/nm"}
     status, _, _ = witness(*words, *CUT, "--cycles", "2", "--trust-off", "--resume", env=env)
     tell("and a cut behind which nothing is", (status, [(it["cut"], it["checked"] > 0) for it in rows_of("mixed")]), (3, [("none", True), ("word", False)]))
@@ -158,7 +159,8 @@ def other_drives():
         tell(f"a run to {name}", run("write", "two.fio", name, f"{name}.state")[0], 0)
     status, printed, said = run("check", "two.fio", "od2", "od1.state")
     tell("another drive", (status, printed, "--other-drive takes it" in said), (2, "", True))
-    tell("which is asked for", run("check", "two.fio", "od2", "od1.state", "--other-drive")[0], 1)
+    os.mkdir("apart") # (where no later run's state lies beside it)
+    tell("which is asked for", run("check", "two.fio", "od2", written("apart/od1.state", read("od1.state")), "--other-drive")[0], 1)
     status, printed, said = witness("check", "two.fio", "od1.state", *link("od2"), "--wait", "3")
     tell("another drive at an agent", (status, printed, "it is another drive" in said), (2, "", True))
     bytes_, refused = read("od1.state"), 0
@@ -183,10 +185,11 @@ def written_over():
         tell(f"the run of {name}", run("write", "two.fio", "wo", f"{name}.state", *words)[0], 0)
         write(f"{name}.bytes", read("wo"))
     later = re.sub(rb"kept [^\n]*", b"kept 2999-01-01T00:00:00Z", read("tuesday.state"))
+    kept_at("tuesday.state", moment_of("monday.state"))
     status, printed, _ = run("check", "two.fio", "wo", "monday.state", whole=True)
     tell("the later run within a second", (status, f"all of these hold run {run_of('tuesday.state')}" in printed), (1, True))
     tell("a run that is told as kept later has another sum", run("check", "two.fio", "wo", written("later.state", later))[0], 2)
-    kept_later("tuesday.state")
+    kept_at("tuesday.state", b"2999-01-01T00:00:00Z")
     status, printed, _ = run("check", "two.fio", "wo", "monday.state", whole=True)
     due = f"no verdict: a later run has written over 64 of 64 blocks: run {run_of('tuesday.state')}, whose state is ./tuesday.state"
     tell("Monday's state on Tuesday, with writes in flight", (status, printed.splitlines()[-1], " or " in printed), (3, due, True))
@@ -200,10 +203,16 @@ def written(name, data):
     return name
 
 
-def kept_later(name):
-    """Writes a second run's state as one that was kept a second later."""
-    moment = re.search(rb"kept ([^\n]*)", read(name))[1]
-    await_that(lambda: run("write", "two.fio", "wo", name)[0] == 0 and re.search(rb"kept ([^\n]*)", read(name))[1] > moment, "a later second")
+def moment_of(name):
+    """When a state was kept."""
+    return re.search(rb"kept ([^\n]*)", read(name))[1]
+
+
+def kept_at(name, moment):
+    """Writes a state as if it had been kept at that moment, with its sum."""
+    front, _, rest = read(name).partition(b"\nrun ")
+    rest = b"run " + re.sub(rb"kept [^\n]*", b"kept " + moment, rest, count=1)
+    write(name, front[:-8] + b"%08x\n" % crc32c(rest) + rest)
 
 
 def places_of_states():

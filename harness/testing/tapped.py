@@ -11,7 +11,7 @@ HERE = os.path.dirname(os.path.realpath(__file__))
 sys.dont_write_bytecode = True
 sys.path.insert(0, f"{HERE}/../client")
 
-from records import read_frame
+from records import enveloped, read_frame
 
 
 def main(file, command):
@@ -27,7 +27,7 @@ def main(file, command):
             if frame[:2] == b"FC" and way == "back" and frame[3] in dropped:
                 continue
             try:
-                to.write(frame)
+                to.write(enveloped(frame))
                 to.flush()
             except OSError:
                 break

@@ -104,7 +104,7 @@ struct options read_options(int count, char **words) {
         {0, 0, 0, 0, 0},
     };
     read.job_file = words[2], read.place = words[3];
-    read_words(all, read.command, count - 4, words + 4);
+    read_words(all, (int)read.command, count - 4, words + 4);
     read_every(every, &read);
     refuse_missing(&read);
     read.link = read.links[0];

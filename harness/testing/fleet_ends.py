@@ -1,0 +1,166 @@
+"""How a fleet's runs end: by a cut only where all is kept, by a stop, a signal, or a client that is
+gone; and what isn't begun at all."""
+import os
+import re
+import signal
+import subprocess
+import sys
+import time
+
+from serving import FLEET, TOP, Servers, fleet, job_file, reports
+from trying import HANG, LIAR, await_text, comes, read, tell, write
+
+sys.path.insert(0, f"{TOP}/harness/client")
+
+from note import GENERATION_NUMBERS, KeptNote, numbers_of
+from states import states_in
+
+CUT = ("--cut", "touch cut-was-made")
+
+
+def was_cut():
+    """Whether the power was cut since this was asked last."""
+    if not os.path.exists("cut-was-made"):
+        return False
+    os.remove("cut-was-made")
+    return True
+
+
+def unkept_states():
+    """Where not all states are kept, or a write has failed, there is no cut, which would destroy what can
+    tell why; unless that is asked for. The run's end says so."""
+    job_file("unkept.fio", jobs=1, blocks=64, writes=100_000)
+    servers = Servers("unkept", 2, jobs=1)
+    words = ["write", "unkept.fio", "--note", "unkept.note", "--wait", "2", *CUT]
+    for anyway in ((), ("--cut-anyway",)):
+        with open("said", "wb") as said:
+            writing = subprocess.Popen([FLEET, *words, *anyway, "--trigger-file", "pulled", *servers.links()], stdin=subprocess.DEVNULL, stdout=subprocess.PIPE, stderr=said, text=True)
+        await_text("said", "is begun")
+        servers.kill(1)
+        write("pulled", "")
+        printed = writing.communicate(timeout=HANG)[0]
+        os.remove("pulled")
+        tell(f"a server is gone at the trigger {anyway}", (writing.returncode, "not all states are kept" in printed, was_cut()), (2, True, bool(anyway)))
+        tell("which is said", "there is no cut: not all states are kept" in read("said").decode(), not anyway)
+        servers.start(1)
+        fleet("stop", "--note", "unkept.note", "--wait", "5", *servers.links())
+    servers.cut()
+    servers.start(0)
+    servers.start(1, {"LD_PRELOAD": LIAR, "LIE": "failed:5", "LIE_TARGET": "unkept-1-0"})
+    status, printed, said = fleet(*words, "--after", "30", *servers.links())
+    tell("a write fails", (status, was_cut(), "the states are kept" in printed), (2, False, True))
+    for what, text in (("the trigger", said), ("the last line", printed)):
+        tell(f"{what} says why", bool(re.search(r"a write has failed: server 1: unkept-1-0: write \d+ to block \d+ failed: Input/output error", text)), True)
+    servers.cut()
+
+
+def unfit_jobs():
+    """What the servers' targets can't take is refused before a run begins, with the server's reason."""
+    job_file("unfit.fio", jobs=2, blocks=64, writes=64)
+    servers = Servers("unfit", 0, jobs=2)
+    servers.count, servers.running = 1, [None]
+    for what, places, why in (
+        ("a job without a target", ["unfit-a"], "there is no job 1"),
+        ("regions that meet", ["unfit-b@0", "unfit-b@4096"], "jobs 0 and 1 write to the same bytes of unfit-b"),
+        ("blocks that don't lie there", ["unfit-c", "unfit-d@512"], "job 1: blocks of 4096 bytes don't lie at its offset"),
+    ):
+        servers.places = places
+        servers.start(0)
+        status, printed, said = fleet("write", "unfit.fio", "--note", "unfit.note", "--after", "1", "--wait", "5", *CUT, *servers.links())
+        tell(what, (status, printed, was_cut(), f"fleet: server 0: {why}" in said), (2, "", False, True))
+        tell(f"{what}: nothing is written", [it for it in places if any(read(it.split("@")[0]))], [])
+        servers.cut()
+        os.remove(f"{servers.note(0)}.targets")
+    servers.places = ["unfit-e@0/8192", "unfit-e@4096/8192"]
+    servers.start(0)
+    tell("blocks of one job between those of the other", fleet("write", "unfit.fio", "--note", "unfit.note", "--after-writes", "128", *servers.links())[0], 0)
+    tell("a job file that can't be read", fleet("write", "unfit.note", "--note", "unfit.note", *servers.links())[0], 2)
+    servers.cut()
+
+
+def stopped_fleets():
+    """A run that isn't begun everywhere is stopped; so is one by a second signal, and by `fleet stop`; and
+    one whose client is gone. Till then the servers say that they are busy, and with which run."""
+    job_file("stop.fio", jobs=1, blocks=64, writes=1_000_000)
+    servers = Servers("stop", 2, jobs=1)
+    words = [FLEET, "write", "stop.fio", "--note", "stop.note", "--after", "600", "--wait", "3", *servers.links()]
+    with open("said", "wb") as said:
+        writing = subprocess.Popen(words, stdin=subprocess.DEVNULL, stdout=subprocess.DEVNULL, stderr=said)
+    await_text("said", "is begun")
+    writing.kill()
+    writing.wait()
+    status, printed, said = fleet(*words[1:])
+    number = re.search(r"run (\d+) is begun", read("said").decode())[1]
+    tell("a client behind one that was killed", (status, said.count(f"busy with run {number}") >= 2), (2, True))
+    status, printed, _ = fleet("status", "--note", "stop.note", "--wait", "3", *servers.links())
+    tell("the status of each", (status, [f"writes run {number}" in it for it in printed.splitlines()]), (0, [True] * 2))
+    status, _, said = fleet("stop", "--run", number, "--note", "stop.note", "--wait", "10", *servers.links())
+    tell("it is stopped", (status, f"run {number} is stopped: server 0 good, server 1 good" in said), (0, True))
+    servers.kill(1)
+    status, _, said = fleet(*words[1:])
+    tell("a server is absent at the begin: the others are stopped", (status, "server 1 doesn't answer" in said), (2, True))
+    servers.start(1)
+    for signals, due in ((1, 0), (2, 2)):
+        with open("said", "wb") as said:
+            writing = subprocess.Popen(words, stdin=subprocess.DEVNULL, stdout=subprocess.DEVNULL, stderr=said)
+        await_text("said", "is begun")
+        for _ in range(signals):
+            writing.send_signal(signal.SIGINT)
+            time.sleep(0.02)
+        tell(f"{signals} signals", (writing.wait(HANG), b"is stopped" in read("said")), (due, signals == 2))
+        fleet("stop", "--note", "stop.note", "--wait", "5", *servers.links())
+    servers.cut()
+
+
+def orphans():
+    """A server whose client is gone ends its run by itself: it starts anew, and takes the next one."""
+    job_file("orphan.fio", jobs=1, blocks=64, writes=1_000_000)
+    servers = Servers("orphan", 0, jobs=1)
+    servers.count, servers.running = 1, [None]
+    servers.start(0, options=["--orphan", "2"])
+    with open("said", "wb") as said:
+        writing = subprocess.Popen([FLEET, "write", "orphan.fio", "--note", "orphan.note", "--after", "600", *servers.links()], stdin=subprocess.DEVNULL, stdout=subprocess.DEVNULL, stderr=said)
+    await_text("said", "writes a second")
+    time.sleep(3)
+    tell("while its client is there a run goes on", read(servers.said(0)).count(b"starts anew"), 0)
+    writing.kill()
+    writing.wait()
+    said = lambda: read(servers.said(0)).decode()
+    tell("then it ends by itself", comes(lambda: "no client is there, and a run goes on: the server starts anew" in said()), True)
+    tell("and begins anew", comes(lambda: said().count("server 0 is up") == 2), True)
+    tell("it is the same process", servers.running[0].poll(), None)
+    tell("the next run", fleet("write", "orphan.fio", "--note", "orphan.note", "--after", "0.5", *servers.links())[0], 0)
+    tell("and its check", fleet("check", "orphan.fio", "--note", "orphan.note", *servers.links())[0], 0)
+    servers.cut()
+
+
+def full_notes():
+    """Where the client's note has no room for another run, it is put aside, and a new one goes on, above
+    its numbers; the servers start anew for it. With a mirror that is refused before anything is
+    written. A client without a mirror goes on where one with a mirror was."""
+    job_file("room.fio", jobs=1, blocks=64, writes=64)
+    servers = Servers("room", 1, jobs=1)
+    words = ["write", "room.fio", "--note", "room.note", "--after-writes", "64", *servers.links()]
+    tell("a first run", fleet(*words)[0], 0)
+    kept = KeptNote("room.note")
+    note = kept.read()
+    state = next(iter(states_in(note).values())).data
+    others = b"".join(len(state).to_bytes(4, "big") + state[:4] + (9 + it).to_bytes(8, "big") + state[12:] for it in range(1010))
+    count = int.from_bytes(note[28:32], "big")
+    kept.keep(note[:28] + (count + 1010).to_bytes(4, "big") + others + note[32:])
+    full, before = kept.read(), numbers_of(note)
+    kept.close()
+    status, _, said = fleet(*words)
+    tell("a run for whose states there is no room", (status, "its states are in room.note.full-1" in said), (0, True))
+    tell("the server has started anew for it", b"another fleet takes the place" in read(servers.said(0)), True)
+    kept = KeptNote("room.note")
+    tell("its numbers are above", (len(states_in(kept.read())), numbers_of(kept.read()) > before, kept.read() != full), (1, True, True))
+    kept.close()
+    tell("and sound", fleet("check", "room.fio", "--note", "room.note", *servers.links())[0], 0)
+    aside = KeptNote("room.note.full-1")
+    tell("the old one is as it was", aside.read(), full)
+    aside.close()
+    status, printed, _ = fleet("check", "room.fio", "--note", "room.note.full-1", "--wait", "3", *servers.links())
+    tell("a check by the old one, at servers of the new one", (status, reports(printed)), (2, {}))
+    tell("a number of one scale", abs(numbers_of(full)[1] - time.time() * GENERATION_NUMBERS) < 3600 * GENERATION_NUMBERS, True)
+    servers.cut()
