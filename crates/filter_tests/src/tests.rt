@@ -1,10 +1,10 @@
 //! What no clause shows of `filters`: lives of a server, of the client and of a mirror to the byte, and inputs that
 //! aren't lives.
 
-mod attempt_ends;
 mod client;
 mod draft;
 mod ends;
+mod ends_of_attempts;
 mod flushes;
 mod frames;
 mod heads;
