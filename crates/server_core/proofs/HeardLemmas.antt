@@ -137,7 +137,7 @@ work_heard o (Restart left ∷ past) = tt
 -- ---- the open check
 
 -- A check that was just opened was asked nothing.
-abbrev Fresh : Option Check → Type 0
+abbrev pub Fresh : Option Check → Type 0
 Fresh None = Unit {0}
 Fresh (Some c) = c.since ≡ []
 
@@ -149,7 +149,7 @@ fresh_if : (t : Bool) (c : Option Check) → Fresh c → Fresh (if t then c else
 fresh_if true c h = h
 fresh_if false c h = tt
 
-opens_fresh : (on : Bool) (me b last : ℕ) (w : Option Work) (old : Option Check) (x : Request) → Fresh (opens on me b last w old x)
+pub opens_fresh : (on : Bool) (me b last : ℕ) (w : Option Work) (old : Option Check) (x : Request) → Fresh (opens on me b last w old x)
 opens_fresh on me b last w old (ToVerify r a text) =
     fresh_if (on && ((r == last) && (is_above a old && (not (is_open w) && not (is_unended w))))) (new_check me b r a (jobs_for Read text))
     (opened_fresh me b r a (jobs_for Read text))

@@ -10,6 +10,8 @@ pub mod FewLemmas
 pub mod FrameLemmas
 pub mod HeardLemmas
 pub mod HeldLemmas
+pub mod MadeLemmas
+pub mod ReportedLemmas
 pub mod KeyLemmas
 pub mod LegalLemmas
 pub mod Looked

@@ -25,6 +25,7 @@ pub mod Heard
 pub mod Ranges
 pub mod Bounds
 pub mod Sent
+pub mod Made
 pub mod Memory
 -- How a server stands for a list, and how its steps end.
 pub mod Ends

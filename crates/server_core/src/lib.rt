@@ -43,6 +43,6 @@ pub use note::{ServerNote, one_note};
 pub use open_law::tickets_tell_origins;
 pub use outs::Outs;
 pub use progress::Progress;
-pub use sent_law::packets_go_to_client;
+pub use sent_law::{packets_go_to_client, reports_were_made};
 pub use server::Server;
 pub use status::{Stage, Status};
