@@ -197,7 +197,7 @@ fits o past c left s (bodies.Saved attempt state) k w =
       (and_parts (is_run w.0) (is_attempt attempt) p.0).1,
       state_kept (record { run = w.0; server = s; job = w.1 }) (words_noted o past).kept state k.note.states w.3,
     )
-fits o past c left s (bodies.NoSaved run attempt job) k w = ((said_fits c left s (bodies.WantState run attempt job) w k.entry).0, tt)
+fits o past c left s (bodies.NoSaved run attempt job) k w = ((said_fits c left s (bodies.WantState run attempt job) w.0 k.entry).0, tt)
 fits o past c left s _ k w = absurd w
 
 to_one : (p : PacketParts) (s : ℕ) → s < MAX_SERVERS → p ≡ to_server p.body s → Fits p.body → IsPacket p

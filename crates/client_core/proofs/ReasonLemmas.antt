@@ -66,7 +66,8 @@ Why n deeds c s (bodies.Verify run attempt text) =
     ⊎ ((run ≡ run_of attempt deeds) × (text ≡ check_of attempt deeds) × IsAsked (verify_at attempt s deeds))
 Why n deeds c s (bodies.Saved attempt state) =
     (run : ℕ) × (job : ℕ) × IsSaid c s (bodies.WantState run attempt job) × (kept_of (record { run = run; server = s; job = job }) n.kept ≡ Some state)
-Why n deeds c s (bodies.NoSaved run attempt job) = IsSaid c s (bodies.WantState run attempt job)
+Why n deeds c s (bodies.NoSaved run attempt job) =
+    IsSaid c s (bodies.WantState run attempt job) × (kept_of (record { run = run; server = s; job = job }) n.kept ≡ None)
 Why n deeds c s _ = ⊥
 
 -- a packet that is sent to a server
@@ -106,7 +107,7 @@ wanted : (servers : ℕ) (n : ClientNote) (deeds : List Deed) (c : PacketInput) 
     → IsSaid c s (bodies.WantState run attempt job) → kept_of (record { run = run; server = s; job = job }) n.kept ≡ x
     → SendsTo servers n deeds c (state_for run attempt job s x)
 wanted servers n deeds c run attempt job s (Some state) l h e = (s, l, refl, (run, job, h, e))
-wanted servers n deeds c run attempt job s None l h e = (s, l, refl, h)
+wanted servers n deeds c run attempt job s None l h e = (s, l, refl, (h, e))
 
 -- what goes to servers may go out
 server_too : (peers : Peers) (n : ClientNote) (deeds : List Deed) (c : PacketInput) (ps : List PacketParts) → AllByRecursion (SendsTo peers.servers n deeds c) ps

@@ -1,5 +1,5 @@
 -- What is sent goes to a server that the client drives; a Saved has the kept state; a StateAck is for one.
-use Rattle.std.proofs.Common.{◌≡◌, refl, sym, ap, subst, ◌⊎◌, inl, inr, ℕ, true, ◌&&◌, List, [], ◌∷◌, Option, None, Some}
+use Rattle.std.proofs.Common.{◌≡◌, refl, sym, ◌∙◌, ap, subst, ◌⊎◌, inl, inr, ℕ, true, ◌&&◌, List, [], ◌∷◌, Option, None, Some}
 use Rattle.std.specs.Prelude.{is_none, Contains}
 use Rattle.fc_base.specs.declared.numbers.Key.{Key}
 use Rattle.fc_base.specs.declared.fault.Fault.{Fault}
@@ -16,12 +16,12 @@ use Rattle.state_table.specs.Kept.{kept_of}
 use Rattle.state_table.specs.Laws.{FoundHasItsKey, LastIsFound}
 use Rattle.client_core.specs.declared.note.ClientNote.{ClientNote}
 use Rattle.client_core.specs.History.{Opening, Entry, Met, Cut, Restart, Renew, Lose}
-use Rattle.client_core.specs.Saves.{unless_kept, unless_refused, noted_after, is_answer}
+use Rattle.client_core.specs.Saves.{Addition, unless_kept, unless_refused, noted_after, is_answer}
 use Rattle.client_core.specs.Words.{is_on, words_noted, peers, kept_state, refusal, is_answered}
 use Rattle.client_core.specs.Life.{Deed, life}
 use Rattle.client_core.specs.Packets.{to_server}
 use Rattle.client_core.specs.Ranges.{packet_in}
-use Rattle.client_core.specs.Laws.{from_server, is_for_mirror, is_for_server, SavedIsKept, CopiesAreOfStates, AcksAreFor, PacketsGoToPeers}
+use Rattle.client_core.specs.Laws.{from_server, is_for_mirror, is_for_server, SavedIsKept, NoSavedIsOfNone, CopiesAreOfStates, AcksAreFor, PacketsGoToPeers}
 use Rattle.client_core.proofs.HeardLemmas.{has_one, own_state, taken_in}
 use Rattle.fc_base.proofs.ListLemmas.{first_of, none_in}
 use Rattle.client_core.proofs.ReasonLemmas.{IsSaid, SendsTo, Why, WhyMirror, sent_why}
@@ -69,6 +69,39 @@ saved_is_kept has o past Cut p attempt state h e = absurd (none_in p h)
 saved_is_kept has o past (Restart mirror) p attempt state h e = absurd (none_in p h)
 saved_is_kept has o past (Renew g left) p attempt state h e = absurd (none_in p h)
 saved_is_kept has o past Lose p attempt state h e = absurd (none_in p h)
+
+nothing_due : (r : Option Fault) → unless_refused {D = Addition} r None ≡ None
+nothing_due None = refl
+nothing_due (Some fault) = refl
+
+-- What a server that wants a state says adds nothing to the note.
+none_by : (o : Opening) (past : List Entry) (c : PacketInput) (left : Left) (run attempt s job : ℕ) → IsSaid c s (bodies.WantState run attempt job)
+    → words_noted o (Met c left ∷ past) ≡ words_noted o past
+none_by o past c left run attempt s job said =
+    let d = nothing_due (refusal o past (Deliver (from_server (bodies.WantState run attempt job) s))) in
+    subst (λ e. words_noted o (Met e left ∷ past) ≡ words_noted o past) (sym said)
+    (ap (λ x. noted_after (has_new left) x (words_noted o past)) d)
+
+none_there : (o : Opening) (past : List Entry) (c : PacketInput) (left : Left) (run attempt server job : ℕ)
+    → SendsTo o.servers (words_noted o past) (life o past) c (to_server (bodies.NoSaved run attempt job) server)
+    → kept_state o (Met c left ∷ past) (record { run = run; server = server; job = job }) ≡ None
+none_there o past c left run attempt server job w =
+    let to : nodes.Server server ≡ nodes.Server w.0 = ap (λ (p : PacketParts). p.to) w.2 in
+    let same : w.0 ≡ server = cc in
+    ap (λ (n : ClientNote). kept_of (record { run = run; server = server; job = job }) n.kept)
+    (none_by o past c left run attempt w.0 job w.3.0)
+    ∙ subst (λ s. kept_of (record { run = run; server = s; job = job }) (words_noted o past).kept ≡ None) same w.3.1
+
+pub no_saved_is_of_none : NoSavedIsOfNone
+no_saved_is_of_none o past (Met c left) run attempt server job h =
+    elim ((sent_why o past c left (to_server (bodies.NoSaved run attempt job) server) h).why) [
+      | inl w ↦ none_there o past c left run attempt server job w
+      | inr w ↦ absurd w.2
+    ]
+no_saved_is_of_none o past Cut run attempt server job h = absurd (none_in (to_server (bodies.NoSaved run attempt job) server) h)
+no_saved_is_of_none o past (Restart mirror) run attempt server job h = absurd (none_in (to_server (bodies.NoSaved run attempt job) server) h)
+no_saved_is_of_none o past (Renew g left) run attempt server job h = absurd (none_in (to_server (bodies.NoSaved run attempt job) server) h)
+no_saved_is_of_none o past Lose run attempt server job h = absurd (none_in (to_server (bodies.NoSaved run attempt job) server) h)
 
 -- Each Copy is of a state of the note, or of the State that has just come.
 copy_by : (o : Opening) (past : List Entry) (c : PacketInput) (left : Left) (state : State) → WhyMirror (words_noted o past) c (bodies.Copy state)

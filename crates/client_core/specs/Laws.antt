@@ -1,5 +1,5 @@
 -- What holds of every list of what came to a client.
-use Rattle.std.specs.Prelude.{◌≡◌, ◌⊎◌, ℕ, ◌<◌, Bool, true, false, not, ◌&&◌, List, [], ◌∷◌, ◌++◌, Some, Contains, IsTrue}
+use Rattle.std.specs.Prelude.{◌≡◌, ◌⊎◌, ℕ, ◌<◌, Bool, true, false, not, ◌&&◌, List, [], ◌∷◌, ◌++◌, Some, None, Contains, IsTrue}
 use Rattle.std.specs.List.{AllByRecursion}
 use Rattle.fc_base.specs.declared.numbers.Key.{Key}
 use Rattle.disk_model.specs.declared.left.Left.{Left}
@@ -86,6 +86,13 @@ SavedIsKept =
     (state : State) →
     Contains (packets opening past entry) p → p.body ≡ bodies.Saved attempt state
     → kept_state opening past state.key ≡ Some state
+
+-- A NoSaved is sent only of a job of which no state is kept.
+abbrev pub NoSavedIsOfNone : Type 0
+NoSavedIsOfNone =
+    (opening : Opening) (past : List Entry) (entry : Entry) (run attempt server job : ℕ) →
+    Contains (packets opening past entry) (to_server (bodies.NoSaved run attempt job) server)
+    → kept_state opening (entry ∷ past) (record { run = run; server = server; job = job }) ≡ None
 
 -- Each Copy that is sent has a state of the note before, or of the State that has just come.
 abbrev pub CopiesAreOfStates : Type 0

@@ -1,6 +1,6 @@
 //! What holds of every list of what came to a client. The functions have nothing to run.
 
-ghost use Rattle.client_core.specs.Laws.{FirstKeptStays, KeptWasSent, NotedWasSent, SavedIsKept, CopiesAreOfStates, AcksAreFor, LossBeginsAnew, LooksAtAll, TickOnlyLooks, NotesKeepRanges, TriggersEndWell, PacketsGoToPeers, PacketsAreInRange, ReportsCame, OneReportEach};
+ghost use Rattle.client_core.specs.Laws.{FirstKeptStays, KeptWasSent, NotedWasSent, SavedIsKept, NoSavedIsOfNone, CopiesAreOfStates, AcksAreFor, LossBeginsAnew, LooksAtAll, TickOnlyLooks, NotesKeepRanges, TriggersEndWell, PacketsGoToPeers, PacketsAreInRange, ReportsCame, OneReportEach};
 ghost use Rattle.client_core.specs.Numbering.{RunsAreFresh, AttemptsAreFresh, NumbersAreGivenOnce, OneTextOfARun, OneTextOfAnAttempt};
 ghost use Rattle.client_core.specs.Bounds.{PacketsAreFew, FramesAreShort};
 ghost use Rattle.client_core.specs.Examples.{Begins, WaitsForTheBusy, KeepsTheFirst, TriggersToTheEnd, Verifies, GoesDown, KeepsWhatIsNoted, ForgetsByACut, AsksAgainInOrder, SpendsNumbers};
@@ -28,6 +28,11 @@ pub fn saved_is_kept()
 {
     state_table::found_states();
 }
+
+/// That there is no state is told to a check only where none of its key is kept.
+pub fn no_saved_is_of_none()
+    ensures { NoSavedIsOfNone }
+{}
 
 /// Each Copy that is sent has a state of the note, or of the State that has just come.
 pub fn copies_are_of_states()

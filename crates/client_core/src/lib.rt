@@ -38,9 +38,9 @@ mod told;
 pub use client::{Client, ClientSeed};
 pub use law::{
     acks_are_for_kept_states, copies_are_of_states, examples, first_kept_stays, frames_are_short,
-    kept_was_sent, looks_at_all, loss_begins_anew, notes_keep_ranges, numbers_are_fresh,
-    numbers_are_given_once, one_text, packets_are_few, packets_are_in_range, packets_go_to_peers,
-    reports_came, saved_is_kept, tick_only_looks, triggers_end_well,
+    kept_was_sent, looks_at_all, loss_begins_anew, no_saved_is_of_none, notes_keep_ranges,
+    numbers_are_fresh, numbers_are_given_once, one_text, packets_are_few, packets_are_in_range,
+    packets_go_to_peers, reports_came, saved_is_kept, tick_only_looks, triggers_end_well,
 };
 pub use note::{ClientNote, notes_are_read_back, one_note};
 pub use outcome::{Outcome, RequestKind};
