@@ -1,7 +1,7 @@
 """Judges all that there is to judge of a script and of what is printed of it."""
 
-from judging.cuts import judge_cuts
-from judging.reports import judge_reports
+from judging.cuts import judge_acks, judge_cuts
+from judging.reports import judge_reports, judge_told
 from judging.story import Story
 from judging.takings import judge_states
 from judging.verdict import Unreadable, Verdict
@@ -14,7 +14,9 @@ def judge(script, output):
         story = Story(script, output, verdict)
         judge_states(story, verdict)
         judge_cuts(story, verdict)
+        judge_acks(story, verdict)
         judge_reports(story, verdict)
+        judge_told(story, verdict)
     except (Unreadable, ValueError, IndexError) as why:
         verdict.wrong.append(("output", f"it can't be read: {why}"))
     return verdict

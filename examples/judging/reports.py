@@ -1,7 +1,8 @@
-"""Judges the reports: each is that of what the file holds by then.
+"""Judges the reports: each is that of what the file holds by then, and each that is sent is one of
+a check that was told it.
 
-A server checks a job by a state that came to it, or in a full pass. Where both can be, one of the
-reports that these make has to be there.
+A server checks a job by a state that came to it and fits, or in a full pass. Where both can be, one
+of the reports that these make has to be there.
 """
 
 from judging.checks import Check
@@ -21,6 +22,24 @@ def judge_reports(story, verdict):
                 judge_report(story, verdict, files, at)
             except Unjudged as why:
                 verdict.leave(" ".join(step.words), why)
+
+
+def judge_told(story, verdict):
+    """The claim told."""
+    told = set()
+    for at, step in enumerate(story.steps):
+        sent = [frame for frame in story.sent[at] if frame.report]
+        if step.does("check"):
+            told.update(made_of(frame) for frame in sent if frame.report == told_report(step.answer)
+                        and [frame.source, str(frame.fields["job"])] == step.words[1:3])
+        for frame in sent:
+            verdict.judge("told", made_of(frame) in told, f"server {frame.source} sends the report "
+                          f"{frame.report}, which no check of that attempt was told")
+
+
+def made_of(frame):
+    """What a Report says: its server, run, attempt and job, and the report."""
+    return frame.source, *(frame.fields[it] for it in ("run", "attempt", "job")), frame.report
 
 
 def told_report(words):
@@ -75,8 +94,7 @@ def ways(story, at, fields, job):
     states = []
     for step in story.hears(server, "Saved", attempt=attempt):
         state = story.came[step][0].state
-        is_of_it = state.key == key and state.issued <= job.settings.total
-        if step < at and is_of_it and state not in states:
+        if step < at and state.fits(key, job.settings) and state not in states:
             states.append(state)
     is_full = not job.load or any(step < at for step in none_came)
     return states + ([None] if is_full else [])

@@ -5,6 +5,7 @@ needs a map of those that are left, or any block each time, without a map. The r
 those of xoshiro256++, which SplitMix64 makes ready from the job's seed.
 """
 
+import struct
 from functools import lru_cache
 from itertools import islice
 from typing import NamedTuple
@@ -38,6 +39,18 @@ class Settings(NamedTuple):
         rows = zip(self._fields, self, other)
         return ", ".join(f"{name} {mine} in place of {its}" for name, mine, its in rows
                          if mine != its)
+
+
+    def is_of_job(self, other):
+        """The same bytes go to the same blocks, as often: depth and window may differ."""
+        return self._replace(depth=0, window=0) == other._replace(depth=0, window=0)
+
+
+@lru_cache(maxsize=None)
+def place_after(settings, writes):
+    """The place of the generator behind so many writes: the next four words that it gives."""
+    used = 0 if settings.order == IN_TURN else writes
+    return struct.pack(">4Q", *islice(random_words(settings.seed), used, used + 4))
 
 
 @lru_cache(maxsize=None)

@@ -8,18 +8,27 @@ completions; layout 2 has the first number of the last window, and marks from th
 import struct
 from typing import NamedTuple
 
-from judging.settings import FILLINGS, ORDERS, Settings
+from judging.settings import FILLINGS, ORDERS, Settings, place_after
 from judging.verdict import require
 
 
 class State(NamedTuple):
-    """A verify state: its key is (run, server, job), and `counted` are the completed writes."""
+    """A verify state: its key is (run, server, job), `place` that of the generator, and `counted`
+    are the completed writes."""
 
     key: tuple
     settings: Settings
     issued: int
+    place: bytes
     counted: frozenset
     spelling: bytes
+
+    def fits(self, key, settings):
+        """It is one of this key and job: of a job that writes the same, with no more writes than
+        that has, and with the place behind so many."""
+        return (self.key == key and self.settings.is_of_job(settings)
+                and self.issued <= settings.total
+                and self.place == place_after(settings, self.issued))
 
 
 def read_state(data):
@@ -32,7 +41,8 @@ def read_state(data):
     floor = max(0, issued - settings.window)
     last = read_list(data[96:]) if data[:4] == b"FCV1" else read_marks(data[96:], floor)
     require(all(write < issued for write in last), "a write counts that wasn't issued")
-    return State(key, settings, issued, frozenset(range(floor)) | frozenset(last), bytes(data))
+    counted = frozenset(range(floor)) | frozenset(last)
+    return State(key, settings, issued, bytes(data[64:96]), counted, bytes(data))
 
 
 def read_settings(data):

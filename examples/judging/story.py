@@ -23,6 +23,9 @@ class Story:
             for line in step.sent:
                 self.take(line, shown, verdict)
             self.sent.append(self.frames[first:])
+            if step.answer[0] == "refused":
+                verdict.judge("refused", not step.sent,
+                              f"{' '.join(step.words)} is refused and sends frames")
         if len(shown) != len(self.frames):
             raise Unreadable("a frame is shown that wasn't sent")
 

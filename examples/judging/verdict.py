@@ -7,8 +7,8 @@ can't be judged here.
 from collections import Counter
 
 # The claims, in the order in which they are told; `seen` says what each is.
-CLAIMS = ("frames", "state", "taking", "count", "issued", "settings", "quiet", "report", "honest",
-          "whole", "cut")
+CLAIMS = ("frames", "state", "taking", "count", "issued", "settings", "quiet", "report", "told",
+          "honest", "whole", "none", "cut", "order", "ack", "refused")
 
 
 class Unreadable(Exception):

@@ -13,7 +13,7 @@ use Rattle.client_core.specs.History as client
 use Rattle.net_world.specs.Setup.{Setup}
 use Rattle.net_world.specs.Frames.{FrameStep, at_server, at_client, trace_heard}
 use Rattle.net_world.specs.Claims.{OfEachList, OfEachTrace}
-use Rattle.net_world.specs.Headline.{OneTaking, HeldIsTheTaken, CountsTheCompleted, QuietUntilTheCheck, KeptWhereServed, KeptWhereCut, StatePacketsAreEqual, RunsAreGivenOnce, AttemptsAreGivenOnce, StartsAreAcceptedOnce, OneTextOfEachRun, OneTextOfEachAttempt}
+use Rattle.net_world.specs.Headline.{OneTaking, HeldIsTheTaken, CountsTheCompleted, QuietUntilTheCheck, HeldReportsWereMade, KeptWhereServed, KeptWhereCut, StatePacketsAreEqual, RunsAreGivenOnce, AttemptsAreGivenOnce, StartsAreAcceptedOnce, OneTextOfEachRun, OneTextOfEachAttempt}
 use Rattle.filters.specs.ClientLives.{ClientAt}
 use Rattle.filters.specs.ServerAt.{ServerAt}
 use Rattle.filters.specs.MirrorLives.{MirrorAt}
@@ -113,6 +113,7 @@ pub record Claims : Type 0 where
   pub held : OfEachTrace HeldIsTheTaken
   pub counted : OfEachTrace CountsTheCompleted
   pub quiet : OfEachTrace QuietUntilTheCheck
+  pub reports : OfEachTrace HeldReportsWereMade
   pub served : OfEachTrace KeptWhereServed
   pub cut : OfEachTrace KeptWhereCut
   pub equal : OfEachList StatePacketsAreEqual
@@ -145,6 +146,7 @@ holds laws claims w at t is =
       held = claims.held w (trace_heard w t) heard_legal;
       counted = claims.counted w (trace_heard w t) heard_legal;
       quiet = claims.quiet w (trace_heard w t) heard_legal;
+      reports = claims.reports w (trace_heard w t) heard_legal;
       served = claims.served w (trace_heard w t) heard_legal;
       cut = claims.cut w (trace_heard w t) heard_legal;
       equal = claims.equal w (trace_heard w t);

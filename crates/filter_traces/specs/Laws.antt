@@ -1,19 +1,21 @@
 -- What holds of all fleets of filters, at each moment: all that happened up to some step is what
 -- happened to a fleet.
-use Rattle.std.specs.Prelude.{◌≡◌, ◌≤◌, ◌<◌, ℕ, List, map}
+use Rattle.std.specs.Prelude.{◌≡◌, ◌≤◌, ◌<◌, ℕ, List, map, IsTrue}
 use Rattle.fc_base.specs.declared.limits.TheConstants.{MAX_SERVERS}
 use Rattle.server_core.specs.declared.note.ServerNote.{ServerNote}
-use Rattle.server_core.specs.Note.{blank as server_blank}
+use Rattle.messages.specs.Ranges.{is_generation}
 use Rattle.server_core.specs.Hearing.{coming_of as server_coming, packets_heard as server_heard}
 use Rattle.client_core.specs.Hearing.{coming_of as client_coming, packets_heard as client_heard}
+use Rattle.client_core.specs.Note.{Says}
+use Rattle.mirror_core.specs.Note.{Says as MirrorSays, blank as mirror_blank}
 use Rattle.net_world.specs.Setup.{Setup}
 use Rattle.net_world.specs.Trace.{opening_of, client_opening}
 use Rattle.net_world.specs.Trace as packets
 use Rattle.net_world.specs.Frames.{FrameStep, of_server, of_client, of_mirror, frames_sent, trace_heard, IsFrameTrace}
 use Rattle.net_world.specs.InRange.{FitsFrames}
-use Rattle.net_world.specs.Headline.{OneTaking, HeldIsTheTaken, CountsTheCompleted, QuietUntilTheCheck, KeptWhereServed, KeptWhereCut, StatePacketsAreEqual, RunsAreGivenOnce, AttemptsAreGivenOnce, StartsAreAcceptedOnce, OneTextOfEachRun, OneTextOfEachAttempt}
-use Rattle.filters.specs.ServerLives.{next_boot}
+use Rattle.net_world.specs.Headline.{OneTaking, HeldIsTheTaken, CountsTheCompleted, QuietUntilTheCheck, HeldReportsWereMade, KeptWhereServed, KeptWhereCut, StatePacketsAreEqual, RunsAreGivenOnce, AttemptsAreGivenOnce, StartsAreAcceptedOnce, OneTextOfEachRun, OneTextOfEachAttempt}
 use Rattle.filter_traces.specs.Fleets.{FleetAt, FleetStep, FleetBegins, Ran}
+use Rattle.filter_traces.specs.Begins.{BeginsEmpty, first_note}
 use Rattle.filter_traces.specs.Again.{BeginsAgain, CanBeDrawn, IsOlder}
 
 -- One trace of frames of such a world, in which just this comes to each node, and just these frames
@@ -28,7 +30,8 @@ pub record IsTraceOf (w : Setup) (at : FleetAt) (t : List FrameStep) : Type 0 wh
 
 -- The trace of packets that is heard in it has just what each node hears, and of each job of a run
 -- one state was taken at most; whoever holds one holds that; it counts exactly the writes that were
--- completed by then; and since it was taken no write was issued there before a check with it.
+-- completed by then; and since it was taken no write was issued there before a check with it. Each
+-- report that the client holds is one that a check of its server was done with.
 pub record HoldsOneState (w : Setup) (at : FleetAt) (t : List FrameStep) : Type 0 where
   pub servers_are : (s : ℕ) → packets.of_server s (trace_heard w t)
       ≡ server_heard (opening_of s) (at.servers s).list
@@ -39,6 +42,7 @@ pub record HoldsOneState (w : Setup) (at : FleetAt) (t : List FrameStep) : Type 
   pub held : HeldIsTheTaken w (trace_heard w t)
   pub counted : CountsTheCompleted w (trace_heard w t)
   pub quiet : QuietUntilTheCheck w (trace_heard w t)
+  pub reports : HeldReportsWereMade w (trace_heard w t)
   pub served : KeptWhereServed w (trace_heard w t)
   pub cut : KeptWhereCut w (trace_heard w t)
   pub equal : StatePacketsAreEqual w (trace_heard w t)
@@ -59,13 +63,13 @@ FleetsAreTraces =
     (w : Setup) (first now : FleetAt) (steps : List FleetStep) →
     FleetBegins w first → Ran w first steps now → IsOneTrace w now
 
--- Each fleet can begin: one of as many servers as there may be, with a mirror and without one, all of
--- whose servers begin over empty notes.
+-- Each fleet can begin over empty notes: one of as many servers as there may be, with a mirror and
+-- without one; with a mirror its client begins anew, in any generation.
 abbrev pub FleetsCanBegin : Type 0
 FleetsCanBegin =
-    (w : Setup) → w.servers ≤ MAX_SERVERS →
-    (first : FleetAt) × FleetBegins w first
-    × ((s : ℕ) → (first.servers s).note ≡ next_boot server_blank)
+    (w : Setup) (g : ℕ) (note copies : List ℕ) → w.servers ≤ MAX_SERVERS → IsTrue (is_generation g) →
+    Says note (first_note w.mirror g) → MirrorSays copies mirror_blank
+    → (first : FleetAt) × BeginsEmpty w note copies first
 
 -- And each without a mirror can begin over drawn numbers, and over servers that have served others
 -- before, with runs up to these numbers.

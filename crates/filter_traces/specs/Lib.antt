@@ -1,4 +1,5 @@
 pub mod Members
 pub mod Fleets
+pub mod Begins
 pub mod Again
 pub mod Laws

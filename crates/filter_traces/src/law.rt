@@ -11,7 +11,8 @@ use net_world::{
 
 /// Whatever happens to the filters of a client, its servers and its mirror, what came to their nodes is one trace, of
 /// just the frames that they sent; and they hold one state of each job: the one that its server took, which counts the
-/// writes that were completed by then, and since which no write was issued there before a check with it.
+/// writes that were completed by then, and since which no write was issued there before a check with it. Each report
+/// that the client holds is one that a check of its server was done with.
 pub fn fleet_law()
     ensures { FleetsAreTraces }
 {
@@ -21,18 +22,18 @@ pub fn fleet_law()
     frames_are_readable();
     frames_are_read_back();
     one_state_of_each_job();
+    shown_reports_were_made();
     ends_are_kept();
     nothing_differs();
     numbers_are_given_once();
     one_text_of_each();
 }
 
-/// A fleet of any number of servers can begin, with a mirror and without one, all of whose servers begin over empty
-/// notes.
+/// A fleet of any number of servers can begin over empty notes, with a mirror, in any generation, and without one.
 pub fn fleets_begin_law()
     ensures { FleetsCanBegin }
 {
-    notes_are_read_back();
+    frames_are_of_packets();
 }
 
 /// A fleet without a mirror can begin over numbers that are drawn, and over servers that have served other fleets,

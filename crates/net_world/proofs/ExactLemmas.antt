@@ -50,7 +50,7 @@ checks_ok t s None step h = absurd cc
 checks_ok t s (Some e) step h = (e, refl)
 
 -- What is known of the check before it is made.
-abbrev with_or_full : Option State → Progress
+abbrev pub with_or_full : Option State → Progress
 with_or_full None = Full
 with_or_full (Some state) = With state
 
@@ -89,7 +89,7 @@ pub progress_is : (o : Opening) (list : List Entry) (j : ℕ) (c : Check) (job :
     → progress_after c j job c.since ≡ p → progress o list j ≡ Some p
 progress_is o list j c job p a b h = ap (λ x. progress_in x j) a ∙ ap (progress_at c j) b ∙ ap Some h
 
-made_with : OfEachTrace QuietUntilTheCheck → (w : Setup) (t : List Step) (s j : ℕ) (x : Option State) → IsTrace w t
+pub made_with : OfEachTrace QuietUntilTheCheck → (w : Setup) (t : List Step) (s j : ℕ) (x : Option State) → IsTrace w t
     → progress (opening_of s) (of_server s t) j ≡ Some (with_or_full x) → IsMadeWith s j (of_server s t) x
 made_with quiet w t s j None trace h = h
 made_with quiet w t s j (Some state) trace h = (h, quiet w t trace s j state h)

@@ -73,3 +73,4 @@ pub mod CutEndsLemmas
 pub mod NoSaveLemmas
 pub mod LookLemmas
 pub mod OpenedLemmas
+pub mod ReportLemmas

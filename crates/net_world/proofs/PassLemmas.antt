@@ -72,7 +72,7 @@ no_state goes o past e p jobs state h is = elim (goes o past e p h) [
 ]
 
 -- Nor does the mirror, or a Saved.
-not_of_mirror : mirror_laws.PacketsGoToTheClient → (o : MirrorNote) (past : List mirror.Entry) (e : mirror.Entry) (p : PacketParts) (b : Body)
+pub not_of_mirror : mirror_laws.PacketsGoToTheClient → (o : MirrorNote) (past : List mirror.Entry) (e : mirror.Entry) (p : PacketParts) (b : Body)
     → Contains (mirrors.packets o past e) p → p.body ≡ b → is_of_mirror (kind_of b) ≡ false → ⊥
 not_of_mirror goes o past e p b h is none =
     clash (is_of_mirror (kind_of b)) (subst (λ (x : Body). is_of_mirror (kind_of x) ≡ true) is (sent_by_mirror goes o past e p h).2) none

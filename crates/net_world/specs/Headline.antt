@@ -21,12 +21,15 @@ use Rattle.client_core.specs.Life.{life, deeds_done}
 use Rattle.client_core.specs.Requests.{Served, trigger_at}
 use Rattle.client_core.specs.Words.{kept_state}
 use Rattle.client_core.specs.Numbering.{runs_in, attempts_in}
+use Rattle.client_core.specs.declared.received.Received.{Received}
+use Rattle.client_core.specs.Reports.{reports}
 use Rattle.net_world.specs.declared.told.WorldAnswer.TheVariants.{Checked}
 use Rattle.net_world.specs.declared.told.Told.{Told}
 use Rattle.net_world.specs.Setup.{Setup}
 use Rattle.net_world.specs.Trace.{Step, AtServer, opening_of, of_server, of_client, client_opening, sent_packets}
 use Rattle.net_world.specs.Holders.{Holds, taken_of, key_at}
 use Rattle.net_world.specs.Passes.{WasKept}
+use Rattle.net_world.specs.Reported.{WasReported}
 use Rattle.net_world.specs.Started.{started_runs}
 use Rattle.net_world.specs.Frames.{FrameStep, trace_heard}
 use Rattle.net_world.specs.FrameLaws.{PiecesHold}
@@ -114,6 +117,12 @@ KeptWhereCut w t =
     → act (opening_of s) (of_server s earlier) e ≡ acts.Cut
     → Contains (taken_of (key_at now.run s j) earlier) state
     → WasKept w earlier (key_at now.run s j) state
+
+-- Each report that the client holds is one that a check of its server was done with.
+abbrev pub HeldReportsWereMade : Setup → List Step → Type 0
+HeldReportsWereMade w t =
+    (r : Received) → Contains (reports (life (client_opening w) (of_client w t))) r
+    → WasReported t r.server r.run r.attempt r.job r.report
 
 -- No run is given twice, whatever was cut and lost.
 abbrev pub RunsAreGivenOnce : Setup → List Step → Type 0

@@ -18,6 +18,7 @@ pub mod Outcomes
 pub mod World
 pub mod WorldLaws
 pub mod Exact
+pub mod Reported
 pub mod Honest
 -- The headline.
 pub mod Headline

@@ -27,6 +27,7 @@ mod passes;
 mod playing;
 mod put_in;
 mod ready;
+mod reported;
 mod sent;
 mod served;
 mod server_node;
@@ -49,6 +50,7 @@ pub use passes::{
 };
 pub use playing::play;
 pub use put_in::{with_cut, with_stop};
+pub use reported::shown_reports_were_made;
 pub use sent::Sent;
 pub use told::{BoxedReport, Told, WorldAnswer};
 pub use verdict::one_state_of_each_job;

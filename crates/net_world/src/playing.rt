@@ -5,13 +5,14 @@ ghost use Rattle.fc_base.specs.declared.limits.TheConstants.{MAX_SERVERS};
 ghost use Rattle.net_world.specs.Setup.{setup_of};
 ghost use Rattle.net_world.specs.Stands.{StandsFor};
 ghost use Rattle.net_world.specs.Claims.{world_of, AtEachMoment, OfItsTrace, OfItsFrames};
-ghost use Rattle.net_world.specs.Headline.{OneTaking, HeldIsTheTaken, PiecesHoldTheTaken, CountsTheCompleted, QuietUntilTheCheck, ExactReports, FewFaults, NoFaults, NoConflict, StatePacketsAreEqual, KeptWhereServed, KeptWhereCut, RunsAreGivenOnce, AttemptsAreGivenOnce, StartsAreAcceptedOnce, OneTextOfEachRun, OneTextOfEachAttempt};
+ghost use Rattle.net_world.specs.Headline.{OneTaking, HeldIsTheTaken, PiecesHoldTheTaken, CountsTheCompleted, QuietUntilTheCheck, ExactReports, FewFaults, NoFaults, NoConflict, StatePacketsAreEqual, KeptWhereServed, KeptWhereCut, RunsAreGivenOnce, AttemptsAreGivenOnce, StartsAreAcceptedOnce, OneTextOfEachRun, OneTextOfEachAttempt, HeldReportsWereMade};
 
 use crate::config::Config;
 use crate::event::WorldEvent;
 use crate::frame_law::frames_hold_the_taken;
 use crate::fresh::{ends_are_kept, nothing_differs, numbers_are_given_once, one_text_of_each};
 use crate::honest::honest_disks;
+use crate::reported::shown_reports_were_made;
 use crate::verdict::one_state_of_each_job;
 use crate::world::World;
 use crate::world_law::{checks_are_exact, each_world_is_a_trace, none_is_a_conflict};
@@ -30,6 +31,8 @@ pub fn play(alloc: Global, config: Config, events: &[WorldEvent]) -> Result<Worl
     ensures counts { OnOk result (AtEachMoment (OfItsTrace CountsTheCompleted) config events.now) }
     ensures quiet { OnOk result (AtEachMoment (OfItsTrace QuietUntilTheCheck) config events.now) }
     ensures exact { OnOk result (AtEachMoment ExactReports config events.now) }
+    ensures reports { OnOk result
+        (AtEachMoment (OfItsTrace HeldReportsWereMade) config events.now) }
     ensures few_faults { OnOk result (AtEachMoment FewFaults config events.now) }
     ensures no_faults { OnOk result (AtEachMoment NoFaults config events.now) }
     ensures conflict { OnOk result (AtEachMoment NoConflict config events.now) }
@@ -48,6 +51,7 @@ pub fn play(alloc: Global, config: Config, events: &[WorldEvent]) -> Result<Worl
     each_world_is_a_trace();
     one_state_of_each_job();
     checks_are_exact();
+    shown_reports_were_made();
     honest_disks();
     none_is_a_conflict();
     ends_are_kept();

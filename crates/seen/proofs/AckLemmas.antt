@@ -43,8 +43,9 @@ use Rattle.mirror_core.specs.Packets as mirrors
 use Rattle.net_world.proofs.MirrorLemmas.{sent_by_mirror}
 use Rattle.net_world.proofs.TagLemmas.{Long, OfJobs, OfVerify}
 use Rattle.net_world.proofs.TraceLemmas.{taken_was_sent}
+use Rattle.net_world.proofs.SaidLemmas.{Sayings, sent_by, none_says}
 use Rattle.seen.specs.Observations.{Observation}
-use Rattle.seen.specs.Sightings.{IsAmong, from_server, to_server}
+use Rattle.seen.specs.Sightings.{IsAmong, IsSeen, from_server, to_server}
 use Rattle.seen.specs.Cuts.{IsKeptOrNone}
 use Rattle.seen.specs.Claims.{AcksAreOfKept}
 use Rattle.seen.specs.Watching.{observation, observations, OfAllThatIsSeen}
@@ -55,6 +56,7 @@ use Rattle.seen.proofs.FrameLemmas.{whole_of, of_whole, packets_by_entry, server
 use Rattle.seen.proofs.ArriveLemmas.{ArriveLaws}
 use Rattle.seen.proofs.CameLemmas.{sent_short}
 use Rattle.seen.proofs.ClientLemmas.{client_at}
+use Rattle.seen.proofs.SeenLemmas.{SeenLaws, all_taken, seen_was_taken}
 
 -- The laws on which this rests.
 pub record AckLaws : Type 0 where
@@ -63,6 +65,8 @@ pub record AckLaws : Type 0 where
   pub traces : EachWorldIsATrace
   pub lengths : LengthsAreBounded
   pub acks : AcksAreFor
+  pub seen : SeenLaws
+  pub sayings : Sayings
 
 -- ---- what the client sends
 
@@ -73,7 +77,7 @@ not_mirror : Mirror ≡ Client → ⊥
 not_mirror h = cc
 
 -- The entry of the client that sends a packet, in a step of its own.
-record ClientSends (w : Setup) (ps : List FrameStep) (x : Option FrameStep) (p : PacketParts) : Type 0 where
+pub record ClientSends (w : Setup) (ps : List FrameStep) (x : Option FrameStep) (p : PacketParts) : Type 0 where
   pub coming : Coming Entry Left
   pub step_is : x ≡ Some (OfClient coming)
   pub entry : Entry
@@ -96,7 +100,7 @@ by_entry laws w ps c (Some y) p is h =
           (whole_of (clients.packets (client_opening w) list y) p h);
     }
 
-client_sends : FrameLaws → (w : Setup) (ps : List FrameStep) (x : Option FrameStep) (p : PacketParts) → p.from ≡ Client
+pub client_sends : FrameLaws → (w : Setup) (ps : List FrameStep) (x : Option FrameStep) (p : PacketParts) → p.from ≡ Client
     → Contains (frames_by_step w ps x) (Whole p) → ClientSends w ps x p
 client_sends laws w ps None p from h = absurd (none_in (Whole p) h)
 client_sends laws w ps (Some (OfClient c)) p from h =
@@ -154,7 +158,7 @@ shown_if false x state h k = absurd cc
 
 -- ---- the trace
 
-trace_with : (w : Setup) (past : List Change) (r : Outcome) (step : FrameStep) → step_in r ≡ Some step
+pub trace_with : (w : Setup) (past : List Change) (r : Outcome) (step : FrameStep) → step_in r ≡ Some step
     → trace w (and_outcome r past) ≡ trace_heard w (step ∷ steps past)
 trace_with w past (Does (changes.Met s)) step h = let same : s ≡ step = cc in ap (λ (x : FrameStep). trace_heard w (x ∷ steps past)) same
 trace_with w past (Does (Landed s j k mask)) step h = absurd cc
@@ -167,6 +171,20 @@ none_is_short run job jobs (OfJobs q text k) = cc
 none_is_short run job jobs (OfVerify q attempt text k) = cc
 
 -- ---- acknowledgements
+
+one_or_none : (x : State) (list : List State) → list ≡ [] → list ≡ x ∷ [] → ⊥
+one_or_none x list h k = let both : [] ≡ x ∷ [] = sym h ∙ k in absurd cc
+
+-- Where a server has said that a job has no state, none of it is seen.
+none_is_seen : AckLaws → (w : Setup) (evs : List Happening) (s run job jobs : ℕ) → w.servers ≤ MAX_SERVERS
+    → Contains (sent_packets w (trace w (world w evs))) (from_server s (bodies.NoState run job jobs)) → (other : State) → other.key ≡ key_at run s job
+    → IsSeen (observations w evs) other → ⊥
+none_is_seen laws w evs s run job jobs few sent other key seen =
+    let q = from_server s (bodies.NoState run job jobs) in
+    let t = trace w (world w evs) in
+    let none = (none_says laws.sayings s (of_server s t) q run job jobs (sent_by laws.sayings w s t q refl sent) refl).none in
+    one_or_none other (all_taken w evs (key_at run s job)) none
+    (ap (all_taken w evs) (sym key) ∙ seen_was_taken laws.seen w evs few other seen)
 
 ack_here : AckLaws → (w : Setup) (evs : List Happening) (e : Happening) (s run job : ℕ) → w.servers ≤ MAX_SERVERS
     → IsAmong (observation w evs e).frames (to_server s (bodies.StateAck run job)) → IsKeptOrNone (observations w evs) (observation w evs e) s run job
@@ -197,7 +215,10 @@ ack_here laws w evs e s run job few h =
           let short = sent_short laws.arriving laws.traces laws.lengths w evs q few sent (none_is_short run job none.0) in
           let whole : Contains (sent_at w evs) (Whole q) =
           subst (λ fs. Contains fs (Whole q)) (sym (laws.arriving.frames w (steps past))) (of_whole (sent_packets w (trace w past)) q short sent) in
-          inr (none.0, subst (λ fs. IsAmong fs q) (sym (frames_are w evs)) (say_among laws.frames.read w evs few (sent_at w evs) q whole whole))
+          inr (
+            (none.0, subst (λ fs. IsAmong fs q) (sym (frames_are w evs)) (say_among laws.frames.read w evs few (sent_at w evs) q whole whole)),
+            none_is_seen laws w evs s run job none.0 few sent,
+          )
     ]
 
 pub acks_are_of_kept : AckLaws → OfAllThatIsSeen AcksAreOfKept

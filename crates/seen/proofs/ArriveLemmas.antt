@@ -99,7 +99,7 @@ arrived w s evs e x left asks stays (ByWorker j l event saved is c does) =
     absurd (no_packet s x (inputs.Issue j) (same_event x (inputs.Issue j) left l is) refl asks)
 arrived w s evs e x left asks stays (ByEnd end j k origin l event there free saved is c does) =
     absurd (no_packet s x _ (same_event x _ left l is) refl asks)
-arrived w s evs e x left asks stays (ByCheck boot a j report l saved is) = absurd (no_packet s x _ (same_event x _ left l is) refl asks)
+arrived w s evs e x left asks stays (ByCheck boot a j report l event end saved is c does) = absurd (no_packet s x _ (same_event x _ left l is) refl asks)
 arrived w s evs e x left asks stays (ByCut is) = absurd cc
 arrived w s evs e x left asks stays (ByRestart l is) = absurd cc
 

@@ -15,7 +15,8 @@ use Rattle.server_core.specs.History as server
 use Rattle.server_core.specs.History.{Opening, Entry}
 use Rattle.server_core.specs.Heard.{heard_with, heard_packets}
 use Rattle.server_core.specs.Request.{ToMark, ToNobody, request_of}
-use Rattle.server_core.specs.Run.{Work}
+use Rattle.server_core.specs.Run.{Work, halt_of}
+use Rattle.server_core.specs.Answers.{wants_cut}
 use Rattle.server_core.specs.Words.{Staged, is_on, last_run, staged_run, work, due_by, due}
 use Rattle.net_world.specs.Setup.{Setup}
 use Rattle.net_world.specs.Happenings.{Happening}
@@ -36,6 +37,7 @@ use Rattle.seen.proofs.SeenLemmas.{all_taken, seen_was_taken}
 use Rattle.seen.proofs.ArriveLemmas.{Arrives, arrives, comes}
 use Rattle.seen.proofs.RequestLemmas.{asks_mark}
 use Rattle.seen.proofs.QuietLemmas.{TakingLaws}
+use Rattle.seen.proofs.OrderLemmas.{cut_was_ordered}
 use Rattle.seen.proofs.MarkLemmas.{CutLaws, cut_is_mark, AsksCut, asks_cut}
 
 ack_is_short : (r j : ℕ) → Long (bodies.StateAck r j) → ⊥
@@ -149,6 +151,8 @@ acknowledged laws w evs e few a =
       run = v.run;
       job = j;
       asks = ack_comes laws.taking w a.s evs e a.x a.left v.run j few a.heard_it mark.2.1;
+      ordered =
+          cut_was_ordered laws.taking w a.s evs v few mark.1 (subst (λ (u : Work). wants_cut (halt_of u.run u.since) ≡ true) same kept.wants);
       each = λ state seen at of_run.
           let less = job_below laws.taking w evs state v few seen
           (subst (λ m. work (opening_of m) (list_at w m evs) ≡ Some v) (sym at) mark.1) (sym of_run) in

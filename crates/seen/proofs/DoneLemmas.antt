@@ -118,7 +118,7 @@ ended w past s e r ticket left (ByEnd end j k origin l event there free saved is
       change = c;
       does = does;
     }
-ended w past s e r ticket left (ByCheck boot a j report l saved is) = absurd cc
+ended w past s e r ticket left (ByCheck boot a j report l event end saved is c does) = absurd cc
 ended w past s e r ticket left (ByCut is) = absurd cc
 ended w past s e r ticket left (ByRestart l is) = absurd cc
 

@@ -1,5 +1,5 @@
 -- What comes to a server with an event of a world.
-use Rattle.std.proofs.Common.{◌≡◌, refl, sym, ◌∙◌, subst, ℕ, Bool, true, false, ◌==◌, List, ◌∷◌, Option, Some, None, Result, Ok, Err}
+use Rattle.std.proofs.Common.{◌≡◌, refl, sym, ◌∙◌, ap, subst, ℕ, Bool, true, false, ◌==◌, List, ◌∷◌, Option, Some, None, Result, Ok, Err}
 use Rattle.std.specs.Prelude.{if◌then◌else◌, ◌&&◌, slice_get}
 use Rattle.std.proofs.lemmas.Bool.{eqb-true}
 use Rattle.fc_base.specs.declared.fault.Fault.{Fault}
@@ -23,12 +23,13 @@ use Rattle.server_core.specs.History.{Entry}
 use Rattle.server_core.specs.Words as words
 use Rattle.server_core.specs.Words.{Staged, due}
 use Rattle.server_core.specs.Answers.{refusal}
-use Rattle.server_core.specs.Check.{Check}
+use Rattle.server_core.specs.Check.{Check, check}
 use Rattle.client_core.specs.Inputs.{PacketInput as ClientInput}
 use Rattle.client_core.specs.History as client
 use Rattle.client_core.specs.Words as clients
 use Rattle.client_core.specs.Note.{is_blank}
 use Rattle.net_world.specs.Setup.{Setup}
+use Rattle.net_world.specs.Happenings as happenings
 use Rattle.net_world.specs.Happenings.{Happening, Deliver, Issue}
 use Rattle.net_world.specs.Events.{happening_of_end}
 use Rattle.net_world.specs.Trace.{of_server, opening_of, client_opening, of_client}
@@ -36,7 +37,8 @@ use Rattle.net_world.specs.Frames as frames
 use Rattle.net_world.specs.Frames.{FrameStep, OfServer, OfClient, OfMirror, at_server, frames_sent, to_of, trace_heard}
 use Rattle.net_world.specs.Changes.{Change, Met, Landed, Rotted, steps, trace}
 use Rattle.net_world.specs.Writes.{open_at}
-use Rattle.net_world.specs.Checks.{report_for, check_end, end_of_check_in}
+use Rattle.net_world.specs.Contents.{content}
+use Rattle.net_world.specs.Checks.{report_for, check_end, end_of_check_in, end_of_check}
 use Rattle.net_world.specs.Outcomes.{Outcome, Does, Refuses, Drops, outcome_of_step, unless_fault, where_saved, lost_by, met_by_server}
 use Rattle.net_world.specs.Outcomes.{met_by_client, said_to_server}
 use Rattle.net_world.specs.Outcomes.{end_of_write, end_of_check_met, cut, noted_in, restart_of}
@@ -101,9 +103,9 @@ pub data Makes (w : Setup) (past : List Change) (s : ℕ) (e : Happening) (r : O
       → refusal (opening_of s) (of_server s (trace w past)) (inputs.WriteDone (ticket_of origin k) end) ≡ None
       → left ≡ saved_for (due (opening_of s) (of_server s (trace w past)) (inputs.WriteDone (ticket_of origin k) end))
       → y ≡ server.Met (inputs.WriteDone (ticket_of origin k) end) left → (c : Change) → r ≡ Does c → Makes w past s e r y
-  ByCheck : (boot a j : ℕ) (report : ReportParts) (left : Left)
+  ByCheck : (boot a j : ℕ) (report : ReportParts) (left : Left) → e ≡ happenings.Check s j → end_of_check w past s j ≡ Some (inputs.CheckDone boot a j report)
       → left ≡ saved_for (due (opening_of s) (of_server s (trace w past)) (inputs.CheckDone boot a j report))
-      → y ≡ server.Met (inputs.CheckDone boot a j report) left → Makes w past s e r y
+      → y ≡ server.Met (inputs.CheckDone boot a j report) left → (c : Change) → r ≡ Does c → Makes w past s e r y
   ByCut : y ≡ server.Cut → Makes w past s e r y
   ByRestart : (left : Left) → y ≡ server.Restart left → Makes w past s e r y
 
@@ -185,24 +187,25 @@ by_end w past s r j k end (Some origin) is y h =
     subst (λ n. Makes w past n (happening_of_end end r j k) (outcome_of_step (met_by_server (trace w past) r x)) y) m.0
     (ByEnd end j k origin left refl is m.1 refl (sym m.2) (Met (OfServer r (Happens (server.Met x left)))) m.3)
 
-by_report : (w : Setup) (past : List Change) (s r : ℕ) (e : Happening) (c : Check) (j : ℕ) (x : Option ReportParts)
-    → Adds w past s e (outcome_of_step (end_of_check_met (trace w past) r (check_end c j x)))
+by_report : (w : Setup) (past : List Change) (s r : ℕ) (c : Check) (j : ℕ) (x : Option ReportParts) → end_of_check w past r j ≡ check_end c j x
+    → Adds w past s (happenings.Check r j) (outcome_of_step (end_of_check_met (trace w past) r (check_end c j x)))
 unfolding Adds
-by_report w past s r e c j None y h = absurd cc
-by_report w past s r e c j (Some report) y h =
+by_report w past s r c j None is y h = absurd cc
+by_report w past s r c j (Some report) is y h =
     let o = opening_of r in
     let list = of_server r (trace w past) in
     let x = inputs.CheckDone c.boot c.attempt j report in
     let left = saved_for (due o list x) in
     let m = met s r (steps past) (refusal o list x) (server.Met x left) y h in
-    subst (λ n. Makes w past n e (outcome_of_step (met_by_server (trace w past) r x)) y) m.0
-    (ByCheck c.boot c.attempt j report left refl (sym m.2))
+    subst (λ n. Makes w past n (happenings.Check r j) (outcome_of_step (met_by_server (trace w past) r x)) y) m.0
+    (ByCheck c.boot c.attempt j report left refl is refl (sym m.2) (Met (OfServer r (Happens (server.Met x left)))) m.3)
 
-pub by_check : (w : Setup) (past : List Change) (s r : ℕ) (e : Happening) (x : Option Check) (j : ℕ) (held : ℕ → List ℕ)
-    → Adds w past s e (outcome_of_step (end_of_check_met (trace w past) r (end_of_check_in x j held)))
+pub by_check : (w : Setup) (past : List Change) (s r j : ℕ) (x : Option Check) → check (opening_of r) (of_server r (trace w past)) ≡ x
+    → Adds w past s (happenings.Check r j) (outcome_of_step (end_of_check_met (trace w past) r (end_of_check_in x j (content w past r j))))
 unfolding Adds
-by_check w past s r e None j held y h = absurd cc
-by_check w past s r e (Some c) j held y h = by_report w past s r e c j (report_for c j (slice_get c.jobs j) held) y h
+by_check w past s r j None is y h = absurd cc
+by_check w past s r j (Some c) is y h =
+    by_report w past s r c j (report_for c j (slice_get c.jobs j) (content w past r j)) (ap (λ z. end_of_check_in z j (content w past r j)) is) y h
 
 -- ---- power
 

@@ -94,7 +94,7 @@ issue_happens w past s e r j left (ByWorker i l event saved is c does) =
     let same : i ≡ j = cc in
     (event ∙ ap (Issue s) same, c, does)
 issue_happens w past s e r j left (ByEnd end i k origin l event there free saved is c does) = absurd cc
-issue_happens w past s e r j left (ByCheck boot a i report l saved is) = absurd cc
+issue_happens w past s e r j left (ByCheck boot a i report l event end saved is c does) = absurd cc
 issue_happens w past s e r j left (ByCut is) = absurd cc
 issue_happens w past s e r j left (ByRestart l is) = absurd cc
 

@@ -7,6 +7,7 @@ mod CheckLemmas
 mod ClientLemmas
 mod CutLemmas
 mod DoneLemmas
+mod EndLemmas
 mod EntryLemmas
 mod ExampleLemmas
 mod FileLemmas
@@ -17,11 +18,14 @@ mod HonestLemmas
 mod IssuedLemmas
 mod MakeLemmas
 mod MarkLemmas
+mod NoneLemmas
 mod NumberLemmas
+mod OrderLemmas
 mod PlaceLemmas
 mod ProgressLemmas
 mod QuietLemmas
 mod ReadLemmas
+mod RefusalLemmas
 mod ReportLemmas
 mod RequestLemmas
 mod RunLemmas
@@ -30,4 +34,5 @@ mod ServerLemmas
 mod SettingLemmas
 mod TakingLemmas
 mod TextLemmas
+mod ToldLemmas
 mod WorkLemmas

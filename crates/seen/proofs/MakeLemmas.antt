@@ -34,7 +34,6 @@ use Rattle.net_world.specs.Frames as frames
 use Rattle.net_world.specs.Frames.{FrameStep, OfServer, OfClient, OfMirror, at_server, frames_sent, to_of}
 use Rattle.net_world.specs.Changes.{Change, Met, steps, trace}
 use Rattle.net_world.specs.Writes.{open_at}
-use Rattle.net_world.specs.Contents.{content}
 use Rattle.net_world.specs.Barred.{barring_fault}
 use Rattle.net_world.specs.Outcomes.{Outcome, Does, outcome_of_step, unless_fault, where_saved, lost_by}
 use Rattle.net_world.specs.Outcomes.{comes_to_server, comes_to_client, said_to_server, said_to_client, comes_to}
@@ -181,7 +180,7 @@ brings_so w past s (Done r j k) = by_end w past s r j k ends.Done (open_at (trac
 brings_so w past s (Fail r j k) = by_end w past s r j k ends.Failed (open_at (trace w past) r j k) refl
 brings_so w past s (Rot r j sector bytes) = adds_none w past s (Rot r j sector bytes) _ refl
 brings_so w past s (happenings.Check r j) =
-    by_check w past s r (happenings.Check r j) (check (opening_of r) (of_server r (trace w past))) j (content w past r j)
+    by_check w past s r j (check (opening_of r) (of_server r (trace w past))) refl
 brings_so w past s (Cut node) = by_cut w past s (Cut node) node
 brings_so w past s (Restart node) = by_restart w past s (Restart node) node
 brings_so w past s LoseNote = adds_none w past s LoseNote _ refl

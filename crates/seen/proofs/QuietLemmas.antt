@@ -124,7 +124,7 @@ saved_or_lost w s evs e r x left (ByFrame i f p l event there to says free saved
 saved_or_lost w s evs e r x left (ByLoss y l is lost d due_is) = inl (ap is_lost (same_left x y left l is) ∙ lost)
 saved_or_lost w s evs e r x left (ByWorker j l event saved is c does) = inr (saved_so w s evs x (inputs.Issue j) left l is saved)
 saved_or_lost w s evs e r x left (ByEnd end j k origin l event there free saved is c does) = inr (saved_so w s evs x _ left l is saved)
-saved_or_lost w s evs e r x left (ByCheck boot a j report l saved is) = inr (saved_so w s evs x _ left l is saved)
+saved_or_lost w s evs e r x left (ByCheck boot a j report l event end saved is c does) = inr (saved_so w s evs x _ left l is saved)
 saved_or_lost w s evs e r x left (ByCut is) = absurd cc
 saved_or_lost w s evs e r x left (ByRestart l is) = absurd cc
 

@@ -1,35 +1,63 @@
 -- What is claimed of all that is seen of a world, at each moment of it.
-use Rattle.std.specs.Prelude.{◌≡◌, ℕ, List, ◌∷◌, ◌++◌, Ok}
+use Rattle.std.specs.Prelude.{◌≡◌, ℕ, List, ◌∷◌, ◌++◌, None, Ok, Err}
+use Rattle.fc_base.specs.declared.fault.Fault.{Fault}
 use Rattle.fc_base.specs.declared.report.ReportParts.{ReportParts}
 use Rattle.verify_state.specs.State.{State}
 use Rattle.messages.specs.declared.refusal.Act.TheVariants.{Cut}
-use Rattle.messages.specs.declared.body.Body.TheVariants.{StateAck}
+use Rattle.messages.specs.declared.body.Body.TheVariants.{NoSaved, Report, StateAck}
 use Rattle.net_world.specs.declared.told.Told.{Told}
 use Rattle.net_world.specs.declared.told.WorldAnswer.TheVariants.{Checked}
 use Rattle.net_world.specs.Happenings.{Check}
+use Rattle.net_world.specs.Holders.{key_at}
 use Rattle.seen.specs.Observations.{Observation}
-use Rattle.seen.specs.Sightings.{IsAmong, IsSeen, to_server}
+use Rattle.seen.specs.Sightings.{IsAmong, IsSeen, from_server, to_server}
+use Rattle.seen.specs.Refusals.{ChangesNothing}
 use Rattle.seen.specs.Takings.{IsTaken}
-use Rattle.seen.specs.Reports.{IsExact}
+use Rattle.seen.specs.Reports.{IsExact, WasTold}
 use Rattle.seen.specs.Cuts.{IsAcknowledged, IsKeptOrNone}
+
+-- An event that is refused changes nothing of what is seen.
+abbrev pub RefusalsChangeNothing : List Observation → Type 0
+RefusalsChangeNothing seen =
+    (newer older : List Observation) (o : Observation) (fault : Fault) →
+    seen ≡ newer ++ o ∷ older → o.told ≡ Err fault → ChangesNothing older o
 
 -- Two states of one key that are seen, wherever and whenever, are the same.
 abbrev pub OneState : List Observation → Type 0
 OneState seen = (a b : State) → IsSeen seen a → IsSeen seen b → a.key ≡ b.key → a ≡ b
 
 -- A state that is seen was taken by its server, at a Trigger of its run; it counts exactly the
--- writes that were done by then, and until a check of the run no further write was given there.
+-- writes that were done by then, and between the taking and any report of a check of that run no
+-- further write was given there.
 abbrev pub EachIsTaken : List Observation → Type 0
 EachIsTaken seen = (state : State) → IsSeen seen state → IsTaken seen state
 
--- A check that isn't refused is told the exact report, which blames no honest disk.
+-- A check that isn't refused is told the exact report. Where it is made by a state, that blames an
+-- honest disk only for blocks to which a write was in flight at the taking.
 abbrev pub EachReportIsExact : List Observation → Type 0
 EachReportIsExact seen =
     (newer older : List Observation) (o : Observation) (s j : ℕ) (t : Told) (r : ReportParts) →
     seen ≡ newer ++ o ∷ older → o.event ≡ Check s j → o.told ≡ Ok t → t.answer ≡ Checked r
     → IsExact older o s j r
 
--- A server asks for its cut only once each of its states is acknowledged.
+-- Each Report that a server sends, for the first time or again, is of a check that was told it: of
+-- that run, attempt and job, and with that report.
+abbrev pub EachReportWasTold : List Observation → Type 0
+EachReportWasTold seen =
+    (newer older : List Observation) (o : Observation) (s run attempt j jobs : ℕ) (r : ReportParts) →
+    seen ≡ newer ++ o ∷ older
+    → IsAmong o.frames (from_server s (Report run attempt j jobs r))
+    → WasTold (o ∷ older) s run attempt j r
+
+-- The client tells a check that there is no state only where its note shows none of that key.
+abbrev pub NoSavedIsOfNone : List Observation → Type 0
+NoSavedIsOfNone seen =
+    (newer older : List Observation) (o : Observation) (s run attempt job : ℕ) →
+    seen ≡ newer ++ o ∷ older → IsAmong o.frames (to_server s (NoSaved run attempt job))
+    → o.saved (key_at run s job) ≡ None
+
+-- A server asks for its cut only where a Trigger of the run ordered it, and once each of its states
+-- is acknowledged.
 abbrev pub CutsAreBehindAcks : List Observation → Type 0
 CutsAreBehindAcks seen =
     (newer older : List Observation) (o : Observation) (t : Told) →

@@ -7,6 +7,7 @@ pub mod Files
 pub mod Disks
 pub mod Reports
 pub mod Cuts
+pub mod Refusals
 pub mod Claims
 -- The worlds of which it is claimed.
 pub mod Watching

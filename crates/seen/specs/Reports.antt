@@ -1,10 +1,14 @@
 -- The report of a check, as it is seen to be right.
-use Rattle.std.specs.Prelude.{◌≡◌, ◌⊎◌, ℕ, false, List, ◌∷◌, ◌++◌, Option, Some, None}
+use Rattle.std.specs.Prelude.{◌≡◌, ◌⊎◌, ℕ, false, List, ◌∷◌, ◌++◌, Option, Some, None, Ok}
 use Rattle.fc_base.specs.declared.report.ReportParts.{ReportParts}
 use Rattle.job_file.specs.declared.job.Job.{Job}
 use Rattle.verify_state.specs.State.{State}
+use Rattle.verify_state.specs.Misfit.{misfit}
 use Rattle.messages.specs.declared.body.Body.TheVariants.{NoSaved, Report, Saved}
 use Rattle.messages.specs.declared.packet.PacketParts.{PacketParts}
+use Rattle.net_world.specs.declared.told.Told.{Told}
+use Rattle.net_world.specs.declared.told.WorldAnswer.TheVariants.{Checked}
+use Rattle.net_world.specs.Happenings.{Check}
 use Rattle.net_world.specs.Checks.{report_of}
 use Rattle.net_world.specs.Holders.{key_at}
 use Rattle.net_world.specs.Honest.{WasInFlight}
@@ -22,12 +26,13 @@ pub record HasCome (seen : List Observation) (p : PacketParts) : Type 0 where
   pub split : seen ≡ newer ++ now ∷ older
   pub comes : Comes older now p
 
--- What job j of an attempt is checked with: a state of the run, of this server and job, that came
--- to the server in a Saved of the attempt; or none, where the job doesn't load one, or where a
+-- What job j of an attempt is checked with: a state of the run, of this server and job, that fits
+-- the job and came to the server in a Saved of the attempt; or none, where the job doesn't load one, or where a
 -- NoSaved of the attempt came.
 abbrev pub IsMadeWith : List Observation → ℕ → ℕ → ℕ → ℕ → Job → Option State → Type 0
 IsMadeWith seen s run attempt j job (Some state) =
-    (state.key ≡ key_at run s j) × HasCome seen (to_server s (Saved attempt state))
+    (state.key ≡ key_at run s j) × (misfit state state.key job.rec ≡ None)
+    × HasCome seen (to_server s (Saved attempt state))
 IsMadeWith seen s run attempt j job None =
     (job.load ≡ false) ⊎ ((r : ℕ) × HasCome seen (to_server s (NoSaved r attempt j)))
 
@@ -54,3 +59,19 @@ pub record IsExact (seen : List Observation) (o : Observation) (s j : ℕ) (r : 
   pub no_faults :
       (with_it : State) (block : ℕ) → state ≡ Some with_it → AreHonest seen → AreWhole seen
       → IsFaulty (key_at run s j) job with_it (held seen s j) block → ⊥
+
+-- A check at this server was told this report, of this run's attempt and this job; and it was the
+-- exact one.
+pub record WasTold (seen : List Observation) (s run attempt j : ℕ) (report : ReportParts)
+    : Type 0 where
+  pub newer : List Observation
+  pub checked : Observation
+  pub older : List Observation
+  pub split : seen ≡ newer ++ checked ∷ older
+  pub event : checked.event ≡ Check s j
+  pub told : Told
+  pub answered : checked.told ≡ Ok told
+  pub answer : told.answer ≡ Checked report
+  pub exact : IsExact older checked s j report
+  pub of_run : exact.run ≡ run
+  pub of_attempt : exact.attempt ≡ attempt

@@ -1,6 +1,6 @@
 //! What holds of all that is seen of each world. The functions have nothing to run.
 
-ghost use Rattle.seen.specs.Claims.{OneState, EachIsTaken, EachReportIsExact, CutsAreBehindAcks, AcksAreOfKept};
+ghost use Rattle.seen.specs.Claims.{OneState, EachIsTaken, EachReportIsExact, EachReportWasTold, NoSavedIsOfNone, CutsAreBehindAcks, AcksAreOfKept, RefusalsChangeNothing};
 ghost use Rattle.seen.specs.Watching.{OfAllThatIsSeen};
 
 use client_core::{acks_are_for_kept_states, packets_go_to_peers};
@@ -9,12 +9,13 @@ use mirror_core::packets_go_to_the_client;
 use net_world::{
     checks_are_exact, each_world_is_a_trace, frames_are_of_packets, honest_disks,
     numbers_are_given_once, one_state_of_each_job, sent_are_in_range, sent_frames_are_read,
-    tags_name_one_body,
+    shown_reports_were_made, tags_name_one_body,
 };
 use recheck::reports_fit;
 use server_core::{
     counts_the_done, cuts_when_kept, due_starts, legal_histories, numbers_grow, one_taking,
-    open_check_is_last, packets_go_to_client, quiet, starts, with_was_heard,
+    open_check_is_last, packets_go_to_client, quiet, starts, the_taken, the_untaken,
+    with_was_heard,
 };
 
 /// Two states of one key that are seen are the same.
@@ -29,7 +30,8 @@ pub fn one_state()
 }
 
 /// A state that is seen was taken where it is first seen: by its server, at a Trigger of its run, with
-/// exactly the writes that were done by then; and until a check of the run no further write is given there.
+/// exactly the writes that were done by then; and between the taking and any report of a check of that run no further
+/// write is given there.
 pub fn each_is_taken()
     ensures { OfAllThatIsSeen EachIsTaken }
 {
@@ -56,8 +58,8 @@ pub fn each_is_taken()
     numbers_are_given_once();
 }
 
-/// The report that a check is told is the one of what its file is seen to hold, and blames no disk that
-/// is seen to be honest.
+/// The report that a check is told is the one of what its file is seen to hold. Where it is made by a state, it blames
+/// a disk that is seen to be honest only for blocks to which a write was in flight at the taking.
 pub fn each_report_is_exact()
     ensures { OfAllThatIsSeen EachReportIsExact }
 {
@@ -87,7 +89,51 @@ pub fn each_report_is_exact()
     honest_disks();
 }
 
-/// A server asks for its cut only once each state that was seen of its run is acknowledged.
+/// Each Report that a server sends is of a check that was told it, of that run, attempt and job, and with that report.
+pub fn each_report_was_told()
+    ensures { OfAllThatIsSeen EachReportWasTold }
+{
+    sent_frames_are_read();
+    frames_are_of_packets();
+    each_world_is_a_trace();
+    one_state_of_each_job();
+    one_taking();
+    packets_go_to_client();
+    packets_go_to_peers();
+    packets_go_to_the_client();
+    only_sent_comes_together();
+    tags_name_one_body();
+    sent_are_in_range();
+    lengths_are_bounded();
+    reports_fit();
+    legal_histories();
+    numbers_grow();
+    starts();
+    due_starts();
+    open_check_is_last();
+    counts_the_done();
+    quiet();
+    numbers_are_given_once();
+    checks_are_exact();
+    with_was_heard();
+    honest_disks();
+    shown_reports_were_made();
+}
+
+/// The client tells a check that there is no state only where its note shows none of that key.
+pub fn no_saved_is_of_none()
+    ensures { OfAllThatIsSeen NoSavedIsOfNone }
+{
+    sent_frames_are_read();
+    frames_are_of_packets();
+    packets_go_to_client();
+    packets_go_to_peers();
+    packets_go_to_the_client();
+    client_core::no_saved_is_of_none();
+}
+
+/// A server asks for its cut only where a Trigger of the run ordered it, and once each state that was seen of the run
+/// and server is acknowledged.
 pub fn cuts_are_behind_acks()
     ensures { OfAllThatIsSeen CutsAreBehindAcks }
 {
@@ -114,8 +160,8 @@ pub fn cuts_are_behind_acks()
     cuts_when_kept();
 }
 
-/// The client acknowledges what its note shows then, or a job of which its server has said that it has no
-/// state.
+/// The client acknowledges what its note shows then, or a job of which its server has said that it has no state, and of
+/// which none is seen.
 pub fn acks_are_of_kept()
     ensures { OfAllThatIsSeen AcksAreOfKept }
 {
@@ -132,4 +178,16 @@ pub fn acks_are_of_kept()
     reports_fit();
     legal_histories();
     acks_are_for_kept_states();
+    one_state_of_each_job();
+    one_taking();
+    numbers_grow();
+    starts();
+    the_taken();
+    the_untaken();
 }
+
+/// An event that is refused changes nothing of what is seen: no frame is sent, and the client's note shows what it
+/// showed before.
+pub fn refusals_change_nothing()
+    ensures { OfAllThatIsSeen RefusalsChangeNothing }
+{}

@@ -14,6 +14,7 @@ mod watching;
 
 pub use example::examples;
 pub use law::{
-    acks_are_of_kept, cuts_are_behind_acks, each_is_taken, each_report_is_exact, one_state,
+    acks_are_of_kept, cuts_are_behind_acks, each_is_taken, each_report_is_exact,
+    each_report_was_told, no_saved_is_of_none, one_state, refusals_change_nothing,
 };
 pub use watching::watch;

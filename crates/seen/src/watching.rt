@@ -5,11 +5,12 @@ ghost use Rattle.fc_base.specs.declared.limits.TheConstants.{MAX_SERVERS};
 ghost use Rattle.net_world.specs.Setup.{setup_of};
 ghost use Rattle.net_world.specs.Stands.{StandsFor};
 ghost use Rattle.net_world.specs.Claims.{world_of};
-ghost use Rattle.seen.specs.Claims.{OneState, EachIsTaken, EachReportIsExact, CutsAreBehindAcks, AcksAreOfKept};
+ghost use Rattle.seen.specs.Claims.{OneState, EachIsTaken, EachReportIsExact, EachReportWasTold, NoSavedIsOfNone, CutsAreBehindAcks, AcksAreOfKept, RefusalsChangeNothing};
 ghost use Rattle.seen.specs.Watching.{WhenSeen};
 
 use crate::law::{
-    acks_are_of_kept, cuts_are_behind_acks, each_is_taken, each_report_is_exact, one_state,
+    acks_are_of_kept, cuts_are_behind_acks, each_is_taken, each_report_is_exact,
+    each_report_was_told, no_saved_is_of_none, one_state, refusals_change_nothing,
 };
 use net_world::{Config, World, WorldEvent, play};
 use std::alloc::{AllocError, Global};
@@ -24,13 +25,19 @@ pub fn watch(alloc: Global, config: Config, events: &[WorldEvent]) -> Result<Wor
     ensures one_state { OnOk result (WhenSeen OneState config events.now) }
     ensures taken { OnOk result (WhenSeen EachIsTaken config events.now) }
     ensures exact { OnOk result (WhenSeen EachReportIsExact config events.now) }
+    ensures told { OnOk result (WhenSeen EachReportWasTold config events.now) }
+    ensures none_saved { OnOk result (WhenSeen NoSavedIsOfNone config events.now) }
     ensures cuts { OnOk result (WhenSeen CutsAreBehindAcks config events.now) }
     ensures acks { OnOk result (WhenSeen AcksAreOfKept config events.now) }
+    ensures refusals { OnOk result (WhenSeen RefusalsChangeNothing config events.now) }
 {
     one_state();
     each_is_taken();
     each_report_is_exact();
+    each_report_was_told();
+    no_saved_is_of_none();
     cuts_are_behind_acks();
     acks_are_of_kept();
+    refusals_change_nothing();
     play(alloc, config, events)
 }

@@ -17,6 +17,7 @@ returns c =
       held = c.one_state_of_each_job.ensures.held;
       counted = c.one_state_of_each_job.ensures.counted;
       quiet = c.one_state_of_each_job.ensures.quiet;
+      reports = c.shown_reports_were_made.ensures.held;
       served = c.ends_are_kept.ensures.served;
       cut = c.ends_are_kept.ensures.cut;
       equal = c.nothing_differs.ensures.packets;

@@ -49,6 +49,12 @@ pub returns-clause-exact : goal.returns-clause-exact
 returns-clause-exact c newer older split =
     c.checks_are_exact.ensures (setup_of c.args.config) older c.requires.few
 
+pub returns-clause-reports : goal.returns-clause-reports
+returns-clause-reports c newer older split =
+    let w = setup_of c.args.config in
+    c.shown_reports_were_made.ensures.held w (trace w (world w older))
+    (c.each_world_is_a_trace.ensures.packets w older c.requires.few)
+
 pub returns-clause-few_faults : goal.returns-clause-few_faults
 returns-clause-few_faults c newer older split =
     c.honest_disks.ensures.few (setup_of c.args.config) older c.requires.few

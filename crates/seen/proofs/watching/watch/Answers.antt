@@ -19,6 +19,14 @@ pub returns-clause-exact : goal.returns-clause-exact
 returns-clause-exact c =
     on_ok c.play.result _ (λ newer older split. c.each_report_is_exact.ensures (setup_of c.args.config) older c.requires.few)
 
+pub returns-clause-told : goal.returns-clause-told
+returns-clause-told c =
+    on_ok c.play.result _ (λ newer older split. c.each_report_was_told.ensures (setup_of c.args.config) older c.requires.few)
+
+pub returns-clause-none_saved : goal.returns-clause-none_saved
+returns-clause-none_saved c =
+    on_ok c.play.result _ (λ newer older split. c.no_saved_is_of_none.ensures (setup_of c.args.config) older c.requires.few)
+
 pub returns-clause-cuts : goal.returns-clause-cuts
 returns-clause-cuts c =
     on_ok c.play.result _ (λ newer older split. c.cuts_are_behind_acks.ensures (setup_of c.args.config) older c.requires.few)
@@ -26,3 +34,7 @@ returns-clause-cuts c =
 pub returns-clause-acks : goal.returns-clause-acks
 returns-clause-acks c =
     on_ok c.play.result _ (λ newer older split. c.acks_are_of_kept.ensures (setup_of c.args.config) older c.requires.few)
+
+pub returns-clause-refusals : goal.returns-clause-refusals
+returns-clause-refusals c =
+    on_ok c.play.result _ (λ newer older split. c.refusals_change_nothing.ensures (setup_of c.args.config) older c.requires.few)
