@@ -1,6 +1,6 @@
 -- What comes to the client of a fleet may come.
 use Rattle.std.proofs.Common.{◌≡◌, refl, ◌∙◌, ap, subst, ◌⊎◌, inl, inr, ℕ, Bool, true, false, List, [], ◌∷◌, ◌++◌, length, Option, Some, None, Result, Ok, Err}
-use Rattle.std.specs.Prelude.{IfSome, IsTrue, nat_lt, drop, if◌then◌else◌}
+use Rattle.std.specs.Prelude.{IfSome, IsTrue, ◌==◌, nat_lt, drop, if◌then◌else◌}
 use Rattle.std.proofs.lemmas.Bool.{and_parts}
 use Rattle.std.specs.Option.{option_map}
 use Rattle.std.specs.Int.{w64}
@@ -67,6 +67,10 @@ verify_may : (w : Setup) (sent : List Frame) (b : Bool) (body : List ℕ)
 verify_may w sent true body = tt
 verify_may w sent false body = λ past left. tt
 
+tick_may : (w : Setup) (sent : List Frame) (b : Bool) → AskedMay w sent (if b then Ok inputs.Tick else Err BadNotice)
+tick_may w sent true = λ past left. tt
+tick_may w sent false = tt
+
 asked_may : (w : Setup) (sent : List Frame) (kind : Told) (body : List ℕ) → IfSome (frame_if (Some kind) body) (GoesTo sent Client)
     → AskedMay w sent (input_in kind body)
 asked_may w sent told.Frame body h = frame_may w sent (frame_faults body) (frame_at body) h
@@ -75,7 +79,7 @@ asked_may w sent told.Trigger body h =
     each_may w sent (λ x. or_bad (option_map (λ t. inputs.Trigger t.run t.act) x)) tt (λ t past left. tt) (trigger_in body)
 asked_may w sent told.Stop body h = each_may w sent (λ x. or_bad (option_map inputs.Stop x)) tt (λ t past left. tt) (number_alone body)
 asked_may w sent told.Verify body h = verify_may w sent (nat_lt (length body) 8) body
-asked_may w sent told.Tick body h = λ past left. tt
+asked_may w sent told.Tick body h = tick_may w sent (length body == 0)
 asked_may w sent told.Note body h = tt
 asked_may w sent told.Done body h = tt
 asked_may w sent told.Failed body h = tt

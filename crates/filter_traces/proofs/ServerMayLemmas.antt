@@ -1,10 +1,9 @@
 -- What comes to a server of a fleet may come.
 use Rattle.std.proofs.Common.{◌≡◌, refl, sym, ◌∙◌, ap, inl, inr, ℕ, Bool, true, false, List, [], ◌∷◌, ◌++◌, length, Option, Some, None, Result, Ok, Err, append_assoc}
-use Rattle.std.specs.Prelude.{IfSome, ◌==◌, ◌&&◌, nat_lt, take, drop, if◌then◌else◌}
+use Rattle.std.specs.Prelude.{IfSome, ◌==◌, nat_lt, take, drop, if◌then◌else◌}
 use Rattle.std.specs.List.{AllByRecursion}
 use Rattle.fc_base.specs.declared.fault.Fault.{Fault}
 use Rattle.fc_base.specs.declared.fault.Fault.TheVariants.{NotInFlight}
-use Rattle.fc_base.specs.declared.limits.TheConstants.{MAX_BLOCKS}
 use Rattle.fc_base.specs.declared.report.ReportParts.{ReportParts}
 use Rattle.disk_model.specs.declared.left.Left.{Left}
 use Rattle.disk_model.specs.declared.left.Left.TheVariants.{NoSave, Saved}
@@ -29,7 +28,7 @@ use Rattle.filters.specs.Kinds.{told_numbered}
 use Rattle.filters.specs.UnderWay.{UnderWay, report_before, with_blocks}
 use Rattle.filters.specs.ServerAt.{ServerAt, at_by, with_check}
 use Rattle.filters.specs.ServerTurns.{Turn, Asks, Begins, GoesOn, TakesTurn, TellsBy, TellsReport}
-use Rattle.filters.specs.ServerChecks.{FeedsBy, FeedsIf, GivesUpBy, GivesUpIf, block_in, named}
+use Rattle.filters.specs.ServerChecks.{FeedsBy, FeedsIf, GivesUpBy, GivesUpIf, block_in, named, named_with_block}
 use Rattle.filters.specs.ServerLives.{EndsBy, TakesBody, TakesBy, TakesKind, frame_in}
 use Rattle.filters.specs.ServerLives.{write_in, end_in, end_of_open}
 use Rattle.filters.specs.declared.names.BlockName.{BlockName}
@@ -157,7 +156,7 @@ module _ (o : Opening) (s : ℕ) (sent : List Frame) where
       → FeedsIf short o at body end now answer → Added s sent at now
   feeds_adds true body end at now answer (ends, (is, said)) = none_more s sent at now is
   feeds_adds false body end at now answer feeds =
-      fed_adds (named at (block_in (take BLOCK_NAME body))) (block_in (take BLOCK_NAME body)) (drop BLOCK_NAME body) end at now answer feeds
+      fed_adds (named o at (block_in (take BLOCK_NAME body))) (block_in (take BLOCK_NAME body)) (drop BLOCK_NAME body) end at now answer feeds
 
   given_up_adds : (u : Option UnderWay) (name : BlockName) (end : Result (Unit {0}) Fault) (at now : ServerAt) (answer : List ℕ)
       → GivesUpBy u o at name end now answer → Added s sent at now
@@ -167,7 +166,8 @@ module _ (o : Opening) (s : ℕ) (sent : List Frame) where
   gives_up_adds : (good : Bool) (body : List ℕ) (end : Result (Unit {0}) Fault) (at now : ServerAt) (answer : List ℕ)
       → GivesUpIf good o at body end now answer → Added s sent at now
   gives_up_adds false body end at now answer (ends, (is, said)) = none_more s sent at now is
-  gives_up_adds true body end at now answer gives = given_up_adds (named at (block_in body)) (block_in body) end at now answer gives
+  gives_up_adds true body end at now answer gives =
+      given_up_adds (named_with_block o at (block_in body)) (block_in body) end at now answer gives
 
   ends_adds : (end : Result (Unit {0}) Fault) (front : List ℕ) (at now : ServerAt) (answer : List ℕ) → EndsBy end o at front now answer → Added s sent at now
   ends_adds (Ok taken) front at now answer follows = turns_add follows.turns.0 at now follows.written follows.turns.1
@@ -187,7 +187,7 @@ module _ (o : Opening) (s : ℕ) (sent : List Frame) where
       (ends_adds check.end check.front check.mid now answer check.ends)
   kind_adds (Some told.Unread) body at now answer h check =
       added_to s sent at check.mid now
-      (gives_up_adds ((length body == BLOCK_NAME) && nat_lt (block_in body).block MAX_BLOCKS) body check.end at check.mid check.front check.comes)
+      (gives_up_adds (length body == BLOCK_NAME) body check.end at check.mid check.front check.comes)
       (ends_adds check.end check.front check.mid now answer check.ends)
   kind_adds None body at now answer h (is, said) = none_more s sent at now is
   kind_adds (Some told.Note) body at now answer h (is, said) = none_more s sent at now is

@@ -1,6 +1,6 @@
 -- The attempts that the client's filter knows, behind what comes to it.
-use Rattle.std.proofs.Common.{◌≡◌, ◌≢◌, ◌∙◌, ℕ, Bool, true, false, ◌&&◌, List, [], ◌∷◌, ◌++◌, Option, None, Some, Result, Ok, Err, refl, sym, ap, subst, append-nil, ◌+◌, if◌then◌else◌}
-use Rattle.std.specs.Prelude.{is_none, is_some}
+use Rattle.std.proofs.Common.{◌≡◌, ◌∙◌, ℕ, Bool, true, false, ◌&&◌, List, [], ◌∷◌, ◌++◌, Option, None, Some, Result, Ok, Err, refl, sym, ap, append-nil, ◌+◌, if◌then◌else◌}
+use Rattle.std.specs.Prelude.{is_none}
 use Rattle.fc_base.specs.declared.fault.Fault.{Fault}
 use Rattle.fc_base.specs.declared.fault.FaultSort.{FaultSort}
 use Rattle.fc_base.specs.declared.fault.FaultSort.TheVariants as sorts
@@ -11,7 +11,7 @@ use Rattle.disk_model.specs.declared.left.Left.{Left}
 use Rattle.disk_model.specs.declared.left.Left.TheVariants.{NoSave}
 use Rattle.messages.specs.declared.frame.Frame.{Frame}
 use Rattle.messages.specs.Hearing.{Meaning, Says, Waits, Spoils, Strays, meaning, heard_by, with_entry}
-use Rattle.messages.specs.Senses.{is_drop, sense_of}
+use Rattle.messages.specs.Senses.{is_drop}
 use Rattle.client_core.specs.declared.client.Client.{Client}
 use Rattle.client_core.specs.Inputs as inputs
 use Rattle.client_core.specs.Inputs.{PacketInput, FrameInput, Begin, Trigger, Stop, Verify, Deliver, Tick}
@@ -26,7 +26,6 @@ use Rattle.client_core.specs.Words as words
 use Rattle.client_core.specs.Words.{words_noted, is_on, is_answered}
 use Rattle.client_core.specs.Laws.{LooksAtAll}
 use Rattle.attempt_ends.specs.declared.asked.AskedPlace.{AskedPlace}
-use Rattle.attempt_ends.specs.declared.attempts.Attempted.{Attempted}
 use Rattle.attempt_ends.specs.Asked.{places_asked}
 use Rattle.attempt_ends.specs.Attempts.{attempt_by, attempts_made}
 use Rattle.filters.specs.declared.answered.Answered.{Answered}

@@ -1,7 +1,6 @@
 -- The checks that a filter keeps, and those under way.
-use Rattle.std.proofs.Common.{◌≡◌, ◌<◌, ◌==◌, ◌&&◌, ℕ, Bool, true, false, List, [], ◌∷◌, ◌++◌, zero, suc, length, set, Option, Some, None, Result, Ok, Err, refl, sym, ap, ◌∙◌, subst, inl, inr}
-use Rattle.std.specs.Prelude.{if◌then◌else◌, slice_index_or, IfOk}
-use Rattle.std.specs.Io.KnownBytes.{Appends}
+use Rattle.std.proofs.Common.{◌≡◌, ◌<◌, ◌==◌, ◌&&◌, ℕ, Bool, true, false, List, [], ◌∷◌, ◌++◌, zero, suc, length, set, Option, Some, None, Result, Ok, refl, sym, ap, ◌∙◌, subst, inl, inr}
+use Rattle.std.specs.Prelude.{if◌then◌else◌, slice_index_or}
 use Rattle.std.proofs.lemmas.Bool.{and_parts, cases_eq, eq-eqb, eqb-true, ne_eqb}
 use Rattle.std.proofs.lemmas.List.{get_or-set_other, get_or-set_same}
 use Rattle.fc_base.specs.declared.fault.Fault.{Fault}
@@ -17,6 +16,7 @@ use Rattle.server_core.specs.Hearing.{FrameEntry, packets_heard}
 use Rattle.server_core.specs.Answers.{check_job, shown_entries, status}
 use Rattle.server_core.specs.Check.{progress}
 use Rattle.server_core.specs.FrameEnds.{StandsFor}
+use Rattle.filters.specs.Written.{Written, Puts}
 use Rattle.filters.specs.declared.checking.Checking.{Checking}
 use Rattle.filters.specs.declared.checking.Went.{Went}
 use Rattle.filters.specs.declared.checking.Went.TheVariants.{On, Ended}
@@ -27,7 +27,7 @@ use Rattle.filters.specs.Kept.{note_kept}
 use Rattle.filters.specs.UnderWay.{UnderWay, next_block}
 use Rattle.filters.specs.ServerAt.{ServerAt, IsAt, no_checks, with_check}
 use Rattle.filters.specs.ServerTurns.{Begins, TellsIt, Turns, is_under_way, ready_by, want_bytes}
-use Rattle.filters.specs.ServerChecks.{if_named, named}
+use Rattle.filters.specs.ServerChecks.{if_named}
 use Rattle.filters.specs.CheckRuns.{AreChecks, AreChecksBut, Goes, GoesSo, HasCome, IsBegun, IsCheck, IsHere, IsKept, IsNewCheck, TakesOut, TellsSo}
 use Rattle.filters.specs.CheckRuns.{is_same_check, kept_in, kept_named}
 use Rattle.filters.specs.Steps.{AnswersBy}
@@ -111,7 +111,7 @@ named_fits name (Some v) u is =
 -- The check under way that was taken out.
 pub record IsTaken (at : ServerAt) (name : BlockName) (c : Checking) : Type 0 where
   pub check : UnderWay
-  pub is_named : named at name ≡ Some check
+  pub is_named : if_named name (at.checks name.job) ≡ Some check
   pub under_way : at.checks name.job ≡ Some check
   pub attempt : check.attempt ≡ name.attempt
   pub first : check.first ≡ name.block
@@ -127,7 +127,7 @@ taken_is old new name c at (is, left, lt) all =
     record { check = s.0; is_named = s.1; under_way = f.0; attempt = f.1; first = f.2; kept = s.2 }
 
 pub none_is : (old new : List (Option Checking)) (name : BlockName) (at : ServerAt) → TakesOut old name new None → AreChecks old at.checks
-    → named at name ≡ None
+    → if_named name (at.checks name.job) ≡ None
 none_is old new name at (is, left) all =
     no_check name.job (if_named name (at.checks name.job))
     (subst (λ (k : Option Checking). IsCheck name.job k (if_named name (at.checks name.job))) is
@@ -139,9 +139,9 @@ none_is old new name at (is, left) all =
 pub at_same : (old new : Server KeptNotes) (o : Opening) (at : ServerAt) → new ≡ old → IsAt note_kept old o at → IsAt note_kept new o at
 at_same old new o at same is = subst (λ (s : Server KeptNotes). IsAt note_kept s o at) (sym same) is
 
-pub went_on : (old new : ServerFilter) (boot a j : ℕ) (c : Checking) (text new_text : Option (List ℕ)) → new.server ≡ old.server
+pub went_on : (old new : ServerFilter) (boot a j : ℕ) (c : Checking) (text new_text : Written) → new.server ≡ old.server
     → new.checks.items ≡ set old.checks.items j (Some c) → j < length old.checks.items → c.check.expected.job.bs ≡ c.size
-    → Appends text new_text (want_bytes c.attempt c.job c.next c.count c.size) → GoesSo old boot a j (On c) (Ok tt) new text new_text
+    → Puts text new_text (want_bytes c.attempt c.job c.next c.count c.size) → GoesSo old boot a j (On c) (Ok tt) new text new_text
 went_on old new boot a j c text new_text server checks lt size wrote = record {
   answer = want_bytes c.attempt c.job c.next c.count c.size;
   written = wrote;
@@ -183,11 +183,7 @@ went_on old new boot a j c text new_text server checks lt size wrote = record {
         ∙ (ap (λ k. want_bytes u.attempt k c.next c.count c.size) come.job
         ∙ ap (want_bytes u.attempt j c.next c.count) (sym size ∙ ap (λ (e : Expected). e.job.bs) come.expected))
 
-pub if_ok_so : {X E : Type 0} (r : Result X E) (P Q : X → Type 0) → IfOk r P → ((x : X) → P x → Q x) → IfOk r Q
-if_ok_so (Ok x) P Q p so = so x p
-if_ok_so (Err e) P Q p so = tt
-
-pub went_over : (old new : ServerFilter) (boot a j : ℕ) (r : ReportParts) (end : Result (Unit {0}) Fault) (text new_text : Option (List ℕ))
+pub went_over : (old new : ServerFilter) (boot a j : ℕ) (r : ReportParts) (end : Result (Unit {0}) Fault) (text new_text : Written)
     → TellsSo old boot a j r end new text new_text → GoesSo old boot a j (Ended r) end new text new_text
 went_over old new boot a j r end text new_text tells = record {
   answer = tells.answer;
@@ -257,7 +253,7 @@ new_so filter j c shown me job state shows ready found me_is other is = record {
   next = is.next_is;
 }
 
-pub begins_so : (old new : ServerFilter) (j : ℕ) (c : Checking) (went : Went) (end : Result (Unit {0}) Fault) (text new_text : Option (List ℕ))
+pub begins_so : (old new : ServerFilter) (j : ℕ) (c : Checking) (went : Went) (end : Result (Unit {0}) Fault) (text new_text : Written)
     → IsNewCheck old j c → ((i : ℕ) (u : UnderWay) → HasCome i c u → c.next ≡ next_block u.came → Goes i u went)
     → GoesSo old c.boot c.attempt j went end new text new_text → AnswersBy Turns (IsHere old) (IsHere new) text new_text
 begins_so old new j c went end text new_text is_new seeks goes =

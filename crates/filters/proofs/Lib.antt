@@ -1,4 +1,5 @@
 pub mod CommandLemmas
+pub mod OutputLemmas
 pub mod WriteLemmas
 pub mod ReadLemmas
 pub mod RunLemmas

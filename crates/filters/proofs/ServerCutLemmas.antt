@@ -1,9 +1,8 @@
 -- A server's answers that are cut.
-use Rattle.std.proofs.Common.{◌≡◌, ◌==◌, ◌&&◌, ℕ, Bool, true, false, take, drop, List, [], ◌∷◌, ◌++◌, length, Option, None, Some, Result, Ok, Err}
+use Rattle.std.proofs.Common.{◌≡◌, ◌==◌, ℕ, Bool, true, false, take, drop, List, [], ◌∷◌, ◌++◌, length, Option, None, Some, Result, Ok, Err}
 use Rattle.std.proofs.Common.{refl, ap, ◌∙◌, inl, inr, arith}
 use Rattle.std.specs.Prelude.{nat_lt}
 use Rattle.fc_base.specs.declared.fault.Fault.{Fault}
-use Rattle.fc_base.specs.declared.limits.TheConstants.{MAX_BLOCKS}
 use Rattle.fc_base.specs.declared.report.ReportParts.{ReportParts}
 use Rattle.server_core.specs.declared.input.WriteEnd.TheVariants as ends
 use Rattle.server_core.specs.Inputs.{FrameInput}
@@ -23,7 +22,7 @@ use Rattle.filters.specs.Records.{end_bytes}
 use Rattle.filters.specs.UnderWay.{UnderWay, report_before, with_blocks}
 use Rattle.filters.specs.ServerAt.{ServerAt, at_by, new_note, noted, with_check}
 use Rattle.filters.specs.ServerTurns.{Turn, Asks, Begins, GoesOn, TakesTurn, TellsBy, TellsReport, Turns}
-use Rattle.filters.specs.ServerChecks.{FeedsBy, FeedsIf, GivesUpBy, GivesUpIf, block_in, named}
+use Rattle.filters.specs.ServerChecks.{FeedsBy, FeedsIf, GivesUpBy, GivesUpIf, block_in, named, named_with_block}
 use Rattle.filters.specs.ServerLives.{EndsBy, ServerTakes, TakesBody, TakesBy, TakesKind, end_in, frame_in, write_in}
 use Rattle.filters.specs.ServerCuts.{LivesGoOn}
 use Rattle.filters.specs.Lives.{RecordParts, Lives}
@@ -104,7 +103,7 @@ feeds_note : (short : Bool) (o : Opening) (at : ServerAt) (body : List ℕ) (end
     → FeedsIf short o at body end now answer → now.note ≡ at.note
 feeds_note true o at body end now answer (ends, (is, said)) = note_of now at is
 feeds_note false o at body end now answer feeds =
-    fed_note o at (named at (block_in (take BLOCK_NAME body))) (block_in (take BLOCK_NAME body)) (drop BLOCK_NAME body) end now answer feeds
+    fed_note o at (named o at (block_in (take BLOCK_NAME body))) (block_in (take BLOCK_NAME body)) (drop BLOCK_NAME body) end now answer feeds
 
 given_up_note : (o : Opening) (at : ServerAt) (u : Option UnderWay) (name : BlockName) (end : Result (Unit {0}) Fault) (now : ServerAt) (answer : List ℕ)
     → GivesUpBy u o at name end now answer → now.note ≡ at.note
@@ -114,7 +113,8 @@ given_up_note o at (Some u) name end now answer tells = report_note o at name.jo
 gives_up_note : (good : Bool) (o : Opening) (at : ServerAt) (body : List ℕ) (end : Result (Unit {0}) Fault) (now : ServerAt) (answer : List ℕ)
     → GivesUpIf good o at body end now answer → now.note ≡ at.note
 gives_up_note false o at body end now answer (ends, (is, said)) = note_of now at is
-gives_up_note true o at body end now answer gives = given_up_note o at (named at (block_in body)) (block_in body) end now answer gives
+gives_up_note true o at body end now answer gives =
+    given_up_note o at (named_with_block o at (block_in body)) (block_in body) end now answer gives
 
 ends_note : (end : Result (Unit {0}) Fault) (o : Opening) (at : ServerAt) (front : List ℕ) (now : ServerAt) (answer : List ℕ)
     → EndsBy end o at front now answer → now.note ≡ at.note
@@ -132,7 +132,7 @@ kind_first o before (Some told.Blocks) body after answer takes =
     ∙ feeds_note (nat_lt (length body) BLOCK_NAME) o before body takes.end takes.mid takes.front takes.comes)
 kind_first o before (Some told.Unread) body after answer takes =
     inl (ends_note takes.end o takes.mid takes.front after answer takes.ends
-    ∙ gives_up_note ((length body == BLOCK_NAME) && nat_lt (block_in body).block MAX_BLOCKS) o before body takes.end takes.mid takes.front takes.comes)
+    ∙ gives_up_note (length body == BLOCK_NAME) o before body takes.end takes.mid takes.front takes.comes)
 kind_first o before _ body after answer (is, said) = inl (note_of after before is)
 
 takes_first : (o : Opening) (before after : ServerAt) (r : RecordParts) (answer : List ℕ) → ServerTakes o before r after answer

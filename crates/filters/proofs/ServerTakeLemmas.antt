@@ -3,8 +3,6 @@ use Rattle.std.proofs.Common.{length, length-append, ◌+◌, ◌≤◌, ◌≡�
 use Rattle.std.specs.Prelude.{is_some, Vec}
 use Rattle.std.specs.declared.alloc.Global.{Global}
 use Rattle.std.specs.Int.{w32, w64}
-use Rattle.std.specs.Io.KnownBytes.{Appends}
-use Rattle.std.proofs.KnownBytes.{Appends-trans}
 use Rattle.fc_base.specs.Layouts.{bytes_of}
 use Rattle.fc_base.specs.declared.limits.TheConstants.{MAX_WRITES}
 use Rattle.fc_base.specs.declared.record.JobParts.{JobParts}
@@ -33,6 +31,8 @@ use Rattle.server_core.specs.FrameEnds.{StandsFor, steps, note_in}
 use Rattle.server_core.specs.Handles.{outs_of_issue}
 use Rattle.server_core.specs.Memory.{TakesNone}
 use Rattle.server_core.specs.Laws.{LooksAtAll}
+use Rattle.filters.specs.Written.{Written, Puts}
+use Rattle.filters.proofs.OutputLemmas.{puts_both}
 use Rattle.filters.specs.declared.checking.Checking.{Checking}
 use Rattle.filters.specs.declared.kept_notes.KeptNotes.{KeptNotes}
 use Rattle.filters.specs.declared.server_filter.ServerFilter.{ServerFilter}
@@ -94,7 +94,7 @@ not_taken_here o at e old mid sorts.Refusal fault is was checks r = (
 
 -- What is made of a body, by how the call ends and what is written of it.
 pub body_taken : (asked : Opening → List FrameEntry → Result FrameInput Fault) (old mid new : ServerFilter) (result : Result Handed Fault)
-    (first text : Option (List ℕ))
+    (first text : Written)
     → ((o : Opening) (past : List FrameEntry) → StandsFor note_kept old.server o past
     → BodyHands note_kept o past (asked o past) old.server mid.server result)
     → mid.checks ≡ old.checks → WritesHanded result mid new first text
@@ -249,24 +249,24 @@ unfolding bytes_of
 length-name ticket = refl
 
 -- An order in its parts.
-pub order_written : (ticket : Ticket) (job : JobParts) (block : List ℕ) (len : ℕ) (old first second new : Option (List ℕ)) → len ≡ 24 + length block
-    → Appends old first (head_bytes (said_number Order) len) → Appends first second (order_name ticket.key ticket.seq ticket.block) → Appends second new block
-    → block ≡ written_bytes ticket.key job ticket.seq ticket.block → Appends old new (order_bytes ticket job)
+pub order_written : (ticket : Ticket) (job : JobParts) (block : List ℕ) (len : ℕ) (old first second new : Written) → len ≡ 24 + length block
+    → Puts old first (head_bytes (said_number Order) len) → Puts first second (order_name ticket.key ticket.seq ticket.block) → Puts second new block
+    → block ≡ written_bytes ticket.key job ticket.seq ticket.block → Puts old new (order_bytes ticket job)
 order_written ticket job block len old first second new is head name wrote same =
     let body = order_name ticket.key ticket.seq ticket.block ++ block in
     let all : length body ≡ len = omega (arith, is, length-append (order_name ticket.key ticket.seq ticket.block) block, length-name ticket) in
-    subst (λ b. Appends old new (record_bytes (said_number Order) (order_name ticket.key ticket.seq ticket.block ++ b))) same
-    (subst (λ n. Appends old new (head_bytes (said_number Order) n ++ body)) (sym all)
-    (Appends-trans old first new (head_bytes (said_number Order) len) body head
-    (Appends-trans first second new (order_name ticket.key ticket.seq ticket.block) block name wrote)))
+    subst (λ b. Puts old new (record_bytes (said_number Order) (order_name ticket.key ticket.seq ticket.block ++ b))) same
+    (subst (λ n. Puts old new (head_bytes (said_number Order) n ++ body)) (sym all)
+    (puts_both old first new (head_bytes (said_number Order) len) body head
+    (puts_both first second new (order_name ticket.key ticket.seq ticket.block) block name wrote)))
 
 -- Wanted blocks in their parts.
-pub want_written : (a j next count size : ℕ) (t0 t1 t2 t3 t4 t5 t6 : Option (List ℕ)) → Appends t0 t1 (head_bytes (said_number Want) 24)
-    → Appends t1 t2 (bytes_of w64 a) → Appends t2 t3 (bytes_of w32 j) → Appends t3 t4 (bytes_of w32 next) → Appends t4 t5 (bytes_of w32 count)
-    → Appends t5 t6 (bytes_of w32 size) → Appends t0 t6 (want_bytes a j next count size)
+pub want_written : (a j next count size : ℕ) (t0 t1 t2 t3 t4 t5 t6 : Written) → Puts t0 t1 (head_bytes (said_number Want) 24)
+    → Puts t1 t2 (bytes_of w64 a) → Puts t2 t3 (bytes_of w32 j) → Puts t3 t4 (bytes_of w32 next) → Puts t4 t5 (bytes_of w32 count)
+    → Puts t5 t6 (bytes_of w32 size) → Puts t0 t6 (want_bytes a j next count size)
 unfolding bytes_of
 want_written a j next count size t0 t1 t2 t3 t4 t5 t6 head p q r s t =
-    Appends-trans t0 t1 t6 (head_bytes (said_number Want) 24) _ head
-    (Appends-trans t1 t2 t6 (bytes_of w64 a) _ p
-    (Appends-trans t2 t3 t6 (bytes_of w32 j) _ q
-    (Appends-trans t3 t4 t6 (bytes_of w32 next) _ r (Appends-trans t4 t5 t6 (bytes_of w32 count) (bytes_of w32 size) s t))))
+    puts_both t0 t1 t6 (head_bytes (said_number Want) 24) _ head
+    (puts_both t1 t2 t6 (bytes_of w64 a) _ p
+    (puts_both t2 t3 t6 (bytes_of w32 j) _ q
+    (puts_both t3 t4 t6 (bytes_of w32 next) _ r (puts_both t4 t5 t6 (bytes_of w32 count) (bytes_of w32 size) s t))))

@@ -2,8 +2,6 @@
 use Rattle.std.proofs.Common.{◌≡◌, ℕ, Bool, true, List, [], ◌∷◌, ◌++◌, Option, None, Some, Result, Ok, Err}
 use Rattle.std.proofs.Common.{length, length-append, refl, sym, ap, ◌∙◌, subst, inl, inr, arith, ◌+◌, ◌*◌}
 use Rattle.std.specs.Prelude.{is_some}
-use Rattle.std.specs.Io.KnownBytes.{Appends}
-use Rattle.std.proofs.KnownBytes.{Appends-trans}
 use Rattle.fc_base.specs.Fault.{sort_of}
 use Rattle.fc_base.specs.Layouts.{bytes_of, spelled_blocks}
 use Rattle.fc_base.specs.declared.fault.Fault.{Fault}
@@ -19,6 +17,8 @@ use Rattle.client_core.specs.Note.{Says}
 use Rattle.client_core.specs.Hearing.{FrameEntry}
 use Rattle.client_core.specs.FrameAnswers.{due}
 use Rattle.client_core.specs.FrameEnds.{note_in}
+use Rattle.filters.specs.Written.{Written, Puts}
+use Rattle.filters.proofs.OutputLemmas.{puts_both}
 use Rattle.filters.specs.declared.answered.Answered.{Answered}
 use Rattle.filters.specs.declared.kinds.Told.{Told}
 use Rattle.filters.specs.declared.kinds.Told.TheVariants as told
@@ -107,13 +107,13 @@ kind_taken o at told.Verify body now answer look show ends takes = takes
 kind_taken o at told.Tick body now answer look show ends takes = takes
 
 -- What only looks leaves the client where it is.
-pub only_looks : (IsHere : Opening → ClientAt → Type 0) (kind : Told) (body bytes : List ℕ) (old mid new : Option (List ℕ)) → Appends old mid bytes
-    → Appends mid new (end_bytes (Ok tt))
+pub only_looks : (IsHere : Opening → ClientAt → Type 0) (kind : Told) (body bytes : List ℕ) (old mid new : Written) → Puts old mid bytes
+    → Puts mid new (end_bytes (Ok tt))
     → ((o : Opening) (at : ClientAt) → IsHere o at → TakesKind o at (Some kind) body at (bytes ++ end_bytes (Ok tt)))
     → AnswersBy (λ o at now answer. TakesKind o at (Some kind) body now answer) IsHere IsHere old new
 only_looks IsHere kind body bytes old mid new wrote ended takes = record {
   answer = bytes ++ end_bytes (Ok tt);
-  written = Appends-trans old mid new bytes (end_bytes (Ok tt)) wrote ended;
+  written = puts_both old mid new bytes (end_bytes (Ok tt)) wrote ended;
   takes = λ o at h. (at, h, takes o at h);
 }
 
@@ -133,9 +133,9 @@ unfolding bytes_of
 length-counts r = refl
 
 -- A report in its parts.
-pub report_written : (r : Received) (old first second third new : Option (List ℕ)) (len : ℕ) → len ≡ 40 + 4 * length r.report.first
-    → Appends old first (head_bytes (said_number Report) len) → Appends first second (report_names r) → Appends second third (report_counts r.report)
-    → Appends third new (spelled_blocks r.report.first) → Appends old new (report_bytes r)
+pub report_written : (r : Received) (old first second third new : Written) (len : ℕ) → len ≡ 40 + 4 * length r.report.first
+    → Puts old first (head_bytes (said_number Report) len) → Puts first second (report_names r) → Puts second third (report_counts r.report)
+    → Puts third new (spelled_blocks r.report.first) → Puts old new (report_bytes r)
 report_written r old first second third new len is head names counts blocks =
     let body = report_names r ++ (report_counts r.report ++ spelled_blocks r.report.first) in
     let all : length body ≡ len =
@@ -148,7 +148,7 @@ report_written r old first second third new len is head names counts blocks =
       length-counts r,
       length-blocks r.report.first,
     ) in
-    subst (λ n. Appends old new (head_bytes (said_number Report) n ++ body)) (sym all)
-    (Appends-trans old first new (head_bytes (said_number Report) len) body head
-    (Appends-trans first second new (report_names r) (report_counts r.report ++ spelled_blocks r.report.first) names
-    (Appends-trans second third new (report_counts r.report) (spelled_blocks r.report.first) counts blocks)))
+    subst (λ n. Puts old new (head_bytes (said_number Report) n ++ body)) (sym all)
+    (puts_both old first new (head_bytes (said_number Report) len) body head
+    (puts_both first second new (report_names r) (report_counts r.report ++ spelled_blocks r.report.first) names
+    (puts_both second third new (report_counts r.report) (spelled_blocks r.report.first) counts blocks)))

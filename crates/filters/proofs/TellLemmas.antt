@@ -1,7 +1,6 @@
 -- The report of a check that is told.
 use Rattle.std.proofs.Common.{◌≡◌, ◌<◌, ℕ, List, length, set, Option, None, Result, sym, ap, ◌∙◌, subst}
 use Rattle.std.specs.Prelude.{Vec, IsTrue}
-use Rattle.std.specs.Io.KnownBytes.{Appends}
 use Rattle.std.specs.declared.alloc.Global.{Global}
 use Rattle.fc_base.specs.declared.fault.Fault.{Fault}
 use Rattle.fc_base.specs.declared.report.ReportParts.{ReportParts}
@@ -10,6 +9,7 @@ use Rattle.server_core.specs.declared.input.Input.TheVariants.{CheckDone}
 use Rattle.server_core.specs.History.{Opening}
 use Rattle.server_core.specs.Hearing.{FrameEntry}
 use Rattle.server_core.specs.FrameEnds.{StandsFor, note_in}
+use Rattle.filters.specs.Written.{Written, Puts}
 use Rattle.filters.specs.declared.checking.Checking.{Checking}
 use Rattle.filters.specs.declared.server_filter.ServerFilter.{ServerFilter}
 use Rattle.filters.specs.declared.server_filter.writes.Handed.{Handed}
@@ -21,8 +21,8 @@ use Rattle.filters.specs.CheckRuns.{AreChecks, TellsSo}
 use Rattle.filters.proofs.KeptLemmas.{at_same, put_checks}
 use Rattle.filters.proofs.ServerTakeLemmas.{end_of, handed_if, told_it}
 
-pub told_so : (old mid new : ServerFilter) (boot a j : ℕ) (r : ReportParts) (result : Result Handed Fault) (text new_text : Option (List ℕ))
-    → Appends text new_text (handed_if result (note_in note_kept new.server).bytes)
+pub told_so : (old mid new : ServerFilter) (boot a j : ℕ) (r : ReportParts) (result : Result Handed Fault) (text new_text : Written)
+    → Puts text new_text (handed_if result (note_in note_kept new.server).bytes)
     → mid.server ≡ old.server → mid.checks.items ≡ set old.checks.items j None → j < length old.checks.items
     → ((o : Opening) (past : List FrameEntry) → StandsFor note_kept mid.server o past
     → HandsOut note_kept o past (CheckDone boot a j r) mid.server new.server result)

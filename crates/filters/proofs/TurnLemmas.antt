@@ -1,11 +1,10 @@
 -- What a server's filter does of itself, turn by turn.
-use Rattle.std.proofs.Common.{◌≡◌, ◌<◌, ◌≤◌, ◌+◌, ℕ, Bool, true, false, List, [], ◌∷◌, ◌++◌, Option, Result, Ok, Err, append_assoc, append-nil, refl, sym, ap, ◌∙◌, subst, arith, below_more}
-use Rattle.std.specs.Prelude.{IfOk, OnOk}
-use Rattle.std.specs.Io.KnownBytes.{Appends}
-use Rattle.std.proofs.KnownBytes.{Appends-nil, Appends-trans}
+use Rattle.std.proofs.Common.{◌≡◌, ◌<◌, ◌≤◌, ◌+◌, ℕ, Bool, true, false, List, [], ◌∷◌, ◌++◌, Result, Ok, Err, append_assoc, append-nil, refl, sym, ap, ◌∙◌, subst, arith, below_more}
 use Rattle.fc_base.specs.declared.fault.Fault.{Fault}
 use Rattle.fc_base.specs.declared.limits.TheConstants.{MAX_JOBS, MAX_WRITES}
 use Rattle.server_core.specs.History.{Opening}
+use Rattle.filters.specs.Written.{Written, Puts}
+use Rattle.filters.proofs.OutputLemmas.{puts_none, puts_both}
 use Rattle.filters.specs.Records.{end_bytes}
 use Rattle.filters.specs.Lives.{Lives}
 use Rattle.filters.specs.Steps.{AnswersBy}
@@ -42,11 +41,11 @@ both_taken o first mid now earlier later before (t ∷ ts) more =
     )
 
 -- No turn was taken.
-pub takes_none : (Now : Opening → ServerAt → Type 0) (text : Option (List ℕ)) → AnswersBy Turns Now Now text text
-takes_none Now text = record { answer = []; written = Appends-nil text; takes = λ o at h. (at, h, none_taken o at) }
+pub takes_none : (Now : Opening → ServerAt → Type 0) (text : Written) → AnswersBy Turns Now Now text text
+takes_none Now text = record { answer = []; written = puts_none text; takes = λ o at h. (at, h, none_taken o at) }
 
 -- One turn was taken.
-pub takes_one : (Before After : Opening → ServerAt → Type 0) (turn : Turn) (old new : Option (List ℕ)) (bytes : List ℕ) → Appends old new bytes
+pub takes_one : (Before After : Opening → ServerAt → Type 0) (turn : Turn) (old new : Written) (bytes : List ℕ) → Puts old new bytes
     → ((o : Opening) (at : ServerAt) → Before o at → (now : ServerAt) × After o now × TakesTurn o at turn now bytes) → AnswersBy Turns Before After old new
 takes_one Before After turn old new bytes wrote takes = record {
   answer = bytes;
@@ -59,19 +58,19 @@ takes_one Before After turn old new bytes wrote takes = record {
 }
 
 -- Turns were taken behind others.
-pub takes_more : (Before Mid After : Opening → ServerAt → Type 0) (old mid new : Option (List ℕ)) → AnswersBy Turns Before Mid old mid
+pub takes_more : (Before Mid After : Opening → ServerAt → Type 0) (old mid new : Written) → AnswersBy Turns Before Mid old mid
     → AnswersBy Turns Mid After mid new → AnswersBy Turns Before After old new
 takes_more Before Mid After old mid new some more = record {
   answer = some.answer ++ more.answer;
-  written = Appends-trans old mid new some.answer more.answer some.written more.written;
+  written = puts_both old mid new some.answer more.answer some.written more.written;
   takes = λ o at h.
       let s = some.takes o at h in
       let m = more.takes o s.0 s.1 in (m.0, m.1, both_taken o at s.0 m.0 some.answer more.answer s.2 m.2.0 m.2.1);
 }
 
 -- One turn was taken, and this holds then.
-pub takes_one_to : (P : Opening → ServerAt → ServerAt → Type 0) (Before After : Opening → ServerAt → Type 0) (turn : Turn) (old new : Option (List ℕ))
-    (bytes : List ℕ) → Appends old new bytes
+pub takes_one_to : (P : Opening → ServerAt → ServerAt → Type 0) (Before After : Opening → ServerAt → Type 0) (turn : Turn) (old new : Written)
+    (bytes : List ℕ) → Puts old new bytes
     → ((o : Opening) (at : ServerAt) → Before o at → (now : ServerAt) × After o now × TakesTurn o at turn now bytes × P o at now)
     → AnswersBy (TurnsTo P) Before After old new
 takes_one_to P Before After turn old new bytes wrote takes = record {
@@ -85,19 +84,19 @@ takes_one_to P Before After turn old new bytes wrote takes = record {
 }
 
 -- No turn was taken, and this holds.
-pub takes_none_to : (P : Opening → ServerAt → ServerAt → Type 0) (Now : Opening → ServerAt → Type 0) (text : Option (List ℕ))
+pub takes_none_to : (P : Opening → ServerAt → ServerAt → Type 0) (Now : Opening → ServerAt → Type 0) (text : Written)
     → ((o : Opening) (at : ServerAt) → Now o at → P o at at) → AnswersBy (TurnsTo P) Now Now text text
 takes_none_to P Now text holds =
-    record { answer = []; written = Appends-nil text; takes = λ o at h. (at, h, (none_taken o at, holds o at h)) }
+    record { answer = []; written = puts_none text; takes = λ o at h. (at, h, (none_taken o at, holds o at h)) }
 
 -- Turns were taken behind others.
-pub takes_more_to : (P Q R : Opening → ServerAt → ServerAt → Type 0) (Before Mid After : Opening → ServerAt → Type 0) (old mid new : Option (List ℕ))
+pub takes_more_to : (P Q R : Opening → ServerAt → ServerAt → Type 0) (Before Mid After : Opening → ServerAt → Type 0) (old mid new : Written)
     → AnswersBy (TurnsTo P) Before Mid old mid → AnswersBy (TurnsTo Q) Mid After mid new
     → ((o : Opening) (first at now : ServerAt) (written : List ℕ) → Turns o at now written → P o first at → Q o at now → R o first now)
     → AnswersBy (TurnsTo R) Before After old new
 takes_more_to P Q R Before Mid After old mid new some more then = record {
   answer = some.answer ++ more.answer;
-  written = Appends-trans old mid new some.answer more.answer some.written more.written;
+  written = puts_both old mid new some.answer more.answer some.written more.written;
   takes = λ o at h.
       let s = some.takes o at h in
       let m = more.takes o s.0 s.1 in (
@@ -111,7 +110,7 @@ takes_more_to P Q R Before Mid After old mid new some more then = record {
 }
 
 -- Turns were taken, of which nothing more is known.
-pub takes_any : (Before After : Opening → ServerAt → Type 0) (old new : Option (List ℕ)) → AnswersBy Turns Before After old new
+pub takes_any : (Before After : Opening → ServerAt → Type 0) (old new : Written) → AnswersBy Turns Before After old new
     → AnswersBy (TurnsTo (λ o at now. Unit {0})) Before After old new
 takes_any Before After old new some = record {
   answer = some.answer;
@@ -120,7 +119,7 @@ takes_any Before After old new some = record {
 }
 
 -- Jobs were asked until they give none, one behind the other.
-pub jobs_asked : (n : ℕ) (Before Mid After : Opening → ServerAt → Type 0) (old mid new : Option (List ℕ))
+pub jobs_asked : (n : ℕ) (Before Mid After : Opening → ServerAt → Type 0) (old mid new : Written)
     → AnswersBy (TurnsTo (λ o at now. (j : ℕ) → j < n → GivesNone o now.list j)) Before Mid old mid
     → AnswersBy (TurnsTo (λ o at now. GivesNone o now.list n)) Mid After mid new
     → AnswersBy (TurnsTo (λ o at now. (j : ℕ) → j < n + 1 → GivesNone o now.list j)) Before After old new
@@ -131,12 +130,12 @@ jobs_asked n Before Mid After old mid new some more =
     (λ j lt. turns_keep o at now written j turns (below j lt)) here)
 
 -- None was asked yet.
-pub jobs_none : (Now : Opening → ServerAt → Type 0) (text : Option (List ℕ))
+pub jobs_none : (Now : Opening → ServerAt → Type 0) (text : Written)
     → AnswersBy (TurnsTo (λ o at now. (j : ℕ) → j < 0 → GivesNone o now.list j)) Now Now text text
 jobs_none Now text = takes_none_to (λ o at now. (j : ℕ) → j < 0 → GivesNone o now.list j) Now text (λ o at h. λ j lt. absurd (omega arith))
 
 -- All were asked.
-pub jobs_all : (n : ℕ) (Before After : Opening → ServerAt → Type 0) (old new : Option (List ℕ)) → MAX_JOBS ≤ n
+pub jobs_all : (n : ℕ) (Before After : Opening → ServerAt → Type 0) (old new : Written) → MAX_JOBS ≤ n
     → AnswersBy (TurnsTo (λ o at now. (j : ℕ) → j < n → GivesNone o now.list j)) Before After old new
     → AnswersBy (TurnsTo (λ o at now. AreAllGiven o now.list)) Before After old new
 jobs_all n Before After old new all some = record {
@@ -146,7 +145,7 @@ jobs_all n Before After old new all some = record {
 }
 
 -- Turns behind those that ordered all.
-pub ordered_then : (Before Mid After : Opening → ServerAt → Type 0) (old mid new : Option (List ℕ))
+pub ordered_then : (Before Mid After : Opening → ServerAt → Type 0) (old mid new : Written)
     → AnswersBy (TurnsTo (λ o at now. AreAllGiven o now.list)) Before Mid old mid → AnswersBy Turns Mid After mid new
     → AnswersBy (TurnsTo (λ o at now. AreAllGiven o now.list)) Before After old new
 ordered_then Before Mid After old mid new some more =
@@ -154,10 +153,10 @@ ordered_then Before Mid After old mid new some more =
     some (takes_any Mid After mid new more) (λ o first at now written turns all so. λ j lt. turns_keep o at now written j turns (all j lt))
 
 -- A job was asked so often.
-pub asked_none : (j : ℕ) (Now : Opening → ServerAt → Type 0) (text : Option (List ℕ)) → AnswersBy (TurnsTo (Gave j 0)) Now Now text text
+pub asked_none : (j : ℕ) (Now : Opening → ServerAt → Type 0) (text : Written) → AnswersBy (TurnsTo (Gave j 0)) Now Now text text
 asked_none j Now text = takes_none_to (Gave j 0) Now text (λ o at h. (omega arith, λ some. absurd (omega arith)))
 
-pub asked_more : (j n : ℕ) (more : Bool) (Before Mid After : Opening → ServerAt → Type 0) (old mid new : Option (List ℕ)) → more ≡ true
+pub asked_more : (j n : ℕ) (more : Bool) (Before Mid After : Opening → ServerAt → Type 0) (old mid new : Written) → more ≡ true
     → AnswersBy (TurnsTo (Gave j n)) Before Mid old mid → AnswersBy (TurnsTo (Asked j more)) Mid After mid new
     → AnswersBy (TurnsTo (Gave j (n + 1))) Before After old new
 asked_more j n more Before Mid After old mid new is some next =
@@ -165,7 +164,7 @@ asked_more j n more Before Mid After old mid new is some next =
     (subst (λ (b : Bool). AnswersBy (TurnsTo (Asked j b)) Mid After mid new) is next)
     (λ o first at now written turns gave one. (omega (arith, gave.0, one.0), λ some. one.1))
 
-pub asked_last : (j n : ℕ) (more : Bool) (Before Mid After : Opening → ServerAt → Type 0) (old mid new : Option (List ℕ)) → more ≡ false
+pub asked_last : (j n : ℕ) (more : Bool) (Before Mid After : Opening → ServerAt → Type 0) (old mid new : Written) → more ≡ false
     → AnswersBy (TurnsTo (Gave j n)) Before Mid old mid → AnswersBy (TurnsTo (Asked j more)) Mid After mid new
     → AnswersBy (TurnsTo (λ o at now. GivesNone o now.list j)) Before After old new
 asked_last j n more Before Mid After old mid new is some next =
@@ -174,16 +173,15 @@ asked_last j n more Before Mid After old mid new is some next =
     (λ o first at now written turns gave none. none)
 
 -- It was asked once, and answered whether it gave a write.
-pub asked_so : {E : Type 0} (j : ℕ) (gives : Bool) (Before After : Opening → ServerAt → Type 0) (turn : Turn) (old new : Option (List ℕ)) (bytes : List ℕ)
-    (r : Result Bool E) → OnOk r (Appends old new bytes) → IfOk r (λ more. more ≡ gives)
+pub asked_so : (j : ℕ) (gives : Bool) (Before After : Opening → ServerAt → Type 0) (turn : Turn) (old new : Written) (bytes : List ℕ)
+    (more : Bool) → Puts old new bytes → more ≡ gives
     → ((o : Opening) (at : ServerAt) → Before o at → (now : ServerAt) × After o now × TakesTurn o at turn now bytes × Asked j gives o at now)
-    → IfOk r (λ more. AnswersBy (TurnsTo (Asked j more)) Before After old new)
-asked_so j gives Before After turn old new bytes (Err e) wrote same takes = tt
-asked_so j gives Before After turn old new bytes (Ok more) wrote same takes =
+    → AnswersBy (TurnsTo (Asked j more)) Before After old new
+asked_so j gives Before After turn old new bytes more wrote same takes =
     subst (λ (b : Bool). AnswersBy (TurnsTo (Asked j b)) Before After old new) (sym same) (takes_one_to (Asked j gives) Before After turn old new bytes wrote takes)
 
 -- It can't be asked oftener than it has writes.
-pub asked_out : (j n : ℕ) (Before After : Opening → ServerAt → Type 0) (old new : Option (List ℕ)) → MAX_WRITES < n
+pub asked_out : (j n : ℕ) (Before After : Opening → ServerAt → Type 0) (old new : Written) → MAX_WRITES < n
     → AnswersBy (TurnsTo (Gave j n)) Before After old new → AnswersBy (TurnsTo (λ o at now. GivesNone o now.list j)) Before After old new
 asked_out j n Before After old new spent some = record {
   answer = some.answer;
@@ -192,12 +190,12 @@ asked_out j n Before After old new spent some = record {
 }
 
 -- And the end behind them.
-pub takes_end : (Before After : Opening → ServerAt → Type 0) (old mid new : Option (List ℕ))
-    → AnswersBy (TurnsTo (λ o at now. AreAllGiven o now.list)) Before After old mid → Appends mid new (end_bytes (Ok tt))
+pub takes_end : (Before After : Opening → ServerAt → Type 0) (old mid new : Written)
+    → AnswersBy (TurnsTo (λ o at now. AreAllGiven o now.list)) Before After old mid → Puts mid new (end_bytes (Ok tt))
     → AnswersBy (λ o at now written. EndsBy (Ok tt) o at [] now written) Before After old new
 takes_end Before After old mid new some wrote = record {
   answer = some.answer ++ end_bytes (Ok tt);
-  written = Appends-trans old mid new some.answer (end_bytes (Ok tt)) some.written wrote;
+  written = puts_both old mid new some.answer (end_bytes (Ok tt)) some.written wrote;
   takes = λ o at h. let s = some.takes o at h in (
     s.0,
     s.1,
@@ -206,7 +204,7 @@ takes_end Before After old mid new some wrote = record {
 }
 
 -- Just the fault.
-pub takes_fault : (Now : Opening → ServerAt → Type 0) (old new : Option (List ℕ)) (fault : Fault) → Appends old new (end_bytes (Err fault))
+pub takes_fault : (Now : Opening → ServerAt → Type 0) (old new : Written) (fault : Fault) → Puts old new (end_bytes (Err fault))
     → AnswersBy (λ o at now written. EndsBy (Err fault) o at [] now written) Now Now old new
 takes_fault Now old new fault wrote =
     record { answer = end_bytes (Err fault); written = wrote; takes = λ o at h. (at, h, (refl, refl)) }
@@ -223,13 +221,13 @@ behind (Err fault) o mid front now written (is, said) = (is, ap (λ l. front ++ 
 
 -- What is made of what is told of a check, and the end.
 pub takes_then : (Comes : Opening → ServerAt → Result (Unit {0}) Fault → ServerAt → List ℕ → Type 0) (end : Result (Unit {0}) Fault)
-    (Before Mid After : Opening → ServerAt → Type 0) (old mid new : Option (List ℕ))
+    (Before Mid After : Opening → ServerAt → Type 0) (old mid new : Written)
     → AnswersBy (λ o at now answer. Comes o at end now answer) Before Mid old mid
     → AnswersBy (λ o at now written. EndsBy end o at [] now written) Mid After mid new
     → AnswersBy (λ o at now answer. TakesCheck (Comes o at) o now answer) Before After old new
 takes_then Comes end Before Mid After old mid new some more = record {
   answer = some.answer ++ more.answer;
-  written = Appends-trans old mid new some.answer more.answer some.written more.written;
+  written = puts_both old mid new some.answer more.answer some.written more.written;
   takes = λ o at h.
       let s = some.takes o at h in
       let m = more.takes o s.0 s.1 in (

@@ -1,6 +1,5 @@
 -- The steps of a server's checks. Only the proofs go by these.
 use Rattle.std.specs.Prelude.{◌≡◌, ◌≢◌, ◌<◌, ◌≤◌, ℕ, ◌+◌, ◌*◌, ◌==◌, ◌&&◌, ⊤, Bool, false, if◌then◌else◌, List, [], ◌∷◌, set, slice_index_or, Option, Some, None, Result, IsTrue}
-use Rattle.std.specs.Io.KnownBytes.{Appends}
 use Rattle.std.specs.List.{range_with_len}
 use Rattle.fc_base.specs.declared.fault.Fault.{Fault}
 use Rattle.fc_base.specs.declared.limits.TheConstants.{MAX_JOBS}
@@ -20,6 +19,7 @@ use Rattle.filters.specs.declared.checking.Went.{Went}
 use Rattle.filters.specs.declared.checking.Went.TheVariants.{On, Ended}
 use Rattle.filters.specs.declared.names.BlockName.{BlockName}
 use Rattle.filters.specs.declared.server_filter.ServerFilter.{ServerFilter}
+use Rattle.filters.specs.Written.{Written, Puts}
 use Rattle.filters.specs.Kept.{note_kept}
 use Rattle.filters.specs.UnderWay.{Came, UnderWay, IsOver, WantsMore}
 use Rattle.filters.specs.ServerAt.{ServerAt, IsAt, with_check}
@@ -145,10 +145,10 @@ TakesOut old name new None = (kept_named name (kept_in old name.job) ≡ None) �
 -- A report was told of job j, or not, by how that ended; its numbers fit together.
 pub record TellsSo (old : ServerFilter) (boot a j : ℕ) (r : ReportParts)
     (end : Result (Unit {0}) Fault) (new : ServerFilter)
-    (text new_text : Option (List ℕ)) : Type 0 where
+    (text new_text : Written) : Type 0 where
   pub fits : IsTrue (is_report r)
   pub answer : List ℕ
-  pub written : Appends text new_text answer
+  pub written : Puts text new_text answer
   pub takes :
       (opening : Opening) (at : ServerAt) → IsHereBut j old opening at
       → (now : ServerAt) × IsHere new opening now
@@ -157,9 +157,9 @@ pub record TellsSo (old : ServerFilter) (boot a j : ℕ) (r : ReportParts)
 -- A check of job j went on, which is this one under way.
 pub record GoesSo (old : ServerFilter) (boot a j : ℕ) (went : Went)
     (end : Result (Unit {0}) Fault) (new : ServerFilter)
-    (text new_text : Option (List ℕ)) : Type 0 where
+    (text new_text : Written) : Type 0 where
   pub answer : List ℕ
-  pub written : Appends text new_text answer
+  pub written : Puts text new_text answer
   pub takes :
       (opening : Opening) (at : ServerAt) (u : UnderWay) → IsHereBut j old opening at →
       Goes j u went

@@ -74,6 +74,10 @@ verify_in body =
     if nat_lt (length body) 8 then Err BadNotice
     else Ok (inputs.Verify (number_in w64 body) (drop 8 body))
 
+-- Nothing is asked with a tick.
+abbrev pub tick_in : List ℕ → Result FrameInput Fault
+tick_in body = if length body == 0 then Ok inputs.Tick else Err BadNotice
+
 -- What comes to the client by a record of this kind: by those of other kinds nothing does.
 abbrev pub input_in : Told → List ℕ → Result FrameInput Fault
 input_in told.Frame body = with_frame inputs.Deliver (frame_faults body) (frame_at body)
@@ -81,7 +85,7 @@ input_in told.Begin body = Ok (inputs.Begin body)
 input_in told.Trigger body = or_bad (option_map (λ t. inputs.Trigger t.run t.act) (trigger_in body))
 input_in told.Stop body = or_bad (option_map inputs.Stop (number_alone body))
 input_in told.Verify body = verify_in body
-input_in told.Tick body = Ok inputs.Tick
+input_in told.Tick body = tick_in body
 input_in _ body = Err BadNotice
 
 -- The number of how a request stands: 0, 1, 2, or that of the reason for which it is refused.

@@ -1,7 +1,7 @@
 -- What a command line of `fiocut_node` may ask for.
 use Rattle.std.specs.Prelude.{◌≡◌, ℕ, ◌≤◌, ◌<◌, ⊤, List, [], ◌∷◌, take, drop, codes}
 use Rattle.fc_base.specs.declared.limits.TheConstants.{MAX_SERVERS}
-use Rattle.program_io.specs.Words.{IsNumber}
+use Rattle.std.specs.Str.Parse.{IsNumeral, digits_value}
 use Rattle.filters.specs.declared.beginning.Beginning.{Beginning}
 use Rattle.filters.specs.declared.beginning.Beginning.TheVariants.{Alone, Mirrored, Renewed}
 use Rattle.filters.specs.declared.command.Request.{Request}
@@ -13,9 +13,13 @@ IsRequest (Server me) = me < MAX_SERVERS
 IsRequest (Client servers beginning) = (1 ≤ servers) × (servers ≤ MAX_SERVERS)
 IsRequest Mirror = ⊤
 
+-- The word is this number: decimal digits, and no sign before them.
+abbrev pub IsUnsigned : List ℕ → ℕ → Type 0
+IsUnsigned word n = IsNumeral 10 word × (digits_value 10 word ≡ n)
+
 -- Three words: the program's own, the command and the number.
 abbrev pub AreWords : List (List ℕ) → List ℕ → ℕ → Type 0
-AreWords (program ∷ word ∷ number ∷ []) command n = (word ≡ command) × IsNumber number n
+AreWords (program ∷ word ∷ number ∷ []) command n = (word ≡ command) × IsUnsigned number n
 AreWords _ command n = ⊥
 
 -- One word, which is this.
@@ -25,7 +29,7 @@ IsWord _ wanted = ⊥
 
 -- Two words: this one, and a number.
 abbrev pub IsPair : List (List ℕ) → List ℕ → ℕ → Type 0
-IsPair (word ∷ number ∷ []) wanted n = (word ≡ wanted) × IsNumber number n
+IsPair (word ∷ number ∷ []) wanted n = (word ≡ wanted) × IsUnsigned number n
 IsPair _ wanted n = ⊥
 
 -- The words behind a client's number: how it begins.

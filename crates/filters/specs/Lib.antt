@@ -1,6 +1,7 @@
 pub mod Command
 pub mod Kinds
 pub mod Records
+pub mod Written
 pub mod Kept
 pub mod Lives
 pub mod Cuts

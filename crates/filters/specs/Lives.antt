@@ -1,12 +1,12 @@
 -- The run of a filter: the records that it reads, what is answered to each, and how it ends.
 use Rattle.std.specs.Prelude.{◌≡◌, ◌≢◌, ◌⊎◌, ◌<◌, ◌≤◌, ◌-◌, ◌^◌, ℕ, List, [], ◌∷◌, ◌++◌, length, ⊤, Option, Err}
-use Rattle.std.specs.Io.KnownBytes.{Appends}
 use Rattle.fc_base.specs.declared.fault.Fault.{Fault}
 use Rattle.fc_base.specs.declared.fault.Fault.TheVariants as faults
 use Rattle.filters.specs.declared.kinds.Told.TheVariants.{Note}
 use Rattle.filters.specs.declared.record.TheConstants.{HEAD, MAX_BODY}
 use Rattle.filters.specs.Kinds.{told_number}
 use Rattle.filters.specs.Records.{head_bytes, record_bytes, end_bytes}
+use Rattle.filters.specs.Written.{AppendsFront}
 
 -- A record that is read: the number of its kind, which may be none's, and its body.
 pub record RecordParts : Type 0 where
@@ -76,16 +76,17 @@ Lives Takes first (r ∷ rs) now answers =
     OneMore Takes (λ before earlier. Lives Takes first rs before earlier) r now answers
 
 -- Some records were read, and what is written is `opening`, the answers to them, and what is
--- written last; for each opening of the node and each state in which it begins.
+-- written last; for each opening of the node and each state in which it begins. `Wrote` says of
+-- some bytes that they were written.
 pub record HasRun {O S : Type 0} (Takes : O → S → RecordParts → S → List ℕ → Type 0)
-    (Begins : O → S → Type 0) (opening input : List ℕ) (old new : Option (List ℕ))
+    (Begins : O → S → Type 0) (opening input : List ℕ) (Wrote : List ℕ → Type 0)
     (status : ℕ) : Type 0 where
   pub records : List RecordParts
   pub rest : List ℕ
   pub answers : List ℕ
   pub last : List ℕ
   pub read : input ≡ read_bytes records ++ rest
-  pub written : Appends old new (opening ++ (answers ++ last))
+  pub written : Wrote (opening ++ (answers ++ last))
   pub lives : (o : O) (first : S) → Begins o first →
       (now : S) × Lives (Takes o) first records now answers
   pub closes : Closes (length records) rest last status
@@ -112,10 +113,10 @@ pub record BeginsWithNote (input : List ℕ) (P : List ℕ → List ℕ → Type
   pub holds : P note behind
 
 -- A filter that doesn't begin writes just the fault, for this reason, and its status is 2.
-pub record DoesNotBegin (Why : Fault → Type 0) (old new : Option (List ℕ)) (status : ℕ) : Type 0 where
+pub record DoesNotBegin (Why : Fault → Type 0) (Wrote : List ℕ → Type 0) (status : ℕ) : Type 0 where
   pub fault : Fault
   pub why : Why fault
-  pub written : Appends old new (end_bytes (Err fault))
+  pub written : Wrote (end_bytes (Err fault))
   pub refused : status ≡ 2
 
 -- What has to be known of a node as a filter: O is what it is opened with, S where it is at some
@@ -129,16 +130,25 @@ pub record Filter (O S N : Type 0) : Type 1 where
 
 -- What comes of a note: it says something, that is answered, and then the filter runs; or the node
 -- isn't opened.
-abbrev pub RunsOver : {O S N : Type 0} → Filter O S N → List ℕ → List ℕ → Option (List ℕ)
-    → Option (List ℕ) → ℕ → Type 0
-RunsOver {O} {S} {N} f note behind old new status =
+abbrev pub RunsOver : {O S N : Type 0} → Filter O S N → List ℕ → List ℕ → (List ℕ → Type 0) → ℕ
+    → Type 0
+RunsOver {O} {S} {N} f note behind Wrote status =
     ((said : N) × f.Says note said
-    × HasRun f.Takes (f.Begins note said) (f.opening said) behind old new status)
-    ⊎ DoesNotBegin (f.Refuses note) old new status
+    × HasRun f.Takes (f.Begins note said) (f.opening said) behind Wrote status)
+    ⊎ DoesNotBegin (f.Refuses note) Wrote status
 
 -- What comes of a filter: a note comes first; or it doesn't begin.
-abbrev pub Runs : {O S N : Type 0} → Filter O S N → List ℕ → Option (List ℕ) → Option (List ℕ)
-    → ℕ → Type 0
-Runs f input old new status =
-    BeginsWithNote input (λ note behind. RunsOver f note behind old new status)
-    ⊎ DoesNotBegin (HasNoNote input) old new status
+abbrev pub Runs : {O S N : Type 0} → Filter O S N → List ℕ → (List ℕ → Type 0) → ℕ → Type 0
+Runs f input Wrote status =
+    BeginsWithNote input (λ note behind. RunsOver f note behind Wrote status)
+    ⊎ DoesNotBegin (HasNoNote input) Wrote status
+
+-- What is left of a run of which a write has failed: what was written is a front of what the filter
+-- writes where its input ends somewhere, with this input or before that.
+pub record Breaks {O S N : Type 0} (f : Filter O S N) (input : List ℕ) (old new : Option (List ℕ))
+    : Type 0 where
+  pub read : List ℕ
+  pub rest : List ℕ
+  pub status : ℕ
+  pub input_is : input ≡ read ++ rest
+  pub runs : Runs f read (AppendsFront old new) status

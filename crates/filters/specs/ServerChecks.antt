@@ -6,6 +6,8 @@ use Rattle.fc_base.specs.declared.fault.Fault.{Fault}
 use Rattle.fc_base.specs.declared.fault.Fault.TheVariants.{BadNotice, NotInFlight}
 use Rattle.fc_base.specs.declared.limits.TheConstants.{MAX_BLOCKS}
 use Rattle.server_core.specs.History.{Opening}
+use Rattle.server_core.specs.Answers.{shown_entries, status}
+use Rattle.server_core.specs.Hearing.{FrameEntry, packets_heard}
 use Rattle.filters.specs.declared.names.BlockName.{BlockName}
 use Rattle.filters.specs.declared.names.TheConstants.{BLOCK_NAME}
 use Rattle.filters.specs.UnderWay.{UnderWay, report_before, with_blocks}
@@ -27,9 +29,22 @@ if_named name None = None
 if_named name (Some u) =
     if (u.attempt == name.attempt) && (u.first == name.block) then Some u else None
 
--- The check that is named.
-abbrev pub named : ServerAt → BlockName → Option UnderWay
-named at name = if_named name (at.checks name.job)
+-- An attempt is that of the open check: a later Verify that is accepted ends the checks of those
+-- before, and so does a Start.
+abbrev pub is_open_attempt : Opening → List FrameEntry → ℕ → Bool
+is_open_attempt opening past a =
+    (status opening (shown_entries (packets_heard opening past))).attempt == a
+
+-- The check that is named, where its attempt is the open one.
+abbrev pub named : Opening → ServerAt → BlockName → Option UnderWay
+named opening at name =
+    if is_open_attempt opening at.list name.attempt then if_named name (at.checks name.job)
+    else None
+
+-- So it is, where there can be such a block.
+abbrev pub named_with_block : Opening → ServerAt → BlockName → Option UnderWay
+named_with_block opening at name =
+    if nat_lt name.block MAX_BLOCKS then named opening at name else None
 
 -- So many bytes are so many of the blocks that a check wants, the first ones.
 pub record AreWanted (u : UnderWay) (len given : ℕ) : Type 0 where
@@ -57,7 +72,7 @@ abbrev pub FeedsIf : Bool → Opening → ServerAt → List ℕ → Result (Unit
     → List ℕ → Type 0
 FeedsIf true opening at body end now answer = NotTaken BadNotice at end now answer
 FeedsIf false opening at body end now answer =
-    FeedsBy (named at (block_in (take BLOCK_NAME body))) opening at
+    FeedsBy (named opening at (block_in (take BLOCK_NAME body))) opening at
     (block_in (take BLOCK_NAME body))
     (drop BLOCK_NAME body) end now answer
 
@@ -75,18 +90,17 @@ GivesUpBy None opening at name end now answer = NotTaken NotInFlight at end now 
 GivesUpBy (Some u) opening at name end now answer =
     TellsReport opening at name.job u (report_before u name.block) end now answer
 
--- What is made of a body that names a block which couldn't be read, by whether it names one that
--- there can be.
+-- What is made of a body that says that a block couldn't be read, by whether it has the length of a
+-- name.
 abbrev pub GivesUpIf : Bool → Opening → ServerAt → List ℕ → Result (Unit {0}) Fault → ServerAt
     → List ℕ → Type 0
 GivesUpIf false opening at body end now answer = NotTaken BadNotice at end now answer
 GivesUpIf true opening at body end now answer =
-    GivesUpBy (named at (block_in body)) opening at (block_in body) end now answer
+    GivesUpBy (named_with_block opening at (block_in body)) opening at (block_in body) end now
+    answer
 
 -- What is made of a body that says that a block couldn't be read.
 abbrev pub GivesUp : Opening → ServerAt → List ℕ → Result (Unit {0}) Fault → ServerAt → List ℕ
     → Type 0
 GivesUp opening at body end now answer =
-    GivesUpIf ((length body == BLOCK_NAME)
-    && nat_lt (block_in body).block MAX_BLOCKS) opening at body
-    end now answer
+    GivesUpIf (length body == BLOCK_NAME) opening at body end now answer

@@ -1,6 +1,5 @@
 -- The steps of a server's filter. Only the proofs go by these.
 use Rattle.std.specs.Prelude.{◌≡◌, ◌<◌, ◌≤◌, ◌+◌, ℕ, Bool, true, false, List, ◌++◌, Option, Some, None, Result, Ok, Err, slice_get}
-use Rattle.std.specs.Io.KnownBytes.{Appends}
 use Rattle.fc_base.specs.declared.fault.Fault.{Fault}
 use Rattle.fc_base.specs.declared.limits.TheConstants.{MAX_WRITES}
 use Rattle.job_file.specs.declared.job.Job.{Job}
@@ -14,6 +13,7 @@ use Rattle.server_core.specs.Words.{work}
 use Rattle.server_core.specs.FrameEnds.{note_in}
 use Rattle.filters.specs.declared.server_filter.ServerFilter.{ServerFilter}
 use Rattle.filters.specs.declared.server_filter.writes.Handed.{Handed}
+use Rattle.filters.specs.Written.{Written, Puts}
 use Rattle.filters.specs.Kept.{note_kept}
 use Rattle.filters.specs.Records.{end_bytes}
 use Rattle.filters.specs.ServerSteps.{handed_bytes}
@@ -65,14 +65,14 @@ Gave j n opening at now =
 
 -- What is handed out is written, with what follows from it and the end; or just the fault, and the
 -- filter stays as it was.
-abbrev pub WritesHanded : Result Handed Fault → ServerFilter → ServerFilter → Option (List ℕ)
-    → Option (List ℕ) → Type 0
+abbrev pub WritesHanded : Result Handed Fault → ServerFilter → ServerFilter → Written
+    → Written → Type 0
 WritesHanded (Ok h) filter after old new =
     (written : List ℕ)
-    × Appends old new (handed_bytes (note_in note_kept filter.server).bytes h
+    × Puts old new (handed_bytes (note_in note_kept filter.server).bytes h
     ++ (written ++ end_bytes (Ok tt)))
     × ((opening : Opening) (at : ServerAt) → IsHere filter opening at →
     (now : ServerAt) × IsHere after opening now
     × TurnsTo (λ opening at now. AreAllGiven opening now.list) opening at now written)
 WritesHanded (Err fault) filter after old new =
-    Appends old new (end_bytes (Err fault)) × (after ≡ filter)
+    Puts old new (end_bytes (Err fault)) × (after ≡ filter)

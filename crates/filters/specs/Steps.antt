@@ -1,7 +1,7 @@
 -- The steps of a filter's run. Only the proofs go by these.
-use Rattle.std.specs.Prelude.{◌≡◌, ◌≢◌, ◌<◌, ◌≤◌, ℕ, ⊤, List, length, Vec, Option, Some, None, IfSome, Result, Ok, Err}
+use Rattle.std.specs.Prelude.{◌≡◌, ◌≢◌, ◌⊎◌, ◌<◌, ◌≤◌, ◌++◌, ℕ, ⊤, List, [], length, IsTrue, Vec, Option, Some, None, IfSome, Result, Ok, Err}
 use Rattle.std.specs.declared.alloc.Global.{Global}
-use Rattle.std.specs.Io.KnownBytes.{Appends, Consumes, IsAtEnd}
+use Rattle.std.specs.Io.KnownBytes.{Consumes, IsAtEnd}
 use Rattle.fc_base.specs.declared.fault.Fault.{Fault}
 use Rattle.fc_base.specs.declared.fault.Fault.TheVariants as faults
 use Rattle.filters.specs.declared.kinds.Told.TheVariants.{Note}
@@ -10,6 +10,7 @@ use Rattle.filters.specs.declared.record.Record.{Record}
 use Rattle.filters.specs.declared.record.TheConstants.{MAX_BODY}
 use Rattle.filters.specs.Kinds.{told_number}
 use Rattle.filters.specs.Records.{head_bytes, record_bytes}
+use Rattle.filters.specs.Written.{Written, Puts}
 use Rattle.filters.specs.Lives.{RecordParts, HasNoRecord, HasNoNote, Lives, Closes, read_bytes}
 
 -- What stands before the next body, if anything is left; or why it isn't there.
@@ -51,40 +52,61 @@ parts_of r = record { kind = r.kind; body = r.body.items }
 -- Something was answered, as what comes to a node `Takes` it: the node was in any of these states,
 -- and is in one of those.
 pub record AnswersBy {O S : Type 0} (Takes : O → S → S → List ℕ → Type 0)
-    (Before After : O → S → Type 0) (old new : Option (List ℕ)) : Type 0 where
+    (Before After : O → S → Type 0) (old new : Written) : Type 0 where
   pub answer : List ℕ
-  pub written : Appends old new answer
+  pub written : Puts old new answer
   pub takes : (opening : O) (before : S) → Before opening before →
       (after : S) × After opening after × Takes opening before after answer
 
 -- A record was answered.
 abbrev pub AnswersRecord : {O S : Type 0} → (O → S → RecordParts → S → List ℕ → Type 0)
-    → (O → S → Type 0) → (O → S → Type 0) → RecordParts → Option (List ℕ) → Option (List ℕ)
-    → Type 0
+    → (O → S → Type 0) → (O → S → Type 0) → RecordParts → Written → Written → Type 0
 AnswersRecord Takes Before After r old new =
     AnswersBy (λ opening before after answer.
     Takes opening before r after answer) Before After old new
 
+-- A run ends: as its input has it, or since a write has failed; then nothing more is written.
+abbrev pub Ends : Written → ℕ → List ℕ → List ℕ → ℕ → Type 0
+Ends now count rest last status =
+    Closes count rest last status ⊎ (IsTrue now.failed × (last ≡ []))
+
 -- A step reads a record and answers it; or it ends the run with this status.
 abbrev pub StepsBy : {O S : Type 0} → (O → S → RecordParts → S → List ℕ → Type 0)
-    → (O → S → Type 0) → (O → S → Type 0) → Option (List ℕ) → Option (List ℕ)
-    → Option (List ℕ) → Option (List ℕ) → Option ℕ → Type 0
+    → (O → S → Type 0) → (O → S → Type 0) → Option (List ℕ) → Option (List ℕ) → Written → Written
+    → Option ℕ → Type 0
 StepsBy Takes Before After old_input input old new None =
     (r : RecordParts) × Consumes old_input input (record_bytes r.kind r.body)
     × AnswersRecord Takes Before After r old new
 StepsBy Takes Before After old_input input old new (Some status) =
-    IfSome old_input (λ rest. (last : List ℕ) × Appends old new last
-    × ((count : ℕ) → Closes count rest last status))
+    (new.writer ≡ old.writer)
+    × IfSome old_input (λ rest. (last : List ℕ) × Puts old new last
+    × ((count : ℕ) → Ends new count rest last status))
+
+-- A run over a front of the input: over all of it, and with this status; or a write has failed.
+pub record Stops (Over : List ℕ → (List ℕ → Type 0) → ℕ → Type 0) (input : List ℕ)
+    (old new : Written) (status : ℕ) : Type 0 where
+  pub read : List ℕ
+  pub rest : List ℕ
+  pub end : ℕ
+  pub input_is : input ≡ read ++ rest
+  pub ran : Over read (Puts old new) end
+  pub why : ((rest ≡ []) × (end ≡ status)) ⊎ IsTrue new.failed
+
+-- So it stops, where its input is known.
+abbrev pub StopsBy : (List ℕ → (List ℕ → Type 0) → ℕ → Type 0) → Option (List ℕ) → Written → Written
+    → ℕ → Type 0
+StopsBy Over input old new status =
+    (new.writer ≡ old.writer) × IfSome input (λ i. Stops Over i old new status)
 
 -- A run up to here, of so many records: they were read and answered, since the input and the text
 -- were these.
 pub record SoFar {O S : Type 0} (Takes : O → S → RecordParts → S → List ℕ → Type 0)
-    (Begins Now : O → S → Type 0) (first_input input old new : Option (List ℕ))
+    (Begins Now : O → S → Type 0) (first_input input : Option (List ℕ)) (old new : Written)
     (count : ℕ) : Type 0 where
   pub records : List RecordParts
   pub answers : List ℕ
   pub read : Consumes first_input input (read_bytes records)
-  pub written : Appends old new answers
+  pub written : Puts old new answers
   pub lives : (opening : O) (first : S) → Begins opening first →
       (now : S) × Now opening now × Lives (Takes opening) first records now answers
   pub counted : length records ≡ count

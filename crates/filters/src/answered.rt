@@ -1,15 +1,13 @@
 //! What the client or the mirror answers to an input, and how that is written.
 
-ghost use Rattle.std.specs.Prelude.{OnOk};
-ghost use Rattle.std.specs.Io.KnownBytes.{Appends};
+ghost use Rattle.filters.specs.Written.{Puts};
 ghost use Rattle.filters.specs.ClientSteps.{answer_bytes, result_bytes, number_bytes};
 
 use crate::kinds::Said;
+use crate::output::Output;
 use crate::writing::{put_end, put_frames, put_record, put_save};
 use fc_base::Fault;
 use messages::Frames;
-use std::io;
-use std::io::Write;
 
 /// What the client or the mirror answers.
 #[derive(Drop)]
@@ -23,18 +21,15 @@ pub(crate) struct Answered {
 }
 
 /// Writes what is answered over this note, or why there is no answer.
-pub(crate) fn put_result<W: Write>(
-    writer: &mut W,
-    note: &[u8],
-    answer: Result<Answered, Fault>,
-) -> io::Result<()>
-    ensures { OnOk result (Appends (W.contents writer.old) (W.contents writer.new)
-        (result_bytes note.now answer)) }
+#[tactic(auto, using(crate::proofs::OutputLemmas::puts_both))]
+pub(crate) fn put_result<W: Output>(writer: &mut W, note: &[u8], answer: Result<Answered, Fault>)
+    ensures { Puts (W.written writer.old) (W.written writer.new)
+        (result_bytes note.now answer) }
 {
     match answer {
         Ok(answered) => {
-            put_answer(writer, note, &answered)?;
-            put_end(writer, Ok(()))
+            put_answer(writer, note, &answered);
+            put_end(writer, Ok(()));
         }
         Err(fault) => put_end(writer, Err(fault)),
     }
@@ -42,23 +37,24 @@ pub(crate) fn put_result<W: Write>(
 
 /// Writes what is answered over this note: first what is saved, and then what may be carried out only once that
 /// is durable.
-fn put_answer<W: Write>(writer: &mut W, note: &[u8], answered: &Answered) -> io::Result<()>
-    ensures { OnOk result (Appends (W.contents writer.old) (W.contents writer.new)
-        (answer_bytes note.now answered.now)) }
+#[tactic(auto, using(crate::proofs::OutputLemmas::puts_both))]
+fn put_answer<W: Output>(writer: &mut W, note: &[u8], answered: &Answered)
+    ensures { Puts (W.written writer.old) (W.written writer.new)
+        (answer_bytes note.now answered.now) }
 {
-    put_save(writer, answered.saves, note)?;
-    put_number(writer, answered.number)?;
+    put_save(writer, answered.saves, note);
+    put_number(writer, answered.number);
     put_frames(writer, &answered.frames)
 }
 
 /// Writes a number that is given.
 #[tactic(auto, unfolding(fc_base::specs::Layouts::bytes_of))]
-fn put_number<W: Write>(writer: &mut W, number: Option<u64>) -> io::Result<()>
-    ensures { OnOk result (Appends (W.contents writer.old) (W.contents writer.new)
-        (number_bytes number)) }
+fn put_number<W: Output>(writer: &mut W, number: Option<u64>)
+    ensures { Puts (W.written writer.old) (W.written writer.new)
+        (number_bytes number) }
 {
     match number {
         Some(number) => put_record(writer, Said::Number, &number.to_be_bytes()),
-        None => Ok(()),
+        None => {}
     }
 }

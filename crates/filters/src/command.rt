@@ -1,10 +1,11 @@
 //! The command line of `fiocut_node`.
 
-ghost use Rattle.std.specs.Prelude.{IfSome, IsTrue, map};
+ghost use Rattle.std.specs.Prelude.{IfOk, IfSome, IsTrue, map};
 ghost use Rattle.filters.specs.declared.command.Request.TheVariants.{Mirror};
-ghost use Rattle.filters.specs.Command.{IsRequest, Asks, AreClientWords, AreWords, Begins, IsPair, IsWord};
+ghost use Rattle.filters.specs.Command.{IsRequest, Asks, AreClientWords, AreWords, Begins, IsPair, IsUnsigned, IsWord};
 
 use crate::beginning::Beginning;
+use clap::error::ErrorKind;
 use clap::{Arg, ArgMatches, Command, Error};
 use fc_base::{Generation, MAX_SERVERS, ServerNo};
 use program_io::is_number;
@@ -25,16 +26,27 @@ pub enum Request {
 
 /// Reads the words of a command line, of which the first is the program's own name. `None` is a bad command: no
 /// command or an unknown one, a word too few or too many, a server that isn't 0 to 7, a number of servers that isn't
-/// 1 to 8, a generation that isn't 0 to 18,446,744,073,709,551,615, or no memory to read the words with. There are
-/// no options.
-pub fn read_words<S: AsStr>(alloc: Global, words: &[S]) -> Option<Request>
+/// 1 to 8, or a generation that isn't 0 to 18,446,744,073,709,551,615. A number has digits alone, and there are no
+/// options. An error is that memory is wanting.
+pub fn read_words<S: AsStr>(alloc: Global, words: &[S]) -> Result<Option<Request>, AllocError>
+    ensures allowed { IfOk result (λ read. IfSome read IsRequest) }
+    ensures asked { IfOk result (λ read. IfSome read (Asks (map S.text words.now))) }
+{
+    if words.iter().any(|word| word.as_str() == "--") {
+        return Ok(None);
+    }
+    match matches_of(alloc, words) {
+        Ok(matches) => Ok(request_in(words, &matches)),
+        Err(error) if error.kind() == ErrorKind::OutOfMemory => Err(AllocError),
+        Err(_) => Ok(None),
+    }
+}
+
+/// What the words ask for, by how they were read.
+fn request_in<S: AsStr>(words: &[S], matches: &ArgMatches<'_>) -> Option<Request>
     ensures allowed { IfSome result IsRequest }
     ensures asked { IfSome result (Asks (map S.text words.now)) }
 {
-    if words.iter().any(|word| word.as_str() == "--") {
-        return None;
-    }
-    let matches = matches_of(alloc, words).ok()?;
     match matches.subcommand()? {
         ("server", values) => server_in(words, values.get_one::<u32>("number")?),
         ("client", values) => client_in(words, values),
@@ -88,7 +100,7 @@ fn are_words<S: AsStr>(words: &[S], command: &str, number: u32) -> bool
     ensures { IsTrue result → AreWords (map S.text words.now) command.now number }
 {
     words.len() == 3
-        && (words[1].as_str() == command && is_number(words[2].as_str(), u64::from(number)))
+        && (words[1].as_str() == command && is_unsigned(words[2].as_str(), u64::from(number)))
 }
 
 /// Whether these are the words of the client of so many servers, which begins so.
@@ -128,7 +140,19 @@ fn is_word<S: AsStr>(words: &[S], wanted: &str) -> bool
 fn is_pair<S: AsStr>(words: &[S], wanted: &str, generation: Generation) -> bool
     ensures { IsTrue result → IsPair (map S.text words.now) wanted.now generation }
 {
-    words.len() == 2 && (words[0].as_str() == wanted && is_number(words[1].as_str(), generation.0))
+    words.len() == 2
+        && (words[0].as_str() == wanted && is_unsigned(words[1].as_str(), generation.0))
+}
+
+/// Whether a word is this number, in digits alone.
+fn is_unsigned(word: &str, number: u64) -> bool
+    ensures { IsTrue result → IsUnsigned word.now number }
+{
+    let bytes = word.as_bytes();
+    if bytes.is_empty() || bytes[0] == b'+' {
+        return false;
+    }
+    is_number(word, number)
 }
 
 fn matches_of<'a, S: AsStr>(alloc: Global, words: &'a [S]) -> Result<ArgMatches<'a>, Error> {

@@ -1,17 +1,16 @@
 //! How an attempt ended, as it is told.
 
-ghost use Rattle.std.specs.Prelude.{◌≡◌, ◌≤◌, OnOk, length};
+ghost use Rattle.std.specs.Prelude.{◌≡◌, ◌≤◌, length};
 ghost use Rattle.std.specs.List.{flat_map};
-ghost use Rattle.std.specs.Io.KnownBytes.{Appends};
+ghost use Rattle.filters.specs.Written.{Puts};
 ghost use Rattle.attempt_ends.specs.declared.place.TheConstants.{PLACES};
 ghost use Rattle.filters.specs.EndTells.{bare, numbers_of, end_names, end_counts, place_bytes, word_number, attempt_bytes, sums_bytes, word_bytes, told_bytes};
 
 use crate::asking::EndsAsked;
 use crate::kinds::Said;
+use crate::output::Output;
 use crate::writing::{put_head, put_u32, put_u64};
 use attempt_ends::{AttemptEnd, EndAt, Place, PlaceEnd, Sums, attempt_end, sums_of};
-use std::io;
-use std::io::Write;
 
 /// The number of an end at a place, and those that go with it; 0 where one doesn't.
 #[derive(Clone, Copy, Debug)]
@@ -85,93 +84,90 @@ fn word_number(end: AttemptEnd) -> u8
 }
 
 /// Writes how an attempt ended: place by place, and then in one word.
-pub(crate) fn put_ends<W: Write>(
-    writer: &mut W,
-    asked: &EndsAsked,
-    ends: &[EndAt],
-) -> io::Result<()>
+#[tactic(auto, using(crate::proofs::OutputLemmas::puts_both))]
+pub(crate) fn put_ends<W: Output>(writer: &mut W, asked: &EndsAsked, ends: &[EndAt])
     requires { length ends.now ≤ PLACES }
-    ensures { OnOk result (Appends (W.contents writer.old) (W.contents writer.new)
-        (told_bytes asked.now ends.now)) }
+    ensures { Puts (W.written writer.old) (W.written writer.new)
+        (told_bytes asked.now ends.now) }
 {
-    put_places(writer, asked, ends)?;
+    put_places(writer, asked, ends);
     put_word(writer, asked, attempt_end(ends), sums_of(ends))
 }
 
 /// Writes how an attempt ended at its places.
-fn put_places<W: Write>(writer: &mut W, asked: &EndsAsked, ends: &[EndAt]) -> io::Result<()>
-    ensures { OnOk result (Appends (W.contents writer.old) (W.contents writer.new)
-        (flat_map (place_bytes asked.now) ends.now)) }
+fn put_places<W: Output>(writer: &mut W, asked: &EndsAsked, ends: &[EndAt])
+    ensures { Puts (W.written writer.old) (W.written writer.new)
+        (flat_map (place_bytes asked.now) ends.now) }
 {
     for end in ends {
-        put_place(writer, asked, end)?;
+        put_place(writer, asked, end);
     }
-    Ok(())
 }
 
 /// Writes how an attempt ended at a place.
-fn put_place<W: Write>(writer: &mut W, asked: &EndsAsked, end: &EndAt) -> io::Result<()>
-    ensures { OnOk result (Appends (W.contents writer.old) (W.contents writer.new)
-        (place_bytes asked.now end.now)) }
+#[tactic(auto, using(crate::proofs::OutputLemmas::puts_both))]
+fn put_place<W: Output>(writer: &mut W, asked: &EndsAsked, end: &EndAt)
+    ensures { Puts (W.written writer.old) (W.written writer.new)
+        (place_bytes asked.now end.now) }
 {
-    put_head(writer, Said::PlaceEnd, 44)?;
-    put_names(writer, asked, &end.place)?;
+    put_head(writer, Said::PlaceEnd, 44);
+    put_names(writer, asked, &end.place);
     put_counts(writer, numbers_of(end.end))
 }
 
 /// Writes whose an end is.
-fn put_names<W: Write>(writer: &mut W, asked: &EndsAsked, place: &Place) -> io::Result<()>
-    ensures { OnOk result (Appends (W.contents writer.old) (W.contents writer.new)
-        (end_names asked.now place.now)) }
+#[tactic(auto, using(crate::proofs::OutputLemmas::puts_both))]
+fn put_names<W: Output>(writer: &mut W, asked: &EndsAsked, place: &Place)
+    ensures { Puts (W.written writer.old) (W.written writer.new)
+        (end_names asked.now place.now) }
 {
-    put_u64(writer, asked.run.0)?;
-    put_u64(writer, asked.attempt.0)?;
-    put_u32(writer, place.server.0)?;
+    put_u64(writer, asked.run.0);
+    put_u64(writer, asked.attempt.0);
+    put_u32(writer, place.server.0);
     put_u32(writer, place.job.0)
 }
 
 /// Writes the numbers of an end.
-fn put_counts<W: Write>(writer: &mut W, numbers: EndNumbers) -> io::Result<()>
-    ensures { OnOk result (Appends (W.contents writer.old) (W.contents writer.new)
-        (end_counts numbers)) }
+#[tactic(auto, using(crate::proofs::OutputLemmas::puts_both))]
+fn put_counts<W: Output>(writer: &mut W, numbers: EndNumbers)
+    ensures { Puts (W.written writer.old) (W.written writer.new)
+        (end_counts numbers) }
 {
-    put_u32(writer, numbers.end)?;
-    put_u32(writer, numbers.checked)?;
-    put_u32(writer, numbers.faults)?;
-    put_u32(writer, numbers.block)?;
+    put_u32(writer, numbers.end);
+    put_u32(writer, numbers.checked);
+    put_u32(writer, numbers.faults);
+    put_u32(writer, numbers.block);
     put_u32(writer, numbers.reason)
 }
 
 /// Writes how an attempt ended in one word, and in sums.
-fn put_word<W: Write>(
-    writer: &mut W,
-    asked: &EndsAsked,
-    end: AttemptEnd,
-    sums: Sums,
-) -> io::Result<()>
-    ensures { OnOk result (Appends (W.contents writer.old) (W.contents writer.new)
-        (word_bytes asked.now end sums)) }
+#[tactic(auto, using(crate::proofs::OutputLemmas::puts_both))]
+fn put_word<W: Output>(writer: &mut W, asked: &EndsAsked, end: AttemptEnd, sums: Sums)
+    ensures { Puts (W.written writer.old) (W.written writer.new)
+        (word_bytes asked.now end sums) }
 {
-    put_head(writer, Said::AttemptEnd, 33)?;
-    put_attempt(writer, asked)?;
-    writer.write_all(&[word_number(end)])?;
+    put_head(writer, Said::AttemptEnd, 33);
+    put_attempt(writer, asked);
+    writer.put(&[word_number(end)]);
     put_sums(writer, sums)
 }
 
 /// Writes which attempt it is, of which run.
-fn put_attempt<W: Write>(writer: &mut W, asked: &EndsAsked) -> io::Result<()>
-    ensures { OnOk result (Appends (W.contents writer.old) (W.contents writer.new)
-        (attempt_bytes asked.now)) }
+#[tactic(auto, using(crate::proofs::OutputLemmas::puts_both))]
+fn put_attempt<W: Output>(writer: &mut W, asked: &EndsAsked)
+    ensures { Puts (W.written writer.old) (W.written writer.new)
+        (attempt_bytes asked.now) }
 {
-    put_u64(writer, asked.run.0)?;
+    put_u64(writer, asked.run.0);
     put_u64(writer, asked.attempt.0)
 }
 
 /// Writes sums.
-fn put_sums<W: Write>(writer: &mut W, sums: Sums) -> io::Result<()>
-    ensures { OnOk result (Appends (W.contents writer.old) (W.contents writer.new)
-        (sums_bytes sums)) }
+#[tactic(auto, using(crate::proofs::OutputLemmas::puts_both))]
+fn put_sums<W: Output>(writer: &mut W, sums: Sums)
+    ensures { Puts (W.written writer.old) (W.written writer.new)
+        (sums_bytes sums) }
 {
-    put_u64(writer, sums.checked)?;
+    put_u64(writer, sums.checked);
     put_u64(writer, sums.faults)
 }

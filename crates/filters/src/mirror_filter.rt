@@ -1,14 +1,15 @@
 //! A mirror as a filter.
 
-ghost use Rattle.std.specs.Prelude.{List, Some, OnOk, IfOk, IfSome};
+ghost use Rattle.std.specs.Prelude.{List, Some, IfOk, OnErr, IfSome};
 ghost use Rattle.std.specs.Io.KnownBytes.{Appends};
 ghost use Rattle.std.specs.Io.Buffered.{reader_remaining};
 ghost use Rattle.mirror_core.specs.declared.note.MirrorNote.{MirrorNote};
 ghost use Rattle.mirror_core.specs.History.{Entry};
 ghost use Rattle.mirror_core.specs.Stands.{StandsFor};
+ghost use Rattle.filters.specs.Written.{Puts};
 ghost use Rattle.filters.specs.Kept.{note_kept};
-ghost use Rattle.filters.specs.Lives.{RunsOver, Runs};
-ghost use Rattle.filters.specs.Steps.{AnswersBy, AnswersRecord, parts_of};
+ghost use Rattle.filters.specs.Lives.{Breaks, RunsOver, Runs};
+ghost use Rattle.filters.specs.Steps.{AnswersBy, AnswersRecord, StopsBy, parts_of};
 ghost use Rattle.filters.specs.ClientSteps.{result_bytes};
 ghost use Rattle.filters.specs.MirrorLives.{MirrorAt, IsAt, MirrorTakes, TakesBody, TakesKind, frame_in, mirror_filter};
 ghost use Rattle.filters.specs.MirrorSteps.{FrameEnds, BodyEnds};
@@ -16,6 +17,7 @@ ghost use Rattle.filters.specs.MirrorSteps.{FrameEnds, BodyEnds};
 use crate::answered::{Answered, put_result};
 use crate::kept_notes::KeptNotes;
 use crate::kinds::Told;
+use crate::output::{Guarded, Output, ended};
 use crate::reading::first_note;
 use crate::record::Record;
 use crate::records_node::{RecordsNode, run_records};
@@ -37,32 +39,49 @@ pub fn run_mirror<R: Read, W: Write>(
     reader: &mut BufReader<R>,
     writer: &mut W,
 ) -> io::Result<u8>
-    ensures { IfSome (reader_remaining R.remaining reader.old) (λ input. IfOk result
-        (Runs mirror_filter input (W.contents writer.old) (W.contents writer.new))) }
+    ensures ok { IfSome (reader_remaining R.remaining reader.old) (λ input. IfOk result
+        (Runs mirror_filter input (Appends (W.contents writer.old) (W.contents writer.new)))) }
+    ensures err { IfSome (reader_remaining R.remaining reader.old) (λ input. OnErr result
+        (Breaks mirror_filter input (W.contents writer.old) (W.contents writer.new))) }
 {
-    match first_note(alloc, reader, writer)? {
+    let mut output = Guarded {
+        writer,
+        error: None,
+    };
+    let status = serve(alloc, reader, &mut output);
+    let Guarded { writer, error } = output;
+    // No effect when it runs. The proof reads from this use what the writer holds.
+    let _ = &*writer;
+    ended(error, status)
+}
+
+/// Serves, and answers the exit status.
+fn serve<R: Read, W: Output>(alloc: Global, reader: &mut BufReader<R>, writer: &mut W) -> u8
+    ensures { StopsBy (Runs mirror_filter) (reader_remaining R.remaining reader.old)
+        (W.written writer.old) (W.written writer.new) result }
+{
+    match first_note(alloc, reader, writer) {
         Ok(note) => run_over(alloc, note, reader, writer),
         Err(fault) => refuse(writer, fault),
     }
 }
 
 /// Serves over this note.
-fn run_over<R: Read, W: Write>(
+fn run_over<R: Read, W: Output>(
     alloc: Global,
     note: Vec<u8>,
     reader: &mut BufReader<R>,
     writer: &mut W,
-) -> io::Result<u8>
-    ensures { IfSome (reader_remaining R.remaining reader.old) (λ behind. IfOk result
-        (RunsOver mirror_filter note.items behind (W.contents writer.old)
-        (W.contents writer.new))) }
+) -> u8
+    ensures { StopsBy (RunsOver mirror_filter note.items) (reader_remaining R.remaining reader.old)
+        (W.written writer.old) (W.written writer.new) result }
 {
     let mirror = match Mirror::restart(alloc, KeptNotes::new(note)) {
         Ok(mirror) => mirror,
         Err((_, fault)) => return refuse(writer, fault),
     };
     let mut filter = MirrorFilter { alloc, mirror };
-    put_end(writer, Ok(()))?;
+    put_end(writer, Ok(()));
     run_records(alloc, &mut filter, reader, writer)
 }
 
@@ -82,18 +101,17 @@ impl RecordsNode for MirrorFilter {
 
     ghost StandsAt = { λ filter opening at. IsAt note_kept filter.mirror opening at };
 
-    fn answer_record<W: Write>(&mut self, came: &Record, writer: &mut W) -> io::Result<()> {
+    fn answer_record<W: Output>(&mut self, came: &Record, writer: &mut W) {
         self.answer(came, writer)
     }
 }
 
 impl MirrorFilter {
     /// Answers a record.
-    fn answer<W: Write>(&mut self, came: &Record, writer: &mut W) -> io::Result<()>
-        ensures { OnOk result
-            (AnswersRecord MirrorTakes (IsAt note_kept self.old.mirror)
+    fn answer<W: Output>(&mut self, came: &Record, writer: &mut W)
+        ensures { AnswersRecord MirrorTakes (IsAt note_kept self.old.mirror)
             (IsAt note_kept self.new.mirror) (parts_of came.now)
-            (W.contents writer.old) (W.contents writer.new)) }
+            (W.written writer.old) (W.written writer.new) }
     {
         let body = came.body.as_slice();
         match Told::numbered(came.kind) {
@@ -103,12 +121,11 @@ impl MirrorFilter {
     }
 
     /// Answers a record of this kind.
-    fn answer_kind<W: Write>(&mut self, kind: Told, body: &[u8], writer: &mut W) -> io::Result<()>
-        ensures { OnOk result
-            (AnswersBy (λ opening at now answer.
+    fn answer_kind<W: Output>(&mut self, kind: Told, body: &[u8], writer: &mut W)
+        ensures { AnswersBy (λ opening at now answer.
             TakesKind opening at (Some kind) body.now now answer)
             (IsAt note_kept self.old.mirror) (IsAt note_kept self.new.mirror)
-            (W.contents writer.old) (W.contents writer.new)) }
+            (W.written writer.old) (W.written writer.new) }
     {
         match kind {
             Told::Frame => self.answer_frame(body, writer),
@@ -117,25 +134,20 @@ impl MirrorFilter {
     }
 
     /// Answers a frame.
-    fn answer_frame<W: Write>(&mut self, body: &[u8], writer: &mut W) -> io::Result<()>
-        ensures { OnOk result
-            (AnswersBy (λ opening at now answer.
+    fn answer_frame<W: Output>(&mut self, body: &[u8], writer: &mut W)
+        ensures { AnswersBy (λ opening at now answer.
             TakesBody opening at (frame_in body.now) now answer)
             (IsAt note_kept self.old.mirror) (IsAt note_kept self.new.mirror)
-            (W.contents writer.old) (W.contents writer.new)) }
+            (W.written writer.old) (W.written writer.new) }
     {
         let answer = self.take(body);
         self.write_answer(answer, writer)
     }
 
     /// Writes an answer, or why there is none.
-    fn write_answer<W: Write>(
-        &self,
-        answer: Result<Answered, Fault>,
-        writer: &mut W,
-    ) -> io::Result<()>
-        ensures { OnOk result (Appends (W.contents writer.old) (W.contents writer.new)
-            (result_bytes (note_kept self.now.mirror.durable.notes).bytes answer)) }
+    fn write_answer<W: Output>(&self, answer: Result<Answered, Fault>, writer: &mut W)
+        ensures { Puts (W.written writer.old) (W.written writer.new)
+            (result_bytes (note_kept self.now.mirror.durable.notes).bytes answer) }
     {
         put_result(writer, self.mirror.notes().as_slice(), answer)
     }

@@ -1,57 +1,62 @@
 //! Reading records.
 
-ghost use Rattle.std.specs.Prelude.{OnOk, IfOk};
-ghost use Rattle.std.specs.Io.KnownBytes.{Keeps};
+ghost use Rattle.std.specs.Prelude.{[]};
 ghost use Rattle.std.specs.Io.Buffered.{reader_remaining};
+ghost use Rattle.filters.specs.Written.{Puts};
 ghost use Rattle.filters.specs.Steps.{ReadsHead, ReadsBody, ReadsRecord, IsNoteOf, ReadsNote};
 
 use crate::kinds::Told;
+use crate::output::Output;
 use crate::record::{HEAD, Head, MAX_BODY, Record, head_in, holds_record};
 use fc_base::Fault;
 use program_io::fill;
 use std::alloc::Global;
-use std::io;
-use std::io::{BufReader, Read, Write};
+use std::io::{BufReader, Read};
 
 /// The most calls of `read` for a head, and for a body: more than its bytes.
 const MAX_READS: u32 = 2_000_000;
 
-/// The next record; `None` where the input has ended. What was written is flushed before anything is waited
-/// for.
-///
-/// `EndOfInput`: the input ends within a record. `BadNotice`: its body is said to be longer than any that is
-/// read, and nothing of it is. `ReadError`. `NoMemory`. An error is that of a flush.
-pub(crate) fn next_record<R: Read, W: Write>(
-    alloc: Global,
-    reader: &mut BufReader<R>,
-    writer: &mut W,
-) -> io::Result<Result<Option<Record>, Fault>>
-    ensures written { OnOk result (Keeps (W.contents writer.old) (W.contents writer.new)) }
-    ensures read { IfOk result (ReadsRecord (reader_remaining R.remaining reader.old)
-        (reader_remaining R.remaining reader.new)) }
+/// Before the next record is waited for, what was written is flushed.
+#[tactic(auto, using(crate::proofs::OutputLemmas::puts_none))]
+pub(crate) fn wait<R: Read, W: Output>(reader: &BufReader<R>, writer: &mut W)
+    ensures { Puts (W.written writer.old) (W.written writer.new) [] }
 {
     if !holds_record(reader.buffer()) {
-        writer.flush()?;
+        writer.flush();
     }
-    Ok(read_record(alloc, reader))
+}
+
+/// The next record; `None` where the input has ended.
+///
+/// `EndOfInput`: the input ends within a record. `BadNotice`: its body is said to be longer than any that is
+/// read, and nothing of it is. `ReadError`. `NoMemory`.
+pub(crate) fn next_record<R: Read>(
+    alloc: Global,
+    reader: &mut BufReader<R>,
+) -> Result<Option<Record>, Fault>
+    ensures { ReadsRecord (reader_remaining R.remaining reader.old)
+        (reader_remaining R.remaining reader.new) result }
+{
+    read_record(alloc, reader)
 }
 
 /// The note, which is the first record.
 ///
 /// `BadNotice`: the first record is another one. `EndOfInput`: there is none. Else as of any record.
-pub(crate) fn first_note<R: Read, W: Write>(
+pub(crate) fn first_note<R: Read, W: Output>(
     alloc: Global,
     reader: &mut BufReader<R>,
     writer: &mut W,
-) -> io::Result<Result<Vec<u8>, Fault>>
-    ensures written { OnOk result (Keeps (W.contents writer.old) (W.contents writer.new)) }
-    ensures read { IfOk result (ReadsNote (reader_remaining R.remaining reader.old)
-        (reader_remaining R.remaining reader.new)) }
+) -> Result<Vec<u8>, Fault>
+    ensures written { Puts (W.written writer.old) (W.written writer.new) [] }
+    ensures read { ReadsNote (reader_remaining R.remaining reader.old)
+        (reader_remaining R.remaining reader.new) result }
 {
-    match next_record(alloc, reader, writer)? {
-        Ok(Some(came)) => Ok(note_of(came)),
-        Ok(None) => Ok(Err(Fault::EndOfInput)),
-        Err(fault) => Ok(Err(fault)),
+    wait(reader, writer);
+    match next_record(alloc, reader) {
+        Ok(Some(came)) => note_of(came),
+        Ok(None) => Err(Fault::EndOfInput),
+        Err(fault) => Err(fault),
     }
 }
 

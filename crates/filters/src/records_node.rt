@@ -1,17 +1,17 @@
 //! A node that answers records, whichever it is, and its run.
 
-ghost use Rattle.std.specs.Prelude.{ℕ, [], List, OnOk, IfOk, IfSome};
+ghost use Rattle.std.specs.Prelude.{ℕ, [], List};
 ghost use Rattle.std.specs.Io.Buffered.{reader_remaining};
 ghost use Rattle.filters.specs.Lives.{HasRun, RecordParts};
-ghost use Rattle.filters.specs.Steps.{AnswersRecord, StepsBy, parts_of};
+ghost use Rattle.filters.specs.Steps.{AnswersRecord, StepsBy, StopsBy, parts_of};
 
-use crate::reading::next_record;
+use crate::output::Output;
+use crate::reading::{next_record, wait};
 use crate::record::Record;
-use crate::writing::refuse;
+use crate::writing::{REFUSED, refuse};
 use fc_base::Fault;
 use std::alloc::Global;
-use std::io;
-use std::io::{BufReader, Read, Write};
+use std::io::{BufReader, Read};
 
 /// A node that answers records.
 pub(crate) trait RecordsNode {
@@ -28,55 +28,57 @@ pub(crate) trait RecordsNode {
     ghost StandsAt: { Self → Opening → Moment → Type 0 };
 
     /// Answers a record.
-    fn answer_record<W: Write>(&mut self, came: &Record, writer: &mut W) -> io::Result<()>
-        ensures { OnOk result
-            (AnswersRecord Makes (StandsAt self.old) (StandsAt self.new) (parts_of came.now)
-            (W.contents writer.old) (W.contents writer.new)) };
+    fn answer_record<W: Output>(&mut self, came: &Record, writer: &mut W)
+        ensures { AnswersRecord Makes (StandsAt self.old) (StandsAt self.new) (parts_of came.now)
+            (W.written writer.old) (W.written writer.new) };
 }
 
-/// Answers records until there is none, and answers the exit status.
-pub(crate) fn run_records<N: RecordsNode, R: Read, W: Write>(
+/// Answers records until there is none, or a write has failed, and answers the exit status.
+pub(crate) fn run_records<N: RecordsNode, R: Read, W: Output>(
     alloc: Global,
     node: &mut N,
     reader: &mut BufReader<R>,
     writer: &mut W,
-) -> io::Result<u8>
-    ensures { IfSome (reader_remaining R.remaining reader.old) (λ input. IfOk result
-        (HasRun N.Makes (N.StandsAt node.old) [] input
-        (W.contents writer.old) (W.contents writer.new))) }
+) -> u8
+    ensures { StopsBy (HasRun N.Makes (N.StandsAt node.old) [])
+        (reader_remaining R.remaining reader.old)
+        (W.written writer.old) (W.written writer.new) result }
 {
     for _ in 0..u64::MAX {
-        if let Some(status) = step(alloc, node, reader, writer)? {
-            return Ok(status);
+        if let Some(status) = step(alloc, node, reader, writer) {
+            return status;
         }
     }
     refuse(writer, Fault::TurnsSpent)
 }
 
-/// Reads a record and has it answered; the exit status where there is none.
-fn step<N: RecordsNode, R: Read, W: Write>(
+/// Reads a record and has it answered; the exit status where there is none, or where a write has failed.
+fn step<N: RecordsNode, R: Read, W: Output>(
     alloc: Global,
     node: &mut N,
     reader: &mut BufReader<R>,
     writer: &mut W,
-) -> io::Result<Option<u8>>
-    ensures { IfOk result
-        (StepsBy N.Makes (N.StandsAt node.old) (N.StandsAt node.new)
+) -> Option<u8>
+    ensures { StepsBy N.Makes (N.StandsAt node.old) (N.StandsAt node.new)
         (reader_remaining R.remaining reader.old) (reader_remaining R.remaining reader.new)
-        (W.contents writer.old) (W.contents writer.new)) }
+        (W.written writer.old) (W.written writer.new) result }
 {
-    match next_record(alloc, reader, writer)? {
+    wait(reader, writer);
+    if writer.has_failed() {
+        return Some(REFUSED);
+    }
+    match next_record(alloc, reader) {
         Ok(Some(came)) => {
-            node.answer_record(&came, writer)?;
-            Ok(None)
+            node.answer_record(&came, writer);
+            None
         }
         Ok(None) => {
-            writer.flush()?;
-            Ok(Some(0))
+            writer.flush();
+            Some(0)
         }
         Err(fault) => {
-            let status = refuse(writer, fault)?;
-            Ok(Some(status))
+            let status = refuse(writer, fault);
+            Some(status)
         }
     }
 }

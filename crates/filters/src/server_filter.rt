@@ -1,16 +1,18 @@
 //! A server as a filter.
 
-ghost use Rattle.std.specs.Prelude.{◌≡◌, ◌<◌, true, Some, [], length, OnOk, IfOk, IfErr, IfSome};
+ghost use Rattle.std.specs.Prelude.{◌≡◌, ◌<◌, true, Some, [], length, IfOk, OnErr, IfErr, IfSome};
 ghost use Rattle.std.specs.Io.Buffered.{reader_remaining};
 ghost use Rattle.std.specs.Io.KnownBytes.{Appends};
 ghost use Rattle.fc_base.specs.declared.limits.TheConstants.{MAX_SERVERS, MAX_BLOCK_SIZE as BLOCK_SIZE, MAX_JOBS as JOBS};
+ghost use Rattle.server_core.specs.History.{Opening as ServerOpening};
 ghost use Rattle.server_core.specs.FrameEnds.{note_in};
+ghost use Rattle.filters.specs.Written.{Puts};
 ghost use Rattle.filters.specs.Kept.{note_kept};
 ghost use Rattle.filters.specs.ClientSteps.{save_bytes};
-ghost use Rattle.filters.specs.Lives.{HasRun, RunsOver, Runs};
-ghost use Rattle.filters.specs.Steps.{AnswersBy, AnswersRecord, StepsBy, parts_of};
+ghost use Rattle.filters.specs.Lives.{Breaks, RunsOver, Runs};
+ghost use Rattle.filters.specs.Steps.{AnswersBy, AnswersRecord, StopsBy, parts_of};
 ghost use Rattle.filters.specs.ServerOrders.{AreAllGiven};
-ghost use Rattle.filters.specs.ServerAt.{no_checks as none_under_way};
+ghost use Rattle.filters.specs.ServerAt.{ServerAt, no_checks as none_under_way};
 ghost use Rattle.filters.specs.ServerChecks.{Feeds, GivesUp};
 ghost use Rattle.filters.specs.ServerLives.{EndsBy, RefusesNote, ServerTakes, TakesCheck, TakesKind, server_filter};
 
@@ -21,8 +23,10 @@ use crate::checking::Checking;
 use crate::kept_notes::KeptNotes;
 use crate::kinds::{Said, Told};
 use crate::names::write_name;
-use crate::reading::{first_note, next_record};
+use crate::output::{Guarded, Output, ended};
+use crate::reading::first_note;
 use crate::record::Record;
+use crate::records_node::{RecordsNode, run_records};
 use crate::writing::{put_end, put_record, refuse};
 use fc_base::{Fault, JobNo, MAX_BLOCK_SIZE, MAX_JOBS, ServerNo};
 use server_core::{Server, WriteEnd};
@@ -45,35 +49,58 @@ pub fn run_server<R: Read, W: Write>(
     writer: &mut W,
 ) -> io::Result<u8>
     requires { me < MAX_SERVERS }
-    ensures { IfSome (reader_remaining R.remaining reader.old) (λ input. IfOk result
-        (Runs (server_filter me) input (W.contents writer.old) (W.contents writer.new))) }
+    ensures ok { IfSome (reader_remaining R.remaining reader.old) (λ input. IfOk result
+        (Runs (server_filter me) input (Appends (W.contents writer.old) (W.contents writer.new)))) }
+    ensures err { IfSome (reader_remaining R.remaining reader.old) (λ input. OnErr result
+        (Breaks (server_filter me) input (W.contents writer.old) (W.contents writer.new))) }
 {
-    match first_note(alloc, reader, writer)? {
+    let mut output = Guarded {
+        writer,
+        error: None,
+    };
+    let status = serve(alloc, me, reader, &mut output);
+    let Guarded { writer, error } = output;
+    // No effect when it runs. The proof reads from this use what the writer holds.
+    let _ = &*writer;
+    ended(error, status)
+}
+
+/// Serves, and answers the exit status.
+fn serve<R: Read, W: Output>(
+    alloc: Global,
+    me: ServerNo,
+    reader: &mut BufReader<R>,
+    writer: &mut W,
+) -> u8
+    requires { me < MAX_SERVERS }
+    ensures { StopsBy (Runs (server_filter me)) (reader_remaining R.remaining reader.old)
+        (W.written writer.old) (W.written writer.new) result }
+{
+    match first_note(alloc, reader, writer) {
         Ok(note) => run_over(alloc, me, note, reader, writer),
         Err(fault) => refuse(writer, fault),
     }
 }
 
 /// Serves over this note.
-fn run_over<R: Read, W: Write>(
+fn run_over<R: Read, W: Output>(
     alloc: Global,
     me: ServerNo,
     note: Vec<u8>,
     reader: &mut BufReader<R>,
     writer: &mut W,
-) -> io::Result<u8>
+) -> u8
     requires { me < MAX_SERVERS }
-    ensures { IfSome (reader_remaining R.remaining reader.old) (λ behind. IfOk result
-        (RunsOver (server_filter me) note.items behind (W.contents writer.old)
-        (W.contents writer.new))) }
+    ensures { StopsBy (RunsOver (server_filter me) note.items) (reader_remaining R.remaining reader.old)
+        (W.written writer.old) (W.written writer.new) result }
 {
     let mut filter = match ServerFilter::open(alloc, me, note) {
         Ok(filter) => filter,
         Err(fault) => return refuse(writer, fault),
     };
-    filter.save(writer)?;
-    put_end(writer, Ok(()))?;
-    filter.run(reader, writer)
+    filter.save(writer);
+    put_end(writer, Ok(()));
+    run_records(alloc, &mut filter, reader, writer)
 }
 
 /// A server, its checks that are under way, by job, and room for the bytes of a block.
@@ -92,6 +119,22 @@ fn room_for_a_block(alloc: Global) -> Result<Vec<u8>, AllocError>
     ensures { IfOk result (λ memory. length memory.items ≡ BLOCK_SIZE) }
 {
     vec![in alloc; 0; MAX_BLOCK_SIZE as usize]
+}
+
+impl RecordsNode for ServerFilter {
+    ghost use Rattle.filters.specs.CheckRuns.{IsHere};
+
+    ghost Opening = { ServerOpening };
+
+    ghost Moment = { ServerAt };
+
+    ghost Makes = { ServerTakes };
+
+    ghost StandsAt = { IsHere };
+
+    fn answer_record<W: Output>(&mut self, came: &Record, writer: &mut W) {
+        self.answer(came, writer)
+    }
 }
 
 impl ServerFilter {
@@ -133,64 +176,18 @@ impl ServerFilter {
         }
     }
 
-    /// Answers records until there is none.
-    fn run<R: Read, W: Write>(
-        &mut self,
-        reader: &mut BufReader<R>,
-        writer: &mut W,
-    ) -> io::Result<u8>
-        ensures { IfSome (reader_remaining R.remaining reader.old) (λ input. IfOk result
-            (HasRun ServerTakes (IsHere self.old) [] input
-            (W.contents writer.old) (W.contents writer.new))) }
-    {
-        for _ in 0..u64::MAX {
-            if let Some(status) = self.step(reader, writer)? {
-                return Ok(status);
-            }
-        }
-        refuse(writer, Fault::TurnsSpent)
-    }
-
-    /// Reads a record and answers it; the exit status where there is none.
-    fn step<R: Read, W: Write>(
-        &mut self,
-        reader: &mut BufReader<R>,
-        writer: &mut W,
-    ) -> io::Result<Option<u8>>
-        ensures { IfOk result
-            (StepsBy ServerTakes (IsHere self.old) (IsHere self.new)
-            (reader_remaining R.remaining reader.old) (reader_remaining R.remaining reader.new)
-            (W.contents writer.old) (W.contents writer.new)) }
-    {
-        match next_record(self.alloc, reader, writer)? {
-            Ok(Some(came)) => {
-                self.answer(&came, writer)?;
-                Ok(None)
-            }
-            Ok(None) => {
-                writer.flush()?;
-                Ok(Some(0))
-            }
-            Err(fault) => {
-                let status = refuse(writer, fault)?;
-                Ok(Some(status))
-            }
-        }
-    }
-
     /// Writes the note that was saved.
-    fn save<W: Write>(&self, writer: &mut W) -> io::Result<()>
-        ensures { OnOk result (Appends (W.contents writer.old) (W.contents writer.new)
-            (save_bytes true (note_in note_kept self.now.server).bytes)) }
+    fn save<W: Output>(&self, writer: &mut W)
+        ensures { Puts (W.written writer.old) (W.written writer.new)
+            (save_bytes true (note_in note_kept self.now.server).bytes) }
     {
         put_record(writer, Said::Save, self.server.notes().as_slice())
     }
 
     /// Answers a record.
-    fn answer<W: Write>(&mut self, came: &Record, writer: &mut W) -> io::Result<()>
-        ensures { OnOk result
-            (AnswersRecord ServerTakes (IsHere self.old) (IsHere self.new) (parts_of came.now)
-            (W.contents writer.old) (W.contents writer.new)) }
+    fn answer<W: Output>(&mut self, came: &Record, writer: &mut W)
+        ensures { AnswersRecord ServerTakes (IsHere self.old) (IsHere self.new) (parts_of came.now)
+            (W.written writer.old) (W.written writer.new) }
     {
         let body = came.body.as_slice();
         match Told::numbered(came.kind) {
@@ -200,11 +197,10 @@ impl ServerFilter {
     }
 
     /// Answers a record of this kind.
-    fn answer_kind<W: Write>(&mut self, kind: Told, body: &[u8], writer: &mut W) -> io::Result<()>
-        ensures { OnOk result
-            (AnswersBy (λ opening at now answer.
+    fn answer_kind<W: Output>(&mut self, kind: Told, body: &[u8], writer: &mut W)
+        ensures { AnswersBy (λ opening at now answer.
             TakesKind opening at (Some kind) body.now now answer)
-            (IsHere self.old) (IsHere self.new) (W.contents writer.old) (W.contents writer.new)) }
+            (IsHere self.old) (IsHere self.new) (W.written writer.old) (W.written writer.new) }
     {
         match kind {
             Told::Frame => {
@@ -226,74 +222,64 @@ impl ServerFilter {
     }
 
     /// Writes an answer and what follows from it, or why there is none.
-    fn write_answer<W: Write>(
-        &mut self,
-        answer: Result<Handed, Fault>,
-        writer: &mut W,
-    ) -> io::Result<()>
-        ensures { OnOk result
-            (WritesHanded answer self.old self.new
-            (W.contents writer.old) (W.contents writer.new)) }
+    fn write_answer<W: Output>(&mut self, answer: Result<Handed, Fault>, writer: &mut W)
+        ensures { WritesHanded answer self.old self.new
+            (W.written writer.old) (W.written writer.new) }
     {
         match answer {
             Ok(handed) => {
-                self.put_handed(&handed, writer)?;
-                self.go_on(writer)?;
-                put_end(writer, Ok(()))
+                self.put_handed(&handed, writer);
+                self.go_on(writer);
+                put_end(writer, Ok(()));
             }
             Err(fault) => put_end(writer, Err(fault)),
         }
     }
 
     /// Answers blocks that a check wants: by those that it wants behind them, or by what its report makes of it.
-    fn answer_blocks<W: Write>(&mut self, body: &[u8], writer: &mut W) -> io::Result<()>
-        ensures { OnOk result
-            (AnswersBy (λ opening at now answer.
+    fn answer_blocks<W: Output>(&mut self, body: &[u8], writer: &mut W)
+        ensures { AnswersBy (λ opening at now answer.
             TakesCheck (Feeds opening at body.now) opening now answer)
-            (IsHere self.old) (IsHere self.new) (W.contents writer.old) (W.contents writer.new)) }
+            (IsHere self.old) (IsHere self.new) (W.written writer.old) (W.written writer.new) }
     {
-        let answer = self.blocks(body, writer)?;
+        let answer = self.blocks(body, writer);
         self.write_end(answer, writer)
     }
 
     /// Answers that a block couldn't be read.
-    fn answer_unread<W: Write>(&mut self, body: &[u8], writer: &mut W) -> io::Result<()>
-        ensures { OnOk result
-            (AnswersBy (λ opening at now answer.
+    fn answer_unread<W: Output>(&mut self, body: &[u8], writer: &mut W)
+        ensures { AnswersBy (λ opening at now answer.
             TakesCheck (GivesUp opening at body.now) opening now answer)
-            (IsHere self.old) (IsHere self.new) (W.contents writer.old) (W.contents writer.new)) }
+            (IsHere self.old) (IsHere self.new) (W.written writer.old) (W.written writer.new) }
     {
-        let answer = self.unread(body, writer)?;
+        let answer = self.unread(body, writer);
         self.write_end(answer, writer)
     }
 
     /// Writes what follows from what was told of a check, and the end.
-    fn write_end<W: Write>(&mut self, answer: Result<(), Fault>, writer: &mut W) -> io::Result<()>
-        ensures { OnOk result
-            (AnswersBy (λ opening at now written. EndsBy answer opening at [] now written)
-            (IsHere self.old) (IsHere self.new) (W.contents writer.old) (W.contents writer.new)) }
+    fn write_end<W: Output>(&mut self, answer: Result<(), Fault>, writer: &mut W)
+        ensures { AnswersBy (λ opening at now written. EndsBy answer opening at [] now written)
+            (IsHere self.old) (IsHere self.new) (W.written writer.old) (W.written writer.new) }
     {
         match answer {
             Ok(()) => {
-                self.go_on(writer)?;
-                put_end(writer, Ok(()))
+                self.go_on(writer);
+                put_end(writer, Ok(()));
             }
             Err(fault) => put_end(writer, Err(fault)),
         }
     }
 
     /// Orders all writes that can be, and wants the blocks of each check that may begin.
-    fn go_on<W: Write>(&mut self, writer: &mut W) -> io::Result<()>
-        ensures { OnOk result
-            (AnswersBy (TurnsTo (λ opening at now. AreAllGiven opening now.list))
-            (IsHere self.old) (IsHere self.new) (W.contents writer.old) (W.contents writer.new)) }
+    fn go_on<W: Output>(&mut self, writer: &mut W)
+        ensures { AnswersBy (TurnsTo (λ opening at now. AreAllGiven opening now.list))
+            (IsHere self.old) (IsHere self.new) (W.written writer.old) (W.written writer.new) }
     {
         for job in 0..MAX_JOBS {
-            self.order_all(JobNo(job), writer)?;
+            self.order_all(JobNo(job), writer);
         }
         for job in 0..MAX_JOBS {
-            self.begin_check(JobNo(job), writer)?;
+            self.begin_check(JobNo(job), writer);
         }
-        Ok(())
     }
 }

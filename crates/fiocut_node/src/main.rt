@@ -2,10 +2,12 @@
 //! starts it makes its saves durable, carries its orders out, and carries its frames to the other nodes.
 #![tactic(auto)]
 
+ghost use Rattle.std.specs.Prelude.{IfOk, IfSome};
 ghost use Rattle.filters.specs.Command.{IsRequest};
 
-use filters::{Request, read_words, run_client, run_mirror, run_server};
+use filters::{Request, read_words, run_client, run_mirror, run_server, want_memory};
 use program_io::{REFUSED, refuse_words};
+use std::alloc::AllocError;
 use std::io;
 use std::io::{BufReader, BufWriter, Write};
 use std::process::ExitCode;
@@ -20,12 +22,22 @@ fn main(rt: HostRuntime) -> ExitCode {
 
 /// Does what the command line asks for, and answers the exit status.
 fn run<R: Env + AllocGlobal + Input + Print>(rt: &R) -> u8 {
-    let words = words_of(rt).unwrap_or(Vec::new(rt.alloc()));
-    let answer = match read_words(rt.alloc(), words.as_slice()) {
-        Some(request) => answer_request(rt, request),
-        None => refuse_words(&mut io::writer(rt)),
+    let answer = match request_of(rt) {
+        Ok(Some(request)) => answer_request(rt, request),
+        Ok(None) => refuse_words(&mut io::writer(rt)),
+        Err(_) => want_memory(&mut io::writer(rt)),
     };
     answer.unwrap_or(REFUSED)
+}
+
+/// What the command line asks for: `None` is a bad command. An error is that memory is wanting.
+fn request_of<R: Env + AllocGlobal>(rt: &R) -> Result<Option<Request>, AllocError>
+    ensures { IfOk result (λ read. IfSome read IsRequest) }
+{
+    match words_of(rt)? {
+        Some(words) => read_words(rt.alloc(), words.as_slice()),
+        None => Ok(None),
+    }
 }
 
 /// Answers standard input. What is written goes out in blocks.
@@ -34,7 +46,7 @@ fn answer_request<R: AllocGlobal + Input + Print>(rt: &R, request: Request) -> i
 {
     match BufWriter::with_capacity(rt.alloc(), CAPACITY, io::writer(rt)) {
         Ok(mut writer) => answer_by(rt, request, &mut writer),
-        Err(_) => Ok(REFUSED),
+        Err(_) => want_memory(&mut io::writer(rt)),
     }
 }
 
@@ -48,7 +60,7 @@ fn answer_by<R: AllocGlobal + Input, W: Write>(
 {
     let alloc = rt.alloc();
     let Ok(mut reader) = BufReader::with_capacity(alloc, CAPACITY, rt.reader()) else {
-        return Ok(REFUSED);
+        return want_memory(writer);
     };
     match request {
         Request::Server(me) => run_server(alloc, me, &mut reader, writer),
@@ -59,9 +71,11 @@ fn answer_by<R: AllocGlobal + Input, W: Write>(
     }
 }
 
-/// The words of this process's command line. `None` where they aren't UTF-8, or there is no memory
-/// for them.
-fn words_of<R: Env + AllocGlobal>(rt: &R) -> Option<Vec<String>> {
-    let words = std::env::args(rt).ok()?;
-    words.collect(rt.alloc()).ok()
+/// The words of this process's command line: `None` where they aren't UTF-8. An error is that memory is wanting.
+fn words_of<R: Env + AllocGlobal>(rt: &R) -> Result<Option<Vec<String>>, AllocError> {
+    match std::env::args(rt) {
+        Ok(words) => Ok(Some(words.collect(rt.alloc())?)),
+        Err(error) if error.kind() == io::ErrorKind::OutOfMemory => Err(AllocError),
+        Err(_) => Ok(None),
+    }
 }

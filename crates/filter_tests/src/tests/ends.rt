@@ -1,6 +1,6 @@
 //! What ends a filter, with status 2 and a last record that says why.
 
-use super::rows::life_of;
+use super::rows::{Life, life_of};
 use super::shared::{Node, lives_by, run, writes};
 use fake_io::{failing, failing_at, in_steps, interrupted, page_with};
 use std::alloc::Global;
@@ -91,11 +91,16 @@ fn interrupted_reads(rt: HostRuntime) -> Result<(), Fail> {
     }
 }
 
-/// Whether a node that has room for so many bytes ends by an error, and writes nothing behind it.
-fn fails_at(alloc: Global, node: Node, input: &[u8], room: usize) -> bool {
+/// Whether a node that has room for so many bytes, a few at a time, ends by an error, has written just the first ones
+/// of its output, and writes nothing behind the write that failed.
+fn fails_at(alloc: Global, node: Node, life: &Life, room: usize) -> bool {
     let mut page = page_with(alloc, room);
-    let status = run(alloc, node, in_steps(input, 100), &mut page);
-    status.is_none() && page.late_writes == 0
+    page.step = 7;
+    let status = run(alloc, node, in_steps(&life.input, 100), &mut page);
+    status.is_none()
+        && page.late_writes == 0
+        && page.text.len() == room
+        && life.output.starts_with(&page.text)
 }
 
 #[test]
@@ -110,7 +115,7 @@ fn failed_writes(rt: HostRuntime) -> Result<(), Fail> {
     for (node, rows) in lives {
         let life = life_of(rt.alloc(), rows)?;
         for room in (0..life.output.len()).step_by(11) {
-            if !fails_at(rt.alloc(), node, &life.input, room) {
+            if !fails_at(rt.alloc(), node, &life, room) {
                 return Err(Fail::new(room));
             }
         }

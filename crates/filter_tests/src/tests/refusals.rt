@@ -123,6 +123,10 @@ static AT_THE_CLIENT: &str = "
     < end 45
     > frame 4643010200000001000000080000000c 8:1 4:1
     < end 45
+    > tick 00
+    < end 5e
+    > tick 78*16385
+    < end 5e
     > tick
     < end 00
 ";

@@ -44,7 +44,7 @@ pub static CHECKS: &str = "
 ";
 
 /// What else comes to a server.
-static LIVES: [(&str, &str); 4] = [
+static LIVES: [(&str, &str); 5] = [
     (
         "a job file in two pieces, the second first and twice",
         "
@@ -131,12 +131,45 @@ static LIVES: [(&str, &str); 4] = [
         < end 5e
         > unread 8:1 4:0 4:1
         < end 15
+        > blocks 8:1 4:0 4:65536 stamp:0:0
+        < end 15
         > unread 8:1 4:0 4:65536
-        < end 5e
+        < end 15
+        > unread 8:1 4:0 4:4294967295
+        < end 15
         > unread 8:1 4:0 4:0 00
         < end 5e
         > unread 8:1 4:0 4:0
         < send 4643010f000000000000000800000029 8:1 8:1 4:0 4:1 1:2 4:0 4:0 4:0 4:0
+        < end 00
+        ",
+    ),
+    (
+        "a later attempt ends the check of the one before, also while it waits for its state",
+        "
+        > note 46434e31 8:1 8:1
+        < save 46434e31 8:2 8:1
+        < end 00
+        > frame frame:Verify
+        < send frame:WantState
+        < end 00
+        > frame frame:Saved
+        < want 8:1 4:0 4:0 4:1 4:512
+        < end 00
+        > frame 4643010b00000008000000000000003f 8:1 8:2 text:read
+        < send 4643010c000000000000000800000014 8:1 8:2 4:0
+        < end 00
+        > blocks 8:1 4:0 4:0 stamp:0:0
+        < end 15
+        > unread 8:1 4:0 4:0
+        < end 15
+        > frame 4643010d000000080000000000000090 8:2 frame:first
+        < want 8:2 4:0 4:0 4:1 4:512
+        < end 00
+        > blocks 8:1 4:0 4:0 stamp:0:0
+        < end 15
+        > blocks 8:2 4:0 4:0 stamp:0:0
+        < send 4643010f000000000000000800000029 8:1 8:2 4:0 4:1 1:0 4:0 4:1 4:0 4:0
         < end 00
         ",
     ),

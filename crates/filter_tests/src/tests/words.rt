@@ -33,7 +33,7 @@ static WITH_A_MIRROR: [(&[&str], u32, Option<u64>); 5] = [
     ),
 ];
 
-static BAD: [&[&str]; 23] = [
+static BAD: [&[&str]; 27] = [
     &[],
     &["fiocut_node"],
     &["fiocut_node", "server"],
@@ -63,17 +63,21 @@ static BAD: [&[&str]; 23] = [
     &["fiocut_node", "client", "--help"],
     &["fiocut_node", "server", "--", "0"],
     &["fiocut_node", "server", "4294967296"],
+    &["fiocut_node", "server", "+7"],
+    &["fiocut_node", "client", "+1"],
+    &["fiocut_node", "client", "+2", "mirror"],
+    &["fiocut_node", "client", "2", "renew", "+3"],
 ];
 
 #[test]
 fn good_commands(rt: HostRuntime) -> Result<(), Fail> {
     for (words, me) in &SERVERS {
-        if read_words(rt.alloc(), words) != Some(Request::Server(ServerNo(*me))) {
+        if read_words(rt.alloc(), words) != Ok(Some(Request::Server(ServerNo(*me)))) {
             return Err(Fail::new(*me));
         }
     }
     for (words, servers) in &CLIENTS {
-        if read_words(rt.alloc(), words) != Some(Request::Client(*servers, Beginning::Alone)) {
+        if read_words(rt.alloc(), words) != Ok(Some(Request::Client(*servers, Beginning::Alone))) {
             return Err(Fail::new(*servers));
         }
     }
@@ -87,12 +91,12 @@ fn commands_with_a_mirror(rt: HostRuntime) -> Result<(), Fail> {
             Some(generation) => Beginning::Renewed(Generation(generation)),
             None => Beginning::Mirrored,
         };
-        if read_words(rt.alloc(), words) != Some(Request::Client(*servers, beginning)) {
+        if read_words(rt.alloc(), words) != Ok(Some(Request::Client(*servers, beginning))) {
             return Err(Fail::new(*servers));
         }
     }
     let words = ["fiocut_node", "mirror"];
-    if read_words(rt.alloc(), &words) != Some(Request::Mirror) {
+    if read_words(rt.alloc(), &words) != Ok(Some(Request::Mirror)) {
         return Err(Fail::new("the mirror"));
     }
     Ok(())
@@ -101,7 +105,7 @@ fn commands_with_a_mirror(rt: HostRuntime) -> Result<(), Fail> {
 #[test]
 fn bad_commands(rt: HostRuntime) -> Result<(), Fail> {
     for (number, words) in BAD.iter().enumerate() {
-        if read_words(rt.alloc(), words).is_some() {
+        if read_words(rt.alloc(), words) != Ok(None) {
             return Err(Fail::new(number));
         }
     }

@@ -44,7 +44,7 @@ impl ClientFilter {
                 None => Err(Fault::BadNotice),
             },
             Told::Verify => self.verify_in(body),
-            Told::Tick => self.tick(),
+            Told::Tick => self.tick_in(body),
             _ => Err(Fault::BadNotice),
         }
     }
@@ -172,6 +172,19 @@ impl ClientFilter {
             number: Some(attempt.0),
             frames,
         })
+    }
+
+    /// Ticks, where nothing is asked with it.
+    fn tick_in(&self, body: &[u8]) -> Result<Answered, Fault>
+        ensures { (opening : Opening) (past : List FrameEntry) →
+            StandsFor note_kept self.now.client opening past →
+            BodyEnds note_kept opening past
+            (input_in told.Tick body.now) self.now.client self.now.client result }
+    {
+        if !body.is_empty() {
+            return Err(Fault::BadNotice);
+        }
+        self.tick()
     }
 
     fn tick(&self) -> Result<Answered, Fault>

@@ -1,8 +1,8 @@
 //! What is written of the client's answers, and of what it shows.
 
-ghost use Rattle.std.specs.Prelude.{◌≡◌, OnOk, Some, slice_get};
+ghost use Rattle.std.specs.Prelude.{◌≡◌, Some, slice_get};
 ghost use Rattle.std.specs.Option.{option_copied};
-ghost use Rattle.std.specs.Io.KnownBytes.{Appends};
+ghost use Rattle.filters.specs.Written.{Puts};
 ghost use Rattle.filters.specs.declared.kinds.Told.TheVariants as told;
 ghost use Rattle.client_core.specs.FrameEnds.{note_in};
 ghost use Rattle.filters.specs.Kept.{note_kept};
@@ -16,73 +16,60 @@ use super::ClientFilter;
 use crate::answered::{Answered, put_result};
 use crate::asking::{look_in, number_alone};
 use crate::kinds::{Said, Told};
+use crate::output::Output;
 use crate::telling::{outcome_number, put_report};
 use crate::writing::{put_end, put_with};
 use client_core::Received;
 use fc_base::Fault;
-use std::io;
-use std::io::Write;
 
 impl ClientFilter {
     /// Asks the client what the body of a record says, and writes the answer.
-    pub(super) fn answer_body<W: Write>(
-        &mut self,
-        kind: Told,
-        body: &[u8],
-        writer: &mut W,
-    ) -> io::Result<()>
-        ensures { OnOk result
-            (AnswersBy (λ opening at now answer.
+    pub(super) fn answer_body<W: Output>(&mut self, kind: Told, body: &[u8], writer: &mut W)
+        ensures { AnswersBy (λ opening at now answer.
             TakesBody opening at (input_in kind body.now) now answer)
             (FilterIsAt self.old) (FilterIsAt self.new)
-            (W.contents writer.old) (W.contents writer.new)) }
+            (W.written writer.old) (W.written writer.new) }
     {
         let answer = self.ask(kind, body);
         self.write_answer(answer, writer)
     }
 
     /// Writes an answer, or why there is none.
-    fn write_answer<W: Write>(
-        &self,
-        answer: Result<Answered, Fault>,
-        writer: &mut W,
-    ) -> io::Result<()>
-        ensures { OnOk result (Appends (W.contents writer.old) (W.contents writer.new)
-            (result_bytes (note_in note_kept self.now.client).bytes answer)) }
+    fn write_answer<W: Output>(&self, answer: Result<Answered, Fault>, writer: &mut W)
+        ensures { Puts (W.written writer.old) (W.written writer.new)
+            (result_bytes (note_in note_kept self.now.client).bytes answer) }
     {
         put_result(writer, self.client.notes().as_slice(), answer)
     }
 
     /// Writes how a request stands at a server.
-    pub(super) fn look<W: Write>(&self, body: &[u8], writer: &mut W) -> io::Result<()>
-        ensures { OnOk result
-            (AnswersBy (λ opening at now answer.
+    pub(super) fn look<W: Output>(&self, body: &[u8], writer: &mut W)
+        ensures { AnswersBy (λ opening at now answer.
             TakesKind opening at (Some told.Look) body.now now answer)
             (FilterIsAt self.now) (FilterIsAt self.now)
-            (W.contents writer.old) (W.contents writer.new)) }
+            (W.written writer.old) (W.written writer.new) }
     {
         match look_in(body) {
             Some(asked) => {
                 let outcome = self.client.outcome(asked.kind, asked.number, asked.server);
-                put_with(writer, Said::Outcome, body, outcome_number(outcome))?;
-                put_end(writer, Ok(()))
+                put_with(writer, Said::Outcome, body, outcome_number(outcome));
+                put_end(writer, Ok(()));
             }
             None => put_end(writer, Err(Fault::BadNotice)),
         }
     }
 
     /// Writes the report of this place among those that came, if there is one.
-    pub(super) fn show<W: Write>(&self, body: &[u8], writer: &mut W) -> io::Result<()>
-        ensures { OnOk result
-            (AnswersBy (λ opening at now answer.
+    pub(super) fn show<W: Output>(&self, body: &[u8], writer: &mut W)
+        ensures { AnswersBy (λ opening at now answer.
             TakesKind opening at (Some told.Show) body.now now answer)
             (FilterIsAt self.now) (FilterIsAt self.now)
-            (W.contents writer.old) (W.contents writer.new)) }
+            (W.written writer.old) (W.written writer.new) }
     {
         match number_alone(body) {
             Some(place) => {
-                put_if_any(writer, report_at(self.client.reports(), place))?;
-                put_end(writer, Ok(()))
+                put_if_any(writer, report_at(self.client.reports(), place));
+                put_end(writer, Ok(()));
             }
             None => put_end(writer, Err(Fault::BadNotice)),
         }
@@ -97,12 +84,12 @@ fn report_at(reports: &[Received], place: u64) -> Option<&Received>
 }
 
 /// Writes a report, if there is one.
-fn put_if_any<W: Write>(writer: &mut W, received: Option<&Received>) -> io::Result<()>
-    ensures { OnOk result (Appends (W.contents writer.old) (W.contents writer.new)
-        (report_if (option_copied received.entry))) }
+fn put_if_any<W: Output>(writer: &mut W, received: Option<&Received>)
+    ensures { Puts (W.written writer.old) (W.written writer.new)
+        (report_if (option_copied received.entry)) }
 {
     match received {
         Some(received) => put_report(writer, received),
-        None => Ok(()),
+        None => {}
     }
 }

@@ -1,7 +1,7 @@
 //! The checks of a server, whose blocks come as they are wanted.
 
-ghost use Rattle.std.specs.Prelude.{◌≡◌, ◌<◌, List, OnOk, IfOk, IfSome, IsTrue, set};
-ghost use Rattle.std.specs.Io.KnownBytes.{Appends};
+ghost use Rattle.std.specs.Prelude.{◌≡◌, ◌<◌, List, IfSome, IsTrue, set};
+ghost use Rattle.filters.specs.Written.{Puts};
 ghost use Rattle.fc_base.specs.declared.limits.TheConstants.{MAX_JOBS as JOBS};
 ghost use Rattle.fc_base.specs.Report.{is_report};
 ghost use Rattle.server_core.specs.declared.input.Input.TheVariants.{CheckDone};
@@ -13,7 +13,7 @@ ghost use Rattle.server_core.specs.FrameEnds.{StandsFor};
 ghost use Rattle.filters.specs.Kept.{note_kept};
 ghost use Rattle.filters.specs.ServerSteps.{HandsOut};
 ghost use Rattle.filters.specs.ServerTurns.{Turns, ready_by, want_bytes};
-ghost use Rattle.filters.specs.ServerChecks.{Feeds, GivesUp};
+ghost use Rattle.filters.specs.ServerChecks.{Feeds, GivesUp, is_open_attempt};
 ghost use Rattle.filters.specs.CheckRuns.{GoesSo, IsHere, IsNewCheck, TakesOut, TellsSo, kept_in, is_same_check};
 ghost use Rattle.filters.specs.Steps.{AnswersBy};
 
@@ -22,30 +22,27 @@ use super::writes::Handed;
 use crate::checking::{Checking, Went};
 use crate::kinds::Said;
 use crate::names::{BLOCK_NAME, BlockName, block_name};
+use crate::output::Output;
 use crate::writing::{put_head, put_u32, put_u64};
 use fc_base::{Attempt, CheckReport, Fault, JobNo, Key, MAX_BLOCKS, MAX_JOBS};
 use server_core::{Input, Progress};
-use std::io;
-use std::io::Write;
 use verify_state::VerifyState;
 
 impl ServerFilter {
     /// Begins the check of a job, where it may be made and isn't under way. Where memory is wanting it begins
     /// behind a later record.
-    pub(super) fn begin_check<W: Write>(&mut self, job: JobNo, writer: &mut W) -> io::Result<()>
+    pub(super) fn begin_check<W: Output>(&mut self, job: JobNo, writer: &mut W)
         requires { job < JOBS }
-        ensures { OnOk result
-            (AnswersBy Turns (IsHere self.old) (IsHere self.new)
-            (W.contents writer.old) (W.contents writer.new)) }
+        ensures { AnswersBy Turns (IsHere self.old) (IsHere self.new)
+            (W.written writer.old) (W.written writer.new) }
     {
         let Some(checking) = self.new_check(job) else {
-            return Ok(());
+            return;
         };
         let boot = checking.boot;
         let attempt = checking.attempt;
         let went = checking.seek();
-        let _answer = self.go(boot, attempt, job, went, writer)?;
-        Ok(())
+        let _answer = self.go(boot, attempt, job, went, writer);
     }
 
     /// The check of a job that may be made and isn't under way.
@@ -101,25 +98,33 @@ impl ServerFilter {
         }
     }
 
+    /// Whether an attempt is that of the open check: a later one ends the checks of those before.
+    fn is_open(&self, attempt: Attempt) -> bool
+        ensures { (opening : Opening) (past : List FrameEntry) →
+            StandsFor note_kept self.now.server opening past →
+            result ≡ is_open_attempt opening past attempt }
+    {
+        self.server.status().attempt == attempt
+    }
+
     /// Wants more blocks of a check, or tells the server its report.
-    fn go<W: Write>(
+    fn go<W: Output>(
         &mut self,
         boot: u64,
         attempt: Attempt,
         job: JobNo,
         went: Went,
         writer: &mut W,
-    ) -> io::Result<Result<(), Fault>>
+    ) -> Result<(), Fault>
         requires { job < JOBS }
-        ensures { IfOk result (λ end.
-            GoesSo self.old boot attempt job went end self.new
-            (W.contents writer.old) (W.contents writer.new)) }
+        ensures { GoesSo self.old boot attempt job went result self.new
+            (W.written writer.old) (W.written writer.new) }
     {
         match went {
             Went::On(checking) => {
-                want(writer, &checking)?;
+                want(writer, &checking);
                 self.put(job, Some(checking));
-                Ok(Ok(()))
+                Ok(())
             }
             Went::Ended(report) => self.tell(boot, attempt, job, report, writer),
         }
@@ -135,26 +140,25 @@ impl ServerFilter {
     }
 
     /// Tells the server the report of a check, which is no longer under way.
-    fn tell<W: Write>(
+    fn tell<W: Output>(
         &mut self,
         boot: u64,
         attempt: Attempt,
         job: JobNo,
         report: CheckReport,
         writer: &mut W,
-    ) -> io::Result<Result<(), Fault>>
+    ) -> Result<(), Fault>
         requires { job < JOBS }
-        ensures { IfOk result (λ end.
-            TellsSo self.old boot attempt job report end self.new
-            (W.contents writer.old) (W.contents writer.new)) }
+        ensures { TellsSo self.old boot attempt job report result self.new
+            (W.written writer.old) (W.written writer.new) }
     {
         self.put(job, None);
         match self.report(boot, attempt, job, report) {
             Ok(handed) => {
-                self.put_handed(&handed, writer)?;
-                Ok(Ok(()))
+                self.put_handed(&handed, writer);
+                Ok(())
             }
-            Err(fault) => Ok(Err(fault)),
+            Err(fault) => Err(fault),
         }
     }
 
@@ -203,25 +207,23 @@ impl ServerFilter {
     }
 
     /// Takes blocks that a check wants: some, from the first one on.
-    pub(super) fn blocks<W: Write>(
-        &mut self,
-        body: &[u8],
-        writer: &mut W,
-    ) -> io::Result<Result<(), Fault>>
-        ensures { IfOk result (λ end.
-            AnswersBy (λ opening at now answer. Feeds opening at body.now end now answer)
+    pub(super) fn blocks<W: Output>(&mut self, body: &[u8], writer: &mut W) -> Result<(), Fault>
+        ensures { AnswersBy (λ opening at now answer. Feeds opening at body.now result now answer)
             (IsHere self.old) (IsHere self.new)
-            (W.contents writer.old) (W.contents writer.new)) }
+            (W.written writer.old) (W.written writer.new) }
     {
         if body.len() < BLOCK_NAME {
-            return Ok(Err(Fault::BadNotice));
+            return Err(Fault::BadNotice);
         }
         let (front, bytes) = body.split_at(BLOCK_NAME);
         let name = block_name(front);
         let attempt = name.attempt;
         let job = name.job;
+        if !self.is_open(attempt) {
+            return Err(Fault::NotInFlight);
+        }
         let Some(checking) = self.take_out(name) else {
-            return Ok(Err(Fault::NotInFlight));
+            return Err(Fault::NotInFlight);
         };
         let boot = checking.boot;
         match checking.some_of(bytes.len()) {
@@ -231,33 +233,31 @@ impl ServerFilter {
             }
             None => {
                 self.put(job, Some(checking));
-                Ok(Err(Fault::BadNotice))
+                Err(Fault::BadNotice)
             }
         }
     }
 
     /// Takes that the first block which a check wants couldn't be read.
-    pub(super) fn unread<W: Write>(
-        &mut self,
-        body: &[u8],
-        writer: &mut W,
-    ) -> io::Result<Result<(), Fault>>
-        ensures { IfOk result (λ end.
-            AnswersBy (λ opening at now answer. GivesUp opening at body.now end now answer)
+    pub(super) fn unread<W: Output>(&mut self, body: &[u8], writer: &mut W) -> Result<(), Fault>
+        ensures { AnswersBy (λ opening at now answer. GivesUp opening at body.now result now answer)
             (IsHere self.old) (IsHere self.new)
-            (W.contents writer.old) (W.contents writer.new)) }
+            (W.written writer.old) (W.written writer.new) }
     {
         if body.len() != BLOCK_NAME {
-            return Ok(Err(Fault::BadNotice));
+            return Err(Fault::BadNotice);
         }
         let name = block_name(body);
-        if name.block >= MAX_BLOCKS {
-            return Ok(Err(Fault::BadNotice));
-        }
         let attempt = name.attempt;
         let job = name.job;
+        if name.block >= MAX_BLOCKS {
+            return Err(Fault::NotInFlight);
+        }
+        if !self.is_open(attempt) {
+            return Err(Fault::NotInFlight);
+        }
         let Some(checking) = self.take_out(name) else {
-            return Ok(Err(Fault::NotInFlight));
+            return Err(Fault::NotInFlight);
         };
         let boot = checking.boot;
         let report = checking.give_up();
@@ -266,15 +266,16 @@ impl ServerFilter {
 }
 
 /// Writes that blocks are wanted.
-fn want<W: Write>(writer: &mut W, checking: &Checking) -> io::Result<()>
-    ensures { OnOk result (Appends (W.contents writer.old) (W.contents writer.new)
+#[tactic(auto, using(crate::proofs::OutputLemmas::puts_both))]
+fn want<W: Output>(writer: &mut W, checking: &Checking)
+    ensures { Puts (W.written writer.old) (W.written writer.new)
         (want_bytes checking.now.attempt checking.now.job checking.now.next checking.now.count
-        checking.now.size)) }
+        checking.now.size) }
 {
-    put_head(writer, Said::Want, 24)?;
-    put_u64(writer, checking.attempt.0)?;
-    put_u32(writer, checking.job.0)?;
-    put_u32(writer, checking.next)?;
-    put_u32(writer, checking.count)?;
+    put_head(writer, Said::Want, 24);
+    put_u64(writer, checking.attempt.0);
+    put_u32(writer, checking.job.0);
+    put_u32(writer, checking.next);
+    put_u32(writer, checking.count);
     put_u32(writer, checking.size)
 }

@@ -1,7 +1,7 @@
 //! The frames that come to a server, and its writes.
 
-ghost use Rattle.std.specs.Prelude.{◌≡◌, List, length, OnOk, IfOk};
-ghost use Rattle.std.specs.Io.KnownBytes.{Appends};
+ghost use Rattle.std.specs.Prelude.{◌≡◌, List, length};
+ghost use Rattle.filters.specs.Written.{Puts};
 ghost use Rattle.fc_base.specs.declared.limits.TheConstants.{MAX_BLOCK_SIZE};
 ghost use Rattle.engine.specs.Answers.{is_write};
 ghost use Rattle.messages.specs.FrameBytes.{frame_at, frame_faults};
@@ -22,13 +22,12 @@ ghost use Rattle.filters.specs.Steps.{AnswersBy};
 use super::ServerFilter;
 use crate::kinds::Said;
 use crate::names::WriteName;
+use crate::output::Output;
 use crate::writing::{put_frames, put_head, put_record, put_save, put_u32, put_u64};
 use engine::{Issue, Ticket};
 use fc_base::{Fault, JobNo, JobRecord, MAX_WRITES};
 use messages::{Act, Frame, decode_frame};
 use server_core::{Input, Outs, WriteEnd, looks_at_all};
-use std::io;
-use std::io::Write;
 use write_order::fill_block;
 
 /// How often a job is asked for a write at the most: it gives no more than it has, and then none.
@@ -113,110 +112,101 @@ impl ServerFilter {
     }
 
     /// Writes what is handed out: first what is saved.
-    pub(super) fn put_handed<W: Write>(&self, handed: &Handed, writer: &mut W) -> io::Result<()>
-        ensures { OnOk result (Appends (W.contents writer.old) (W.contents writer.new)
-            (handed_bytes (note_in note_kept self.now.server).bytes handed.now)) }
+    #[tactic(auto, using(crate::proofs::OutputLemmas::puts_both))]
+    pub(super) fn put_handed<W: Output>(&self, handed: &Handed, writer: &mut W)
+        ensures { Puts (W.written writer.old) (W.written writer.new)
+            (handed_bytes (note_in note_kept self.now.server).bytes handed.now) }
     {
-        put_save(writer, handed.saves, self.server.notes().as_slice())?;
+        put_save(writer, handed.saves, self.server.notes().as_slice());
         put_outs(writer, &handed.outs)
     }
 
     /// Orders the writes of a job until none can be.
-    pub(super) fn order_all<W: Write>(&mut self, job: JobNo, writer: &mut W) -> io::Result<()>
-        ensures { OnOk result
-            (AnswersBy (TurnsTo (λ opening at now. GivesNone opening now.list job))
+    pub(super) fn order_all<W: Output>(&mut self, job: JobNo, writer: &mut W)
+        ensures { AnswersBy (TurnsTo (λ opening at now. GivesNone opening now.list job))
             (IsHere self.old) (IsHere self.new)
-            (W.contents writer.old) (W.contents writer.new)) }
+            (W.written writer.old) (W.written writer.new) }
     {
         for _ in 0..MOST_ASKED {
-            let more = self.order_next(job, writer)?;
+            let more = self.order_next(job, writer);
             if !more {
-                return Ok(());
+                return;
             }
         }
-        Ok(())
     }
 
     /// Orders the next write of a job, and answers whether there was one.
-    fn order_next<W: Write>(&mut self, job: JobNo, writer: &mut W) -> io::Result<bool>
-        ensures { IfOk result (λ more.
-            AnswersBy (TurnsTo (Asked job more))
+    fn order_next<W: Output>(&mut self, job: JobNo, writer: &mut W) -> bool
+        ensures { AnswersBy (TurnsTo (Asked job result))
             (IsHere self.old) (IsHere self.new)
-            (W.contents writer.old) (W.contents writer.new)) }
+            (W.written writer.old) (W.written writer.new) }
     {
         looks_at_all();
         let Some(found) = self.server.run_job(job) else {
-            return Ok(false);
+            return false;
         };
         let rec = found.rec;
         let _in_range = rec.total();
         match self.server.issue(job) {
             Ok(issue) => put_issue(writer, &rec, issue, &mut self.memory),
-            Err(_) => Ok(false),
+            Err(_) => false,
         }
     }
 }
 
 /// Writes the order of a write, if that is what was answered, and answers whether it was.
-fn put_issue<W: Write>(
-    writer: &mut W,
-    rec: &JobRecord,
-    issue: Issue,
-    memory: &mut [u8],
-) -> io::Result<bool>
+fn put_issue<W: Output>(writer: &mut W, rec: &JobRecord, issue: Issue, memory: &mut [u8]) -> bool
     requires { length memory.old ≡ MAX_BLOCK_SIZE }
     ensures room { length memory.new ≡ MAX_BLOCK_SIZE }
-    ensures order { OnOk result (Appends (W.contents writer.old) (W.contents writer.new)
-        (order_if issue rec.now)) }
-    ensures more { IfOk result (λ more. more ≡ is_write issue) }
+    ensures order { Puts (W.written writer.old) (W.written writer.new)
+        (order_if issue rec.now) }
+    ensures more { result ≡ is_write issue }
 {
     match issue {
         Issue::Write(ticket) => {
-            put_order(writer, rec, &ticket, memory)?;
-            Ok(true)
+            put_order(writer, rec, &ticket, memory);
+            true
         }
-        _ => Ok(false),
+        _ => false,
     }
 }
 
 /// Writes the order of a write, by way of room for the bytes of a block.
-fn put_order<W: Write>(
-    writer: &mut W,
-    rec: &JobRecord,
-    ticket: &Ticket,
-    memory: &mut [u8],
-) -> io::Result<()>
+#[tactic(auto, using(crate::proofs::OutputLemmas::puts_both))]
+fn put_order<W: Output>(writer: &mut W, rec: &JobRecord, ticket: &Ticket, memory: &mut [u8])
     requires { length memory.old ≡ MAX_BLOCK_SIZE }
     ensures room { length memory.new ≡ MAX_BLOCK_SIZE }
-    ensures order { OnOk result (Appends (W.contents writer.old) (W.contents writer.new)
-        (order_bytes ticket.now rec.now)) }
+    ensures order { Puts (W.written writer.old) (W.written writer.new)
+        (order_bytes ticket.now rec.now) }
 {
     let bytes = &mut memory[..rec.bs() as usize];
     fill_block(ticket.key, rec, ticket.seq, ticket.block, bytes);
-    put_head(writer, Said::Order, 24 + bytes.len() as u64)?;
-    put_order_name(writer, ticket)?;
-    writer.write_all(bytes)
+    put_head(writer, Said::Order, 24 + bytes.len() as u64);
+    put_order_name(writer, ticket);
+    writer.put(bytes);
 }
 
 /// Writes which write is ordered, and to which block.
-fn put_order_name<W: Write>(writer: &mut W, ticket: &Ticket) -> io::Result<()>
-    ensures { OnOk result (Appends (W.contents writer.old) (W.contents writer.new)
-        (order_name ticket.now.key ticket.now.seq ticket.now.block)) }
+#[tactic(auto, using(crate::proofs::OutputLemmas::puts_both))]
+fn put_order_name<W: Output>(writer: &mut W, ticket: &Ticket)
+    ensures { Puts (W.written writer.old) (W.written writer.new)
+        (order_name ticket.now.key ticket.now.seq ticket.now.block) }
 {
-    put_u64(writer, ticket.key.run.0)?;
-    put_u32(writer, ticket.key.job.0)?;
-    put_u64(writer, ticket.seq.0)?;
+    put_u64(writer, ticket.key.run.0);
+    put_u32(writer, ticket.key.job.0);
+    put_u64(writer, ticket.seq.0);
     put_u32(writer, ticket.block)
 }
 
 /// Writes the frames that are sent, and that the cut is asked for.
-pub(super) fn put_outs<W: Write>(writer: &mut W, outs: &Outs) -> io::Result<()>
-    ensures { OnOk result (Appends (W.contents writer.old) (W.contents writer.new)
-        (outs_bytes outs.now)) }
+#[tactic(auto, using(crate::proofs::OutputLemmas::puts_both))]
+pub(super) fn put_outs<W: Output>(writer: &mut W, outs: &Outs)
+    ensures { Puts (W.written writer.old) (W.written writer.new)
+        (outs_bytes outs.now) }
 {
-    put_frames(writer, &outs.frames)?;
+    put_frames(writer, &outs.frames);
     match outs.act {
         Act::Cut => put_record(writer, Said::Cut, &[]),
-        Act::None => Ok(()),
+        Act::None => {}
     }
 }

@@ -11,4 +11,4 @@ returns-then-eq g c h =
     three_words g.S.AsStr.text c.args.words.now c.index-words-1.result c.index-words-2.result
     c.as_str.result.now c.as_str-then-eq.result.now c.args.command.now c.from.result c.args.number three
     c.index-words-1.is c.index-words-2.is c.as_str.ensures c.as_str-then-eq.ensures
-    ((bytes_eq-Decides c.as_str.result.now c.args.command.now).0 same) (c.is_number.ensures h) c.from.ensures
+    ((bytes_eq-Decides c.as_str.result.now c.args.command.now).0 same) (c.is_unsigned.ensures h) c.from.ensures

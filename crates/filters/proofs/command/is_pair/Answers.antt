@@ -10,4 +10,4 @@ returns-then-eq g c h =
     let same : bytes_eq c.as_str.result.now c.args.wanted.now ≡ true = sym c.eq.ensures ∙ c.if-eq.true in
     two_words g.S.AsStr.text c.args.words.now c.index-words-0.result c.index-words-1.result c.as_str.result.now c.as_str-then-eq.result.now c.args.wanted.now
     c.generation.inside.0 c.args.generation two c.index-words-0.is c.index-words-1.is c.as_str.ensures c.as_str-then-eq.ensures
-    ((bytes_eq-Decides c.as_str.result.now c.args.wanted.now).0 same) (c.is_number.ensures h) c.generation.view_is
+    ((bytes_eq-Decides c.as_str.result.now c.args.wanted.now).0 same) (c.is_unsigned.ensures h) c.generation.view_is

@@ -1,22 +1,14 @@
-use Rattle.std.proofs.Common.{subst}
+use Rattle.std.proofs.Common.{refl, rules}
 use Rattle.std.specs.Io.Buffered.{reader_remaining}
 use Rattle.filters.specs.MirrorLives.{mirror_filter}
-use Rattle.filters.specs.Steps.{ReadsNote}
-use Rattle.filters.proofs.OpenLemmas.{with_note, without_note}
+use Rattle.filters.proofs.OpenLemmas.{all_written, some_written}
 use Rattle.filters.proofs.mirror_filter.run_mirror.Goals as goal
 
-pub returns-in-Ok : goal.returns-in-Ok
-returns-in-Ok g c =
+pub returns : goal.returns
+returns g c =
     let input = reader_remaining g.R.Read.remaining c.args.reader.now in
-    let rest = reader_remaining g.R.Read.remaining c.first_note.new.reader in
-    with_note mirror_filter input rest (g.W.Write.contents c.args.writer.now) (g.W.Write.contents c.first_note.new.writer)
-    (g.W.Write.contents c.run_over.new.writer) c.in-Ok.note.items c.run_over.result (subst (ReadsNote input rest) c.in-Ok.is c.in_ok-note.ensures.read)
-    c.in_ok-note.ensures.written c.run_over.ensures
-
-pub returns-in-Err : goal.returns-in-Err
-returns-in-Err g c =
-    let input = reader_remaining g.R.Read.remaining c.args.reader.now in
-    let rest = reader_remaining g.R.Read.remaining c.first_note.new.reader in
-    without_note mirror_filter input (g.W.Write.contents c.args.writer.now) (g.W.Write.contents c.first_note.new.writer)
-    (g.W.Write.contents c.refuse.new.writer) c.in-Err.fault c.refuse.result (subst (ReadsNote input rest) c.in-Err.is c.in_ok-note.ensures.read)
-    c.in_ok-note.ensures.written c.refuse.ensures.status c.refuse.ensures.written
+    let same = c.serve-status.ensures.0 in
+    record {
+      ok = let so = all_written mirror_filter input _ _ _ c.ended.result refl c.serve-status.ensures.1 c.ended.ensures.ok in search rules;
+      err = let so = some_written mirror_filter input _ _ _ c.ended.result refl c.serve-status.ensures.1 c.ended.ensures.err in search rules;
+    }

@@ -10,7 +10,7 @@ use Rattle.filters.proofs.mirror_filter.run_over.Goals as goal
 pub returns-in-Err : goal.returns-in-Err
 returns-in-Err g c =
     not_over mirror_filter c.args.note.items c.in-Err.fault (reader_remaining g.R.Read.remaining c.args.reader.now)
-    (g.W.Write.contents c.args.writer.now) (g.W.Write.contents c.refuse.new.writer) c.refuse.result
+    (g.W.Output.written c.args.writer.now) (g.W.Output.written c.refuse.new.writer) c.refuse.result
     (refuses c.args.note.items (note_kept c.new.result) (note_kept c.in-Err.field-0-0) c.in-Err.fault c.new.ensures refl c.in-Err.ensures)
     c.refuse.ensures.status c.refuse.ensures.written
 
@@ -19,6 +19,6 @@ returns g c =
     let opens = c.in-Ok.ensures in
     let mirror = c.in-Ok.mirror in
     runs_over mirror_filter c.args.note.items opens.said (IsAt note_kept mirror) (reader_remaining g.R.Read.remaining c.args.reader.now)
-    (g.W.Write.contents c.args.writer.now) (g.W.Write.contents c.put_end.new.writer) (g.W.Write.contents c.run_records.new.writer) c.run_records.result
+    (g.W.Output.written c.args.writer.now) (g.W.Output.written c.put_end.new.writer) (g.W.Output.written c.run_records.new.writer) c.run_records.result
     (subst (λ b. Says b opens.said) c.new.ensures opens.says) (begins_at note_kept c.args.note.items (note_kept c.new.result) mirror c.new.ensures opens)
-    c.in_ok-put_end.ensures c.run_records.ensures
+    c.put_end.ensures c.run_records.ensures

@@ -7,7 +7,7 @@ use Rattle.filters.proofs.records_node.run_records.Goals as goal
 pub loop-init : goal.loop-init
 loop-init g c =
     begun g.N.RecordsNode.Makes (g.N.RecordsNode.StandsAt c.args.node.now) (reader_remaining g.R.Read.remaining c.args.reader.now)
-    (g.W.Write.contents c.args.writer.now)
+    (g.W.Output.written c.args.writer.now)
 
 pub returns-in-Some : goal.returns-in-Some
 returns-in-Some g c =
@@ -17,11 +17,11 @@ returns-in-Some g c =
     let next = g.N.RecordsNode.StandsAt c.step.new.node in
     let input = reader_remaining g.R.Read.remaining c.loop.reader in
     let new_input = reader_remaining g.R.Read.remaining c.step.new.reader in
-    let text = g.W.Write.contents c.loop.writer in
-    let new_text = g.W.Write.contents c.step.new.writer in
-    step_ends makes begins now next (reader_remaining g.R.Read.remaining c.args.reader.now) input new_input (g.W.Write.contents c.args.writer.now) text new_text
+    let text = g.W.Output.written c.loop.writer in
+    let new_text = g.W.Output.written c.step.new.writer in
+    step_ends makes begins now next (reader_remaining g.R.Read.remaining c.args.reader.now) input new_input (g.W.Output.written c.args.writer.now) text new_text
     c.loop.counter c.in-Some.status c.loop.invariant
-    (subst (StepsBy makes now next input new_input text new_text) c.in-Some.is c.in_ok-status.ensures)
+    (subst (StepsBy makes now next input new_input text new_text) c.in-Some.is c.step.ensures)
 
 pub loop-preserved : goal.loop-preserved
 loop-preserved g c =
@@ -31,15 +31,15 @@ loop-preserved g c =
     let next = g.N.RecordsNode.StandsAt c.step.new.node in
     let input = reader_remaining g.R.Read.remaining c.loop.reader in
     let new_input = reader_remaining g.R.Read.remaining c.step.new.reader in
-    let text = g.W.Write.contents c.loop.writer in
-    let new_text = g.W.Write.contents c.step.new.writer in
-    goes_on makes begins now next (reader_remaining g.R.Read.remaining c.args.reader.now) input new_input (g.W.Write.contents c.args.writer.now) text new_text
+    let text = g.W.Output.written c.loop.writer in
+    let new_text = g.W.Output.written c.step.new.writer in
+    goes_on makes begins now next (reader_remaining g.R.Read.remaining c.args.reader.now) input new_input (g.W.Output.written c.args.writer.now) text new_text
     c.loop.counter c.loop.invariant
-    (subst (StepsBy makes now next input new_input text new_text) c.in_default.is c.in_ok-status.ensures)
+    (subst (StepsBy makes now next input new_input text new_text) c.in_default.is c.step.ensures)
 
 pub returns : goal.returns
 returns g c =
     spent g.N.RecordsNode.Makes (g.N.RecordsNode.StandsAt c.args.node.now) (g.N.RecordsNode.StandsAt c.loop.node)
-    (reader_remaining g.R.Read.remaining c.args.reader.now) (reader_remaining g.R.Read.remaining c.loop.reader) (g.W.Write.contents c.args.writer.now)
-    (g.W.Write.contents c.loop.writer) (g.W.Write.contents c.refuse.new.writer)
+    (reader_remaining g.R.Read.remaining c.args.reader.now) (reader_remaining g.R.Read.remaining c.loop.reader) (g.W.Output.written c.args.writer.now)
+    (g.W.Output.written c.loop.writer) (g.W.Output.written c.refuse.new.writer)
     c.loop.counter c.refuse.result (omega (arith, c.loop-test.false, c.loop.auto.counter-end)) c.loop.invariant c.refuse.ensures.status c.refuse.ensures.written

@@ -7,4 +7,4 @@ abbrev pub invariant-loop : goal.invariant-loop
 invariant-loop g l =
     SoFar g.N.RecordsNode.Makes (g.N.RecordsNode.StandsAt l.initial.node) (g.N.RecordsNode.StandsAt l.node)
     (reader_remaining g.R.Read.remaining l.initial.reader) (reader_remaining g.R.Read.remaining l.reader)
-    (g.W.Write.contents l.initial.writer) (g.W.Write.contents l.writer) l.counter
+    (g.W.Output.written l.initial.writer) (g.W.Output.written l.writer) l.counter

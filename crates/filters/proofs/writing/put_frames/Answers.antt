@@ -6,6 +6,6 @@ use Rattle.filters.proofs.writing.put_frames.Goals as goal
 
 pub loop-index-preserved : goal.loop-index-preserved
 loop-index-preserved g c =
-    one_more (g.W.Write.contents c.args.writer.now) (g.W.Write.contents c.loop-index.writer) (g.W.Write.contents c.put_record.new.writer)
+    one_more (g.W.Output.written c.args.writer.now) (g.W.Output.written c.loop-index.writer) (g.W.Output.written c.put_record.new.writer)
     (record_bytes (said_number Send)) _ c.loop-index.index _
-    c.in-Some.ensures c.loop-index.invariant c.in_ok-put_record.ensures
+    c.in-Some.ensures c.loop-index.invariant c.put_record.ensures

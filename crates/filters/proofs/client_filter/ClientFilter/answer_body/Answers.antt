@@ -6,7 +6,6 @@ use Rattle.filters.specs.ClientSteps.{result_bytes}
 use Rattle.filters.specs.ClientRuns.{attempts_added}
 use Rattle.filters.proofs.AttemptLemmas.{taken_attempts}
 use Rattle.filters.proofs.TakeLemmas.{body_taken}
-use Rattle.filters.proofs.WriteLemmas.{on_ok}
 use Rattle.filters.proofs.client_filter.ClientFilter.answer_body.Goals as goal
 
 pub returns : goal.returns
@@ -14,8 +13,8 @@ returns g c =
     let asked = input_in c.args.kind c.args.body.now in
     let old = c.args.self.now.client in
     let new = c.ask-answer.new.self.client in
-    on_ok c.write_answer.result c.write_answer.ensures
-    (λ wrote. record {
+    let wrote = c.write_answer.ensures in
+    record {
       answer = result_bytes (note_in note_kept new).bytes c.ask-answer.result;
       written = wrote;
       takes = λ o at h.
@@ -31,4 +30,4 @@ returns g c =
             },
             t.2,
           );
-    })
+    }

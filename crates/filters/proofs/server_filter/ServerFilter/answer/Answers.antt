@@ -2,13 +2,12 @@ use Rattle.std.proofs.Common.{Some, sym, ◌∙◌, subst}
 use Rattle.filters.specs.Kept.{note_kept}
 use Rattle.filters.specs.ServerLives.{TakesKind}
 use Rattle.filters.proofs.ServerTakeLemmas.{note_says}
-use Rattle.filters.proofs.WriteLemmas.{on_ok}
 use Rattle.filters.proofs.server_filter.ServerFilter.answer.Goals as goal
 
 pub returns-in-Some : goal.returns-in-Some
 returns-in-Some g c =
-    on_ok c.answer_kind.result c.answer_kind.ensures
-    (λ b. record {
+    let b = c.answer_kind.ensures in
+    record {
       answer = b.answer;
       written = b.written;
       takes = λ o at h. let t = b.takes o at h in (
@@ -20,4 +19,4 @@ returns-in-Some g c =
           note_says note_kept c.answer_kind.new.self.server o t.0 t.1.0,
         ),
       );
-    })
+    }

@@ -3,5 +3,5 @@ use Rattle.filters.proofs.server_filter.ServerFilter.begin_check.Goals as goal
 
 pub returns : goal.returns
 returns g c =
-    begins_so c.args.self.now c.go.new.self c.args.job c.in-Some.checking c.seek-went.result c.in_ok-_answer._answer (g.W.Write.contents c.args.writer.now)
-    (g.W.Write.contents c.go.new.writer) c.in-Some.ensures c.seek-went.ensures c.in_ok-_answer.ensures
+    begins_so c.args.self.now c.go-answer.new.self c.args.job c.in-Some.checking c.seek-went.result c.go-answer.result (g.W.Output.written c.args.writer.now)
+    (g.W.Output.written c.go-answer.new.writer) c.in-Some.ensures c.seek-went.ensures c.go-answer.ensures

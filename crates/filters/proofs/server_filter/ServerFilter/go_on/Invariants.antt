@@ -10,9 +10,9 @@ use Rattle.filters.proofs.server_filter.ServerFilter.go_on.Given as goal
 abbrev pub invariant-loop-job : goal.invariant-loop-job
 invariant-loop-job g l =
     AnswersBy (TurnsTo (λ o at now. (j : ℕ) → j < l.job → GivesNone o now.list j))
-    (IsHere l.initial.self) (IsHere l.self) (g.W.Write.contents l.initial.writer) (g.W.Write.contents l.writer)
+    (IsHere l.initial.self) (IsHere l.self) (g.W.Output.written l.initial.writer) (g.W.Output.written l.writer)
 
 -- Some checks were begun.
 abbrev pub invariant-loop-job-2 : goal.invariant-loop-job-2
 invariant-loop-job-2 g l =
-    AnswersBy Turns (IsHere l.initial.self) (IsHere l.self) (g.W.Write.contents l.initial.writer) (g.W.Write.contents l.writer)
+    AnswersBy Turns (IsHere l.initial.self) (IsHere l.self) (g.W.Output.written l.initial.writer) (g.W.Output.written l.writer)

@@ -1,18 +1,18 @@
 use Rattle.std.proofs.Common.{Ok, Err, arith}
-use Rattle.std.proofs.KnownBytes.{Appends-nil}
+use Rattle.filters.proofs.OutputLemmas.{puts_none}
 use Rattle.filters.proofs.TellLemmas.{told_so}
 use Rattle.filters.proofs.server_filter.ServerFilter.tell.Goals as goal
 
-pub returns-in_ok-put_handed-in-Ok : goal.returns-in_ok-put_handed-in-Ok
-returns-in_ok-put_handed-in-Ok g c =
+pub returns-in-Ok : goal.returns-in-Ok
+returns-in-Ok g c =
     let new = c.report.new.self in
-    told_so c.args.self.now c.put.new.self new c.args.boot c.args.attempt c.args.job c.args.report (Ok c.in-Ok.handed) (g.W.Write.contents c.args.writer.now)
-    (g.W.Write.contents c.put_handed.new.writer) c.in_ok-put_handed-in-Ok.ensures c.put.ensures.server c.put.ensures.checks (omega arith) c.in-Ok.ensures.hands
+    told_so c.args.self.now c.put.new.self new c.args.boot c.args.attempt c.args.job c.args.report (Ok c.in-Ok.handed) (g.W.Output.written c.args.writer.now)
+    (g.W.Output.written c.put_handed.new.writer) c.put_handed.ensures c.put.ensures.server c.put.ensures.checks (omega arith) c.in-Ok.ensures.hands
     c.in-Ok.ensures.checks c.in-Ok.ensures.fits
 
 pub returns-in-Err : goal.returns-in-Err
 returns-in-Err g c =
-    let text = g.W.Write.contents c.args.writer.now in
+    let text = g.W.Output.written c.args.writer.now in
     told_so c.args.self.now c.put.new.self c.report.new.self c.args.boot c.args.attempt c.args.job c.args.report (Err c.in-Err.fault) text text
-    (Appends-nil text) c.put.ensures.server c.put.ensures.checks (omega arith) c.in-Err.ensures.hands c.in-Err.ensures.checks
+    (puts_none text) c.put.ensures.server c.put.ensures.checks (omega arith) c.in-Err.ensures.hands c.in-Err.ensures.checks
     c.in-Err.ensures.fits
