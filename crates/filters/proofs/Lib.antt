@@ -27,3 +27,5 @@ pub mod TurnLemmas
 pub mod ServerTakeLemmas
 pub mod ServerBeginLemmas
 pub mod ServerCutLemmas
+pub mod ServerLossLemmas
+pub mod ServerLossLaws

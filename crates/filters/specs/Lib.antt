@@ -26,5 +26,6 @@ pub mod ServerTurns
 pub mod ServerChecks
 pub mod ServerLives
 pub mod ServerCuts
+pub mod ServerLosses
 pub mod CheckRuns
 pub mod ServerRuns

@@ -42,5 +42,5 @@ pub use mirror_filter::run_mirror;
 pub use names::{BLOCK_NAME, BlockName};
 pub use record::MAX_BODY;
 pub use server_filter::run_server;
-pub use server_law::server_cut_law;
+pub use server_law::{server_cut_law, server_loss_law};
 pub use writing::want_memory;
