@@ -45,6 +45,9 @@ MAY_BE = {
     "boot id": ("where the number of a machine's start can't be replaced", fails("unshare", "-m", "mount", "--bind", "/dev/null", "/proc/sys/kernel/random/boot_id")),
     "loop device": ("where there is no loop device", has_no_loop_device),
     "systemd-analyze": ("where systemd isn't installed", lacks("systemd-analyze")),
+    "musl-gcc": ("where Debian's musl-tools isn't installed", lacks("musl-gcc")),
+    "aarch64": ("where gcc-aarch64-linux-gnu or qemu-user-static isn't installed", lacks("aarch64-linux-gnu-gcc", "qemu-aarch64-static")),
+    "proved program": ("where ./build has built none, which the gate has", lambda: False),
     "mkfs.ext4": ("where mkfs.ext4 isn't installed", lacks("mkfs.ext4")),
 }
 

@@ -1,0 +1,38 @@
+"""What each command here answers alike: --help, --version, and a word that it doesn't take."""
+import os
+import sys
+
+TOP = os.path.dirname(os.path.dirname(os.path.realpath(__file__)))
+
+
+def version():
+    """Returns the version of fiocut that the commands here are of."""
+    with open(f"{TOP}/VERSION", encoding="utf-8") as it:
+        return it.read().strip()
+
+
+def name():
+    """Returns what the command is called."""
+    path = os.path.realpath(sys.argv[0])
+    return os.path.relpath(path, TOP) if path.startswith(f"{TOP}/") else os.path.basename(path)
+
+
+def refuse(doc, word, why):
+    """Says which word is wrong, and how the command is called, and ends it with status 2."""
+    print(f"{name()}: {word}: {why}\n\n{doc.strip()}", file=sys.stderr)
+    sys.exit(2)
+
+
+def answer(doc, words, takes=lambda it: True):
+    """Answers --help, by the text that stands above the command, and --version, wherever they stand
+    among the words, and refuses the first word that the command doesn't take. Then it has ended."""
+    for it in words:
+        if it in ("-h", "--help"):
+            print(doc.strip())
+            sys.exit(0)
+        if it == "--version":
+            print(f"{name()} of fiocut {version()}, not proved")
+            sys.exit(0)
+    for it in words:
+        if not takes(it):
+            refuse(doc, it, "there is no such option" if it.startswith("-") else "this word isn't taken")
