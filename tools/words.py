@@ -36,3 +36,14 @@ def answer(doc, words, takes=lambda it: True):
     for it in words:
         if not takes(it):
             refuse(doc, it, "there is no such option" if it.startswith("-") else "this word isn't taken")
+
+
+def jobs_of(doc, words, own):
+    """Returns the number behind --jobs, or the own one, and the words without these two."""
+    if "--jobs" not in words:
+        return own, words
+    at = words.index("--jobs")
+    behind = words[at + 1 : at + 2]
+    if not behind or not behind[0].isdigit() or int(behind[0]) == 0:
+        refuse(doc, " ".join(["--jobs", *behind]), "this wants a number of proofs, from 1 on")
+    return int(behind[0]), words[:at] + words[at + 2 :]
