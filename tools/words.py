@@ -12,9 +12,14 @@ def version():
 
 
 def name():
-    """Returns what the command is called."""
-    path = os.path.realpath(sys.argv[0])
-    return os.path.relpath(path, TOP) if path.startswith(f"{TOP}/") else os.path.basename(path)
+    """Returns what the command is called: by its path below the top, or by its link elsewhere."""
+    path, called = os.path.realpath(sys.argv[0]), os.path.basename(sys.argv[0])
+    return os.path.relpath(path, TOP) if os.path.basename(path) == called else called
+
+
+def said_version():
+    """Returns what --version says: no proof covers what calls this."""
+    return f"{name()} of fiocut {version()}, not proved"
 
 
 def refuse(doc, word, why):
@@ -28,10 +33,10 @@ def answer(doc, words, takes=lambda it: True):
     among the words, and refuses the first word that the command doesn't take. Then it has ended."""
     for it in words:
         if it in ("-h", "--help"):
-            print(doc.strip())
+            print(f"{name()}: {doc.strip()}")
             sys.exit(0)
         if it == "--version":
-            print(f"{name()} of fiocut {version()}, not proved")
+            print(said_version())
             sys.exit(0)
     for it in words:
         if not takes(it):
@@ -47,3 +52,11 @@ def jobs_of(doc, words, own):
     if not behind or not behind[0].isdigit() or int(behind[0]) == 0:
         refuse(doc, " ".join(["--jobs", *behind]), "this wants a number of proofs, from 1 on")
     return int(behind[0]), words[:at] + words[at + 2 :]
+
+
+def refuse_strange(parser, words):
+    """Refuses the first option that a parser of argparse hasn't got, before anything else."""
+    for it in words:
+        option = it.partition("=")[0]
+        if option.startswith("--") and not any(known.startswith(option) for known in parser._option_string_actions):
+            parser.error(f"{it}: there is no such option; --help lists them")

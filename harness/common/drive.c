@@ -2,27 +2,26 @@
 
 #include "bytes.h"
 #include "cpu.h"
+#include "program.h"
 #include "say.h"
 #include "state.h"
 
 #include <endian.h>
 #include <inttypes.h>
 #include <stdio.h>
-#include <stdlib.h>
 #include <string.h>
 
 /* So many notices are told in one write, which a pipe keeps whole. */
 enum { AT_ONCE = 256 };
 
 struct child start_drive(const char *command, uint64_t run, const struct job *job, int pipes) {
-    const char *own = getenv("DRIVE");
     char name[] = "drive", word[8], run_word[24], job_word[24], option[] = "--unit", unit_word[24];
     bool has_unit = job->unit > 0 && !strcmp(command, "map");
     snprintf(word, sizeof word, "%s", command);
     snprintf(run_word, sizeof run_word, "%" PRIu64, run);
     snprintf(job_word, sizeof job_word, "%" PRIu64, job->number);
     snprintf(unit_word, sizeof unit_word, "%" PRIu64, job->unit);
-    struct child child = start_child(own ? own : name, (char *[]){name, word, run_word, job_word, has_unit ? option : NULL, unit_word, NULL}, pipes | CHILD_APART);
+    struct child child = start_child(program_of("DRIVE", name), (char *[]){name, word, run_word, job_word, has_unit ? option : NULL, unit_word, NULL}, pipes | CHILD_APART);
     feed(&child, job->text, job->text_length);
     return child;
 }

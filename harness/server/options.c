@@ -24,11 +24,6 @@ static const char USAGE[] =
     "  --cached          without O_DIRECT and O_DSYNC\n"
     "NODE names the program fiocut_node. Status: 0 the node's input has ended; 2 something failed or was refused\n";
 
-static _Noreturn void tell_usage(bool is_asked) {
-    fputs(USAGE, is_asked ? stdout : stderr);
-    exit(is_asked ? STATUS_SOUND : STATUS_FAILED);
-}
-
 /* Splits a target's word at its last `@`, where numbers stand behind that. */
 static struct place place_in(char *word) {
     struct place place = {word, 0, 0};
@@ -50,7 +45,7 @@ static int read_places(struct options *read, int count, char **words) {
         if (read->place_count == MOST_JOBS) give_up(words[at], "a server has 16 jobs at most");
         read->places[read->place_count++] = place_in(words[at]);
     }
-    if (!read->place_count) tell_usage(false);
+    if (!read->place_count) refuse_word(USAGE, words[0], "a TARGET stands behind ME");
     return at;
 }
 
@@ -62,15 +57,14 @@ struct options read_options(int count, char **words) {
         {"--note", &read.note, 0, 0, SERVE | LINK},
         {"--socket", &read.socket, 0, 0, SERVE | LINK},
         {"--cut", &read.cut, 0, 0, SERVE},
-        {"--flush", 0, &read.flush, 0, SERVE},
+        {"--flush", 0, &read.flush, 0, SERVE | FROM_1},
         {"--orphan", 0, &read.orphan, 0, SERVE},
         {"--yes", 0, 0, &read.opening.yes, SERVE},
         {"--torn", 0, 0, &read.opening.torn, SERVE},
         {"--cached", 0, 0, &read.opening.cached, SERVE},
         {0, 0, 0, 0, 0},
     };
-    if (asks_for_help(count, words)) tell_usage(true);
-    if (count < 2) tell_usage(false);
+    answer_first_word(USAGE, count, words);
     read.links = strcmp(words[1], "link") == 0;
     int first = read.links ? 2 : 1 + read_places(&read, count - 1, words + 1);
     read_words(all, read.links ? LINK : SERVE, count - first, words + first);
