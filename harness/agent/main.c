@@ -20,6 +20,7 @@
 
 static const char USAGE[] =
     "usage: drive-agent TARGET [OPTIONS]    on the machine under test; started by drive-witness --link\n"
+    "       drive-agent --version              which version this is\n"
     "  --flush N    tells writes as done behind a flush: N of them, or fewer where no other is out\n"
     "  --promise P  what the drive has to promise: fua, flush (with --flush) or through; as drive-target has it\n"
     "  --by WORD    writes by ring, which is io_uring, or by threads; without it by a ring where there is one\n"

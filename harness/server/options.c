@@ -12,6 +12,7 @@
 static const char USAGE[] =
     "usage: fleet-server ME TARGET.. --note FILE [OPTIONS]   server ME of a fleet, 0 to 7; job i writes to the i-th target\n"
     "       fleet-server link --note FILE                    ties standard input and output to it: what the client starts\n"
+    "       fleet-server --version                           which version this is\n"
     "  TARGET is a file or block device, or PATH@OFFSET or PATH@OFFSET/STRIDE, in bytes: where the first block begins, and\n"
     "  how far it is from one block's front to the next; several jobs may have one path\n"
     "  --note FILE       keeps the node's note there; not on a drive that is tested\n"

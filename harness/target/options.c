@@ -12,6 +12,7 @@ static const char USAGE[] =
     "       drive-target check JOBFILE TARGET STATE|- [OPTIONS]   checks the target by that state, and tells what each faulty block\n"
     "                                                             holds; `-`: a full pass\n"
     "       drive-target map JOBFILE TARGET STATE|- [OPTIONS]     the same, on a terminal with a picture of the region\n"
+    "       drive-target --version                                which version this is\n"
     "  --job N           job N of the file, from 0\n"
     "write:\n"
     "  --after N         takes the state once N writes are done\n"

@@ -12,6 +12,7 @@ static const char USAGE[] =
     "       drive-witness map JOBFILE STATE --link COMMAND [OPTIONS]      the same, and tells what each faulty block holds\n"
     "       drive-witness cycle JOBFILE FOLDER --link COMMAND --off COMMAND --on COMMAND [OPTIONS]\n"
     "                                                    writes, cuts, checks, again and again, and keeps all in FOLDER\n"
+    "       drive-witness --version    which version this is\n"
     "  --link COMMAND    a shell runs it: the way to drive-agent, as 'ssh dut drive-agent /dev/disk/by-id/X'\n"
     "  --job N           job N of the file, from 0\n"
     "  --offset BYTES    where the first block begins, 0 else; --stride BYTES: from one block's front to the next\n"
