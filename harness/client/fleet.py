@@ -7,7 +7,7 @@ import time
 
 from links import Link
 from mirror import Copies
-from note import KeptNote, Refused, drawn_fleet, first_note, new_generation, numbers_of
+from note import KeptNote, Refused, drawn_fleet, first_note, has_room, new_generation, numbers_of
 from queries import HELLO, QUERY_HELLO, Answers, is_answer, query
 from records import BEGIN, ENDED, ENDS_OF, END_AT, END_OF_ALL, FRAME, GOOD, LOOK, MIRROR, NONE, NOTE, NUMBER, OPEN, OUTCOME, REFUSALS, REPORT, REQUESTS, SAVE, SEND, SHOW, STOP, TICK, TRIGGER, VERIFY
 from records import Report, addressee, read_record, record
@@ -33,6 +33,7 @@ class Fleet:
         self.lock, self.changed = threading.Lock(), threading.Condition()
         self.told, self.answered, self.answers = 0, 0, {}
         self.number, self.outcomes, self.reports, self.end = None, {}, [], None
+        self.has_mirror = bool(mirror)
         self.places, self.verdict = [], None # as an attempt was told last
         self.process, self.links, self.servers, self.mirror = None, [], [], None
         before = self.kept.read()
@@ -55,7 +56,7 @@ class Fleet:
         threading.Thread(target=self.tick, daemon=True).start()
 
     def hello(self, whom):
-        return query(QUERY_HELLO, HELLO.pack(self.kept.fleet, whom, len(self.commands), self.kept.before))
+        return query(QUERY_HELLO, HELLO.pack(self.kept.fleet, whom, len(self.commands), self.kept.before, self.has_mirror))
 
     def name_fleet(self, mirror, wait):
         """Begins the link to the mirror. Where the note doesn't say which fleet this is, the mirror may
@@ -72,13 +73,14 @@ class Fleet:
         self.kept.fleet = self.kept.fleet or drawn_fleet()
 
     def open(self, note, run, mirror):
-        """Returns the note that the node is opened over, and how."""
-        if note is None and mirror:
-            return b"", ["renew", str(new_generation())]
+        """Returns the note that the node is opened over, and how. One of no bytes is that of a client with
+        a mirror whose fleet takes the place of another one, and hasn't begun yet."""
+        if not note and mirror:
+            return b"", ["renew", str(new_generation(self.kept.past))]
         if note is None:
             note = first_note(run)
             self.kept.keep(note)
-        if bool(numbers_of(note)[0]) != bool(mirror):
+        if (not note or numbers_of(note)[0] > 0) != bool(mirror):
             raise Refused(f"{self.kept.path}: this is the note of a client with{'out' if mirror else ''} a mirror")
         return note, ["mirror"] if mirror else []
 
@@ -236,6 +238,10 @@ class Fleet:
             return f"no answer: {self.links[server].refusal}"
         other = self.servers[server].writes_now()
         return f"busy with run {other}" if other not in (0, run) else "no answer"
+
+    def has_room(self):
+        """Whether its note has room for another run: with a mirror, once all that this keeps has come."""
+        return has_room(self.kept.read(), len(self.commands))
 
     def take_reports(self):
         """Returns all reports that came in this life."""

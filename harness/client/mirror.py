@@ -11,6 +11,7 @@ import time
 from note import MIRROR, KeptNote, Refused, open_own
 from queries import COPIES, COPIES_SENT, HEAD, HELLO, QUERY_HELLO, is_answer, query, welcome
 from records import COPY, COPY_OK, ENDED, FRAME, FRAME_HEAD, GRANTED, NOTE, SAVE, SEND, enveloped, read_frame, read_record, record
+from say import say
 
 # So often a mirror looks whether another has taken its place.
 LOOKS = 0.1
@@ -59,6 +60,7 @@ class Mirror:
         take_place(path)
         self.kept = KeptNote(path, MIRROR)
         opening = self.kept.read() or b""
+        self.has_states = bool(opening)
         words = [os.environ.get("NODE", "fiocut_node"), "mirror"]
         try:
             self.process = subprocess.Popen(words, stdin=subprocess.PIPE, stdout=subprocess.PIPE, start_new_session=True)
@@ -85,12 +87,21 @@ class Mirror:
 
     def greet(self, hello):
         """Answers a hello, and returns whether it is welcome: a mirror is of the first fleet that it kept
-        a state of."""
-        fleet, _, servers, _ = HELLO.unpack(hello) if len(hello) == HELLO.size else (0, 0, 0, 0)
+        a state of, or of the one that takes that one's place."""
+        fleet, _, servers, before, _ = HELLO.unpack(hello) if len(hello) == HELLO.size else (0, 0, 0, 0, 0)
+        if before and fleet != self.kept.fleet and (self.kept.fleet == before or (self.has_states and not self.kept.fleet)):
+            self.begin_anew(fleet)
         self.kept.fleet, self.kept.servers = self.kept.fleet or fleet, self.kept.servers or servers
         why = "this mirror keeps the states of another fleet" if fleet not in (0, self.kept.fleet) else ""
         send_frame(welcome(MIRROR, self.kept.fleet, why))
         return not why
+
+    def begin_anew(self, fleet):
+        """Puts the note aside for a fleet that takes the place of its own, and ends this process: the next
+        one, which the client starts, begins over an empty note of the new fleet."""
+        place = self.kept.put_aside(fleet)
+        say(f"{self.kept.path}: a new fleet takes the place of the one of this mirror: its states are in {place}")
+        os._exit(0)
 
     def run(self):
         """Serves until the link ends. The first end answers the note."""

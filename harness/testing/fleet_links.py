@@ -33,8 +33,8 @@ def frame(body, magic=b"FC", kind=1):
     return enveloped(bare(body, magic, kind))
 
 
-def hello(server=0, fleet=FLEET_NUMBER, before=0):
-    return enveloped(query(QUERY_HELLO, HELLO.pack(fleet, server, 1, before)))
+def hello(server=0, fleet=FLEET_NUMBER, before=0, has_mirror=False):
+    return enveloped(query(QUERY_HELLO, HELLO.pack(fleet, server, 1, before, has_mirror)))
 
 
 def door(path):

@@ -57,7 +57,9 @@ def lost_with_a_mirror():
     tell_has("where both notes are lost", fleet("check", "mirror.fio", "--note", "mirror.note", *kept, *servers.links())[2], "no run was begun yet")
     servers.cut()
     servers.restart() # (till then they serve the fleet that is forgotten)
-    status, printed, said = fleet("check", "mirror.fio", "--run", number, "--note", "mirror.note", *kept, *servers.links())
+    status, printed, said = fleet("check", "mirror.fio", "--run", number, "--note", "mirror.note", "--wait", "3", *kept, *servers.links())
+    tell("another fleet with a mirror isn't served by their notes", (status, reports(printed), "is of another fleet" in said), (2, {}, True))
+    status, printed, said = fleet("check", "mirror.fio", "--run", number, "--note", "plain.note", *servers.links())
     tell("its run has no verdict", (status, reports(printed), "" if status == 3 else said), (3, {}, ""))
     servers.cut()
 

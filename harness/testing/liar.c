@@ -16,7 +16,9 @@
  * byte, and LIE_READS_FALL each one while the file LIE_UNTIL is there. LIE_TARGET=NAME is the end of the target's path. LIE_PIECES has standard output take five
  * bytes at a time, with other threads' turn behind them. The kernel's io_uring passes a library by:
  * LIE_RING has one of this library's own in its place (ring_liar.c), and without it there is none, so
- * that the harness writes by threads. LIE_DIES=N kills the process behind the Nth flush by that. */
+ * that the harness writes by threads. LIE_DIES=N kills the process behind the Nth flush by that.
+ * LIE_LEAVES=link kills it once it has given a file a second name, and LIE_LEAVES=rename once it has
+ * put another file in the place of one, behind that. */
 #include "liar.h"
 
 #include <dlfcn.h>
@@ -25,7 +27,9 @@
 #include <limits.h>
 #include <pthread.h>
 #include <sched.h>
+#include <signal.h>
 #include <stdarg.h>
+#include <stdatomic.h>
 #include <stdint.h>
 #include <stdio.h>
 #include <stdlib.h>
@@ -157,6 +161,31 @@ int fsync(int fd) {
     path_of(fd, path);
     if (noted && getenv("LIE_SYNCS")) fprintf(noted, "synced %s\n", path);
     return real(fd);
+}
+
+/* Ends the process, where it is to leave here. */
+static void leave_at(const char *step) {
+    const char *leaves = getenv("LIE_LEAVES");
+    if (leaves && !strcmp(leaves, step)) kill(getpid(), SIGKILL);
+}
+
+static atomic_bool has_linked;
+
+int link(const char *from, const char *to) {
+    static int (*real)(const char *, const char *);
+    if (!real) *(void **)&real = dlsym(RTLD_NEXT, "link");
+    int answer = real(from, to);
+    has_linked = true;
+    leave_at("link");
+    return answer;
+}
+
+int rename(const char *from, const char *to) {
+    static int (*real)(const char *, const char *);
+    if (!real) *(void **)&real = dlsym(RTLD_NEXT, "rename");
+    int answer = real(from, to);
+    if (has_linked) leave_at("rename");
+    return answer;
 }
 
 ssize_t write(int fd, const void *bytes, size_t length) {
