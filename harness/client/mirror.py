@@ -153,11 +153,14 @@ class Copies:
         return generation in self.granted and len(self.came) >= self.sent.get(generation, len(self.came) + 1)
 
     def await_all(self, generation, seconds, grace):
-        """Waits until all have come, so long at most, and where some must be lost no longer than a
-        grace behind the grant. Returns whether they have."""
+        """Waits for the grant, so long at most, and then until all have come, or nothing more has within a
+        grace: then some must be lost. Returns whether they have come."""
         with self.changed:
             self.changed.wait_for(lambda: generation in self.granted, seconds)
-            self.changed.wait_for(lambda: self.are_whole(generation), grace)
+            had = -1
+            while not self.are_whole(generation) and len(self.came) > had:
+                had = len(self.came)
+                self.changed.wait_for(lambda: self.are_whole(generation) or len(self.came) > had, grace)
             return self.are_whole(generation)
 
     def await_kept(self, keys, seconds):
