@@ -4,7 +4,8 @@
  * its first half alone; misdirected, to the block behind it; flipped, its last bit; late, behind
  * LIE_HELD further writes; failed, and not made; fallen, failed once the file LIE_UNTIL is there,
  * with LIE_FALLS_SLOWLY after seven seconds;
- * doubtful, failed but made; short, half of it written and told; slow, it takes a while; stalled,
+ * doubtful, failed but made; short, half of it written and told; slow, it takes a while, and with
+ * LIE_ENDS a line `came` tells its end; stalled,
  * it never comes back; cut, nor does it, and its first half is made, or of an atomic write all or
  * nothing, by turns (atomic_liar.c). LIE=cached:N is a drive with a volatile cache of
  * N blocks: each write is told at once, whatever O_DSYNC says, and another one, by chance, makes
@@ -215,6 +216,13 @@ static void cut_within(int fd, const void *bytes, size_t length, off_t at, bool 
     if (!is_atomic || count % 2) real_write(fd, bytes, is_atomic ? length : length / 2, at);
 }
 
+static ssize_t write_slowly(int fd, const void *bytes, size_t length, off_t at) {
+    usleep(SLOW);
+    ssize_t told = real_write(fd, bytes, length, at);
+    if (getenv("LIE_ENDS")) note("came", bytes, length, at);
+    return told;
+}
+
 ssize_t write_or_lie(int fd, const void *bytes, size_t length, off_t at, bool is_atomic, bool *never) {
     *never = false;
     if (!is_target(fd)) return real_write(fd, bytes, length, at);
@@ -231,7 +239,7 @@ ssize_t write_or_lie(int fd, const void *bytes, size_t length, off_t at, bool is
     if (cuts) cut_within(fd, bytes, length, at, is_atomic);
     if (*never || (harms && !strcmp(kind, "slow"))) {
         pthread_mutex_unlock(&lock);
-        return *never ? 0 : (usleep(SLOW), real_write(fd, bytes, length, at));
+        return *never ? 0 : write_slowly(fd, bytes, length, at);
     }
     ssize_t told = harms ? lie(fd, bytes, length, at) : real_write(fd, bytes, length, at);
     int why = errno;
