@@ -44,6 +44,10 @@ static void make_lanes(struct server *server) {
     const struct options *options = &server->options;
     size_t target_of[MOST_JOBS];
     open_targets(options, server->targets, target_of);
+    for (size_t at = 0; at < options->place_count; at++) {
+        const struct target *target = &server->targets[at];
+        if (target_of[at] == at && target->unit.most) say("%s: the system tells of atomic writes to it, of %" PRIu64 " to %" PRIu64 " bytes", target->name, target->unit.least, target->unit.most);
+    }
     for (size_t at = 0; at < options->place_count; at++)
         server->lanes[at] = (struct lane){.node = &server->node, .target = &server->targets[target_of[at]], .job = (uint32_t)at, .offset = options->places[at].offset,
                                           .stride = options->places[at].stride, .flush = options->flush, .torn = options->opening.torn};
