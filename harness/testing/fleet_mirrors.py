@@ -9,7 +9,7 @@ import subprocess
 import sys
 import time
 
-from serving import FLEET, TOP, Servers, earliest, fleet, job_file, reports
+from serving import FLEET, TOP, Servers, earliest, fleet, job_file, jobs_left_out, reports
 from trying import BLOCK, HANG, QUIET, as_often, read, tell, tell_has, write
 
 BAD_LINK = f"exec {shlex.quote(f'{TOP}/tools/bad-link')}"
@@ -65,11 +65,12 @@ def lost_with_a_mirror():
 
 
 def killed_mirrors():
-    """Servers, the client and the mirror are killed at random moments, over bad links, and the
-    client's note is lost now and then; where a job is checked by its state, it has no fault."""
+    """Servers, the client and the mirror are killed at random moments, over links that lose, end, garble and
+    hang, and the client's note is lost now and then; where a job is checked by its state, it has no fault,
+    and where all is sound nothing is left out."""
     job_file("losses.fio", jobs=2, blocks=256, writes=100_000)
     servers, chance, whole, losses, kills = Servers("losses", 2), random.Random(11), 0, 0, 0
-    links = servers.links()
+    links = servers.links(f"{BAD_LINK} --lose 0.02 --repeat 0.02 --late 0.02 --cut 0.005 --garble 0.005 --hang 0.0005")
     for turn in range(8 * as_often["killed"]):
         kept = mirror("losses.kept", f"{BAD_LINK} --cut 0.02")
         writing = subprocess.Popen([FLEET, "write", "losses.fio", "--note", "losses.note", "--after", f"{chance.uniform(0.2, 0.6):.2f}", "--wait", "4", *kept, *links], **QUIET)
@@ -86,7 +87,8 @@ def killed_mirrors():
         status, printed, _ = fleet("check", "losses.fio", "--note", "losses.note", "--wait", "10", *kept, *links)
         tell(f"killed mirrors, turn {turn}: no false fault", [at for at, it in reports(printed).items() if it[1]], [])
         whole += status == 0
-    print(f"killed_mirrors: {kills} kills at random and a cut each turn, {losses} notes lost, {whole} checks by all states")
+        tell(f"killed mirrors, turn {turn}: what is sound", [] if status else jobs_left_out(printed, 2, 2), [])
+    print(f"killed_mirrors: {kills} kills at random and {2 * 8 * as_often['killed']} of servers at their cuts, {losses} notes lost, {whole} checks by all states")
     tell("notes were lost, and checks came to their end", (losses >= 2, whole >= 2), (True, True))
     servers.cut()
 
