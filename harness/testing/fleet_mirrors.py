@@ -87,7 +87,7 @@ def killed_mirrors():
         status, printed, _ = fleet("check", "losses.fio", "--note", "losses.note", "--wait", "10", *kept, *links)
         tell(f"killed mirrors, turn {turn}: no false fault", [at for at, it in reports(printed).items() if it[1]], [])
         whole += status == 0
-        tell(f"killed mirrors, turn {turn}: what is sound", [] if status else jobs_left_out(printed, 2, 2), [])
+        tell(f"killed mirrors, turn {turn}: its check ends, and what is sound is whole", (status is not None, jobs_left_out(printed, 2, 2) if status == 0 else []), (True, []))
     print(f"killed_mirrors: {kills} kills at random and {2 * 8 * as_often['killed']} of servers at their cuts, {losses} notes lost, {whole} checks by all states")
     tell("notes were lost, and checks came to their end", (losses >= 2, whole >= 2), (True, True))
     servers.cut()

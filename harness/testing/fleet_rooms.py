@@ -109,7 +109,11 @@ def full_mirrors():
     status, printed, said = fleet("check", "all.fio", "--note", "old.note", "--wait", "3", *links)
     tell("the old fleet's client", (status, reports(printed), "this mirror keeps the states of another fleet" in said), (2, {}, True))
     status, printed, said = fleet("check", "all.fio", "--note", "old.note", "--wait", "3", *mirror("old.kept"), *servers.links())
-    tell("nor at its server", (status, reports(printed), "the note of server 0 is of another fleet" in said), (2, {}, True))
+    tell("nor to its server", (status, reports(printed), "the note of server 0 is of another fleet" in said), (2, {}, True))
+    fill("all.note")
+    status, printed, _ = fleet("cycle", "all.fio", "series", "--note", "all.note", "--every", "0.2", "--cycles", "2", "--pause", "0", "--off", "true", "--on", "true", *links)
+    tell("a series over a note that is full again", (status, printed.count("0 faults, status 0")), (0, 2))
+    tell("all are put aside once more", [os.path.exists(f"{it}.full-{at}") for it in NOTES for at in (2, 3)], [True, False] * 3)
     servers.cut()
     tell("generations above those past, whatever the clock says", new_generation(1 << 31), (1 << 31) + 1)
 
