@@ -11,6 +11,7 @@ from note import KeptNote, Refused, drawn_fleet, first_note, has_room, new_gener
 from queries import HELLO, QUERY_HELLO, Answers, is_answer, query
 from records import BEGIN, ENDED, ENDS_OF, END_AT, END_OF_ALL, FRAME, GOOD, LOOK, MIRROR, NONE, NOTE, NUMBER, OPEN, OUTCOME, REFUSALS, REPORT, REQUESTS, SAVE, SEND, SHOW, STOP, TICK, TRIGGER, VERIFY
 from records import Report, addressee, read_record, record
+from states import states_in
 from verdicts import Place, Verdict
 
 # So often what isn't answered is asked for again.
@@ -89,13 +90,18 @@ class Fleet:
             self.tell(FRAME, frame)
         self.copies.hear(frame)
 
-    def has_copies(self, seconds, grace=2):
-        """Waits until all that the mirror keeps has come, so long at most. A life of the client in
-        which some of it was lost has to end: none asks twice."""
+    def has_copies(self, seconds, had=frozenset(), grace=2):
+        """Waits until all that the mirror keeps has come, so long at most, but for what the note has by an
+        earlier life. A life of the client in which some of it was lost has to end: none asks twice."""
+        self.copies.had = had
         if self.mirror and not self.copies.await_all(numbers_of(self.kept.read())[0], seconds, grace):
             return False
         self.ask(TICK) # (once that is answered, all that came is in the note)
         return True
+
+    def copies_had(self):
+        """The copies that have come by the end of this life, or before it, and are in the note."""
+        return (self.copies.came | self.copies.had) & {*states_in(self.kept.read() or b"")}
 
     def hear(self, server, frame):
         """Hands the node a frame. What a server's harness says is none of its business."""

@@ -8,12 +8,13 @@ from say import say
 
 def begin_life(of, run=0):
     """Starts the client; with a mirror, once all that this keeps has come to it."""
-    until = time.monotonic() + of.wait
+    until, had = time.monotonic() + of.wait, set()
     while True:
         fleet = Fleet(of.note, of.server, run, of.mirror, of.wait)
-        if fleet.has_copies(max(0, until - time.monotonic())):
+        if fleet.has_copies(max(0, until - time.monotonic()), had):
             return fleet
         fleet.close()
+        had = fleet.copies_had()
         if time.monotonic() > until:
             raise Refused(fleet.mirror.refusal or "the mirror doesn't answer, or a later client has begun, or copies are lost again and again")
         say("copies of the mirror were lost: the client begins anew")

@@ -134,6 +134,7 @@ class Copies:
     def __init__(self):
         self.changed = threading.Condition()
         self.granted, self.sent, self.came, self.kept = set(), {}, set(), set()
+        self.had = set() # the copies that came in earlier lives and are in the client's note
 
     def hear(self, frame):
         kind, body = frame[3], frame[FRAME_HEAD:]
@@ -143,14 +144,14 @@ class Copies:
                     generation, self.sent[generation] = COPIES_SENT.unpack(body)
             elif kind == GRANTED and len(body) == 8:
                 self.granted.add(struct.unpack(">Q", body)[0])
-            elif kind == COPY:
-                self.came.add(body)
+            elif kind == COPY and len(body) >= 20:
+                self.came.add(struct.unpack(">QII", body[4:20]))
             elif kind == COPY_OK and len(body) >= 16:
                 self.kept.add(struct.unpack(">QII", body[:16]))
             self.changed.notify_all()
 
     def are_whole(self, generation):
-        return generation in self.granted and len(self.came) >= self.sent.get(generation, len(self.came) + 1)
+        return generation in self.granted and len(self.came | self.had) >= self.sent.get(generation, 1 << 30)
 
     def await_all(self, generation, seconds, grace):
         """Waits for the grant, so long at most, and then until all have come, or nothing more has within a

@@ -19,6 +19,7 @@ sys.path.insert(0, f"{TOP}/harness/client")
 import links
 import note
 import stories
+from fleet import Fleet
 from mirror import Copies
 from queries import COPIES, COPIES_SENT, query
 from records import COPY, COPY_OK, GOOD, GRANTED, Report, enveloped
@@ -61,10 +62,19 @@ def slow_copies():
             copies.hear(query(COPIES, COPIES_SENT.pack(3, 6)))
             for at in range(count):
                 time.sleep(0.3)
-                copies.hear(bare(bytes([at]), kind=COPY))
+                copies.hear(bare(bytes(4) + struct.pack(">QII", 1, 0, at), kind=COPY))
 
         threading.Thread(target=bring, daemon=True).start()
         tell(f"copies that come slowly, {what}", (copies.await_all(3, 30, 1), time.monotonic() - begun < 10), (due, True))
+
+
+def lost_copies():
+    """Of the copies that came in a life those alone count in the next one that are in its note."""
+    states = {(9, 0, 0): None, (9, 0, 1): None}
+    data = b"".join(struct.pack(">I", 136) + b"FCV2" + struct.pack(">QII", *it) + bytes(116) for it in states)
+    life = SimpleNamespace(copies=Copies(), kept=SimpleNamespace(read=lambda: b"FCC2" + bytes(28) + data))
+    life.copies.came, life.copies.had = {(9, 0, 1), (9, 1, 1)}, {(9, 0, 0)}
+    tell("a copy that isn't in the note", Fleet.copies_had(life), {*states})
 
 
 def drawn_numbers():
