@@ -22,6 +22,7 @@ static const char USAGE[] =
     "  --orphan SECONDS  ends a run whose client is gone for so long, by starting anew: 60; 0: it goes on\n"
     "  --yes             writes over what the targets hold; what is mounted or in use it never writes\n"
     "  --torn            takes blocks that are larger than what a device writes whole\n"
+    "  --atomic          writes each block by an atomic write, RWF_ATOMIC, where the system tells of such writes of its size\n"
     "  --cached          without O_DIRECT and O_DSYNC\n"
     "NODE names the program fiocut_node. Status: 0 the node's input has ended; 2 something failed or was refused\n";
 
@@ -62,6 +63,7 @@ struct options read_options(int count, char **words) {
         {"--orphan", 0, &read.orphan, 0, SERVE},
         {"--yes", 0, 0, &read.opening.yes, SERVE},
         {"--torn", 0, 0, &read.opening.torn, SERVE},
+        {"--atomic", 0, 0, &read.opening.atomic, SERVE},
         {"--cached", 0, 0, &read.opening.cached, SERVE},
         {0, 0, 0, 0, 0},
     };
@@ -70,6 +72,7 @@ struct options read_options(int count, char **words) {
     int first = read.links ? 2 : 1 + read_places(&read, count - 1, words + 1);
     read_words(all, read.links ? LINK : SERVE, count - first, words + first);
     read.opening.flushed = read.flush > 0;
+    if (read.opening.atomic && read.opening.cached) give_up("--atomic", "with --cached writes go to memory, and no write there is atomic");
     if (!read.note && !(read.links && read.socket)) give_up("--note", "this has to be said");
     if (!read.socket) path_beside(socket, read.note, ".socket"), read.socket = socket;
     return read;
