@@ -2,8 +2,11 @@
 """Reads crates/*/specs/*.antt: the comment above each definition, and which definitions each one
 names. tools/make-definitions uses it. Run by itself, it reads a few planted files, in which a
 definition is handed on, and prints `1 passed, 0 failed` where it finds what they are made of."""
-import re, tempfile
+import re, sys, tempfile
 from collections import namedtuple
+
+sys.dont_write_bytecode = True
+from words import answer
 
 USE = re.compile(r"(pub )?use Rattle\.(\w+)\.specs\.(\w+)(?:\.\{(.*)\}| as (\w+))?$")
 WORD = re.compile(r"[A-Za-z_][\w'-]*(?:\.[A-Za-z_][\w'-]*)*")
@@ -165,6 +168,7 @@ PLANTED = {
 
 
 def main():
+    answer(__doc__, sys.argv[1:], lambda it: False)
     planted = namedtuple("Planted", "name files")
     crates = []
     for name, text in PLANTED.items():

@@ -37,7 +37,6 @@ MAY_BE = {
     "fio": ("where fio isn't installed", lacks("fio")),
     "rows of fio": ("where the fio that is installed is of no version whose rows are in examples/fio-cases", lambda: not lacks("fio")()),
     "make": ("where make isn't installed", lacks("make")),
-    "install": ("where not all that it installs is built, which the gate sees to", lambda: False),
     "socat": ("where socat isn't installed", lacks("socat")),
     "hosts": ("where no network namespaces can be made, or ip, socat or /dev/net/tun lack", has_no_hosts),
     "namespace": ("where no namespace of a user can be made", fails("unshare", "-m", "-r", "true")),
@@ -45,6 +44,14 @@ MAY_BE = {
     "boot id": ("where the number of a machine's start can't be replaced", fails("unshare", "-m", "mount", "--bind", "/dev/null", "/proc/sys/kernel/random/boot_id")),
     "loop device": ("where there is no loop device", has_no_loop_device),
     "systemd-analyze": ("where systemd isn't installed", lacks("systemd-analyze")),
+    "musl-gcc": ("where Debian's musl-tools isn't installed", lacks("musl-gcc")),
+    "aarch64": ("where gcc-aarch64-linux-gnu or qemu-user-static isn't installed", lacks("aarch64-linux-gnu-gcc", "qemu-aarch64-static")),
+    "dpkg-deb": ("where dpkg isn't installed", lacks("dpkg-deb")),
+    "lintian": ("where it isn't installed", lacks("lintian")),
+    "man": ("where man isn't installed", lacks("man")),
+    "zsh": ("where it isn't installed", lacks("zsh")),
+    "harness": ("where harness/build has built none, which the gate has", lambda: False),
+    "proved program": ("where ./build has built none, which the gate has", lambda: False),
     "mkfs.ext4": ("where mkfs.ext4 isn't installed", lacks("mkfs.ext4")),
 }
 

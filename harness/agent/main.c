@@ -20,6 +20,7 @@
 
 static const char USAGE[] =
     "usage: drive-agent TARGET [OPTIONS]    on the machine under test; started by drive-witness --link\n"
+    "       drive-agent --version              which version this is\n"
     "  --flush N    tells writes as done behind a flush: N of them, or fewer where no other is out\n"
     "  --promise P  what the drive has to promise: fua, flush (with --flush) or through; as drive-target has it\n"
     "  --by WORD    writes by ring, which is io_uring, or by threads; without it by a ring where there is one\n"
@@ -43,13 +44,10 @@ struct settings {
 static struct settings read_settings(int count, char **words) {
     struct settings read = {0};
     const struct option all[] = {
-        {"--flush", 0, &read.way.flush, 0, 1}, {"--promise", &read.way.promise, 0, 0, 1}, {"--by", &read.way.by, 0, 0, 1}, {"--queue", 0, &read.queue, 0, 1}, {"--cpu", &read.cpu, 0, 0, 1}, {"--yes", 0, 0, &read.opening.yes, 1}, {"--torn", 0, 0, &read.opening.torn, 1}, {"--atomic", 0, 0, &read.opening.atomic, 1}, {"--cached", 0, 0, &read.opening.cached, 1}, {0, 0, 0, 0, 0},
+        {"--flush", 0, &read.way.flush, 0, 1 | FROM_1}, {"--promise", &read.way.promise, 0, 0, 1}, {"--by", &read.way.by, 0, 0, 1}, {"--queue", 0, &read.queue, 0, 1 | FROM_1}, {"--cpu", &read.cpu, 0, 0, 1}, {"--yes", 0, 0, &read.opening.yes, 1}, {"--torn", 0, 0, &read.opening.torn, 1}, {"--atomic", 0, 0, &read.opening.atomic, 1}, {"--cached", 0, 0, &read.opening.cached, 1}, {0, 0, 0, 0, 0},
     };
-    bool asks = asks_for_help(count, words);
-    if (asks || count < 2) {
-        fputs(USAGE, asks ? stdout : stderr);
-        exit(asks ? STATUS_SOUND : STATUS_FAILED);
-    }
+    answer_first_word(USAGE, count, words);
+    if (!strncmp(words[1], "--", 2)) refuse_word(USAGE, words[1], "TARGET stands first");
     read_words(all, 1, count - 2, words + 2);
     read.opening.name = words[1];
     read.by = settle_way(&read.way, &read.opening, read.words);

@@ -54,9 +54,9 @@ def read_book(of):
         if hasattr(of, name) and getattr(of, name) is None:
             setattr(of, name, book.get(key))
     for name, option in (("server", "--server"), ("note", "--note")):
-        if not getattr(of, name):
+        if not getattr(of, name) and (name, of.command) != ("server", "states"):
             raise Refused(f"{option} has to be said, or an address book that has it")
-    if len(of.server) > MOST_SERVERS:
+    if len(of.server or ()) > MOST_SERVERS:
         raise Refused(f"--server: a fleet has {MOST_SERVERS} servers at most, and here are {len(of.server)}")
     if of.command == "cycle" and not (of.off and of.on):
         raise Refused("--off and --on have to be said, or an address book that has them")

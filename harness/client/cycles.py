@@ -4,7 +4,8 @@ import os
 import random
 import time
 
-from note import Refused, with_room
+from lives import begin_life, begin_with_room
+from note import Refused
 from power import run_command
 from printing import row_of
 from say import say
@@ -53,10 +54,10 @@ class Series:
             os.fsync(it.fileno())
 
 
-def write_and_cut(of, begin_life, seconds):
+def write_and_cut(of, seconds):
     """Writes until the trigger, and has the power cut and given back; where not all is kept there is no
     cut, unless that is asked for. Returns what was written, and whether there was a cut."""
-    fleet = begin_life(of)
+    fleet = begin_with_room(of)
     of.stops.takes_first = True
     written = write(fleet, of.jobfile, Trigger(of.stops, None, seconds), of.wait)
     fleet.close()
@@ -69,12 +70,11 @@ def write_and_cut(of, begin_life, seconds):
     return written, is_cut
 
 
-def one_cycle(of, begin_life, series):
+def one_cycle(of, series):
     """A cycle, whose line it keeps and returns."""
     begun, number = time.monotonic(), len(series.rows) + 1
     seconds = series.moment(number)
-    with_room(of.note, len(of.server), of.mirror)
-    written, is_cut = write_and_cut(of, begin_life, seconds)
+    written, is_cut = write_and_cut(of, seconds)
     status, checked, faults, reports = FAILED, 0, 0, []
     if is_cut:
         fleet = begin_life(of)
@@ -98,14 +98,14 @@ def told(row, as_json):
     return line + ("" if row["cut"] else ", no cut")
 
 
-def cycle(of, begin_life):
+def cycle(of):
     """A line for each cycle as it ends, in the folder, too. It stops at the first that isn't sound, and
     behind the one in which a signal has come; what is stopped within one begins that anew."""
     series = Series(of)
     if of.resume:
         run_command(of.on)
     while len(series.rows) < of.cycles and not of.stops.count:
-        row = one_cycle(of, begin_life, series)
+        row = one_cycle(of, series)
         print(told(row, of.json), flush=True)
         if row["status"] != SOUND and not of.keep_going:
             break

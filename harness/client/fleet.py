@@ -7,10 +7,11 @@ import time
 
 from links import Link
 from mirror import Copies
-from note import KeptNote, Refused, drawn_fleet, first_note, new_generation, numbers_of
+from note import KeptNote, Refused, drawn_fleet, first_note, has_room, new_generation, numbers_of
 from queries import HELLO, QUERY_HELLO, Answers, is_answer, query
 from records import BEGIN, ENDED, ENDS_OF, END_AT, END_OF_ALL, FRAME, GOOD, LOOK, MIRROR, NONE, NOTE, NUMBER, OPEN, OUTCOME, REFUSALS, REPORT, REQUESTS, SAVE, SEND, SHOW, STOP, TICK, TRIGGER, VERIFY
 from records import Report, addressee, read_record, record
+from states import states_in
 from verdicts import Place, Verdict
 
 # So often what isn't answered is asked for again.
@@ -33,6 +34,7 @@ class Fleet:
         self.lock, self.changed = threading.Lock(), threading.Condition()
         self.told, self.answered, self.answers = 0, 0, {}
         self.number, self.outcomes, self.reports, self.end = None, {}, [], None
+        self.has_mirror = bool(mirror)
         self.places, self.verdict = [], None # as an attempt was told last
         self.process, self.links, self.servers, self.mirror = None, [], [], None
         before = self.kept.read()
@@ -55,7 +57,7 @@ class Fleet:
         threading.Thread(target=self.tick, daemon=True).start()
 
     def hello(self, whom):
-        return query(QUERY_HELLO, HELLO.pack(self.kept.fleet, whom, len(self.commands), self.kept.before))
+        return query(QUERY_HELLO, HELLO.pack(self.kept.fleet, whom, len(self.commands), self.kept.before, self.has_mirror))
 
     def name_fleet(self, mirror, wait):
         """Begins the link to the mirror. Where the note doesn't say which fleet this is, the mirror may
@@ -72,13 +74,14 @@ class Fleet:
         self.kept.fleet = self.kept.fleet or drawn_fleet()
 
     def open(self, note, run, mirror):
-        """Returns the note that the node is opened over, and how."""
-        if note is None and mirror:
-            return b"", ["renew", str(new_generation())]
+        """Returns the note that the node is opened over, and how. One of no bytes is that of a client with
+        a mirror whose fleet takes the place of another one, and hasn't begun yet."""
+        if not note and mirror:
+            return b"", ["renew", str(new_generation(self.kept.past))]
         if note is None:
             note = first_note(run)
             self.kept.keep(note)
-        if bool(numbers_of(note)[0]) != bool(mirror):
+        if (not note or numbers_of(note)[0] > 0) != bool(mirror):
             raise Refused(f"{self.kept.path}: this is the note of a client with{'out' if mirror else ''} a mirror")
         return note, ["mirror"] if mirror else []
 
@@ -87,13 +90,18 @@ class Fleet:
             self.tell(FRAME, frame)
         self.copies.hear(frame)
 
-    def has_copies(self, seconds, grace=2):
-        """Waits until all that the mirror keeps has come, so long at most. A life of the client in
-        which some of it was lost has to end: none asks twice."""
+    def has_copies(self, seconds, had=frozenset(), grace=2):
+        """Waits until all that the mirror keeps has come, so long at most, but for what the note has by an
+        earlier life. A life of the client in which some of it was lost has to end: none asks twice."""
+        self.copies.had = had
         if self.mirror and not self.copies.await_all(numbers_of(self.kept.read())[0], seconds, grace):
             return False
         self.ask(TICK) # (once that is answered, all that came is in the note)
         return True
+
+    def copies_had(self):
+        """The copies that have come by the end of this life, or before it, and are in the note."""
+        return (self.copies.came | self.copies.had) & {*states_in(self.kept.read() or b"")}
 
     def hear(self, server, frame):
         """Hands the node a frame. What a server's harness says is none of its business."""
@@ -236,6 +244,10 @@ class Fleet:
             return f"no answer: {self.links[server].refusal}"
         other = self.servers[server].writes_now()
         return f"busy with run {other}" if other not in (0, run) else "no answer"
+
+    def has_room(self):
+        """Whether its note has room for another run: with a mirror, once all that this keeps has come."""
+        return has_room(self.kept.read(), len(self.commands))
 
     def take_reports(self):
         """Returns all reports that came in this life."""

@@ -11,6 +11,7 @@ import time
 from note import MIRROR, KeptNote, Refused, open_own
 from queries import COPIES, COPIES_SENT, HEAD, HELLO, QUERY_HELLO, is_answer, query, welcome
 from records import COPY, COPY_OK, ENDED, FRAME, FRAME_HEAD, GRANTED, NOTE, SAVE, SEND, enveloped, read_frame, read_record, record
+from say import say
 
 # So often a mirror looks whether another has taken its place.
 LOOKS = 0.1
@@ -59,6 +60,7 @@ class Mirror:
         take_place(path)
         self.kept = KeptNote(path, MIRROR)
         opening = self.kept.read() or b""
+        self.has_states = bool(opening)
         words = [os.environ.get("NODE", "fiocut_node"), "mirror"]
         try:
             self.process = subprocess.Popen(words, stdin=subprocess.PIPE, stdout=subprocess.PIPE, start_new_session=True)
@@ -85,12 +87,21 @@ class Mirror:
 
     def greet(self, hello):
         """Answers a hello, and returns whether it is welcome: a mirror is of the first fleet that it kept
-        a state of."""
-        fleet, _, servers, _ = HELLO.unpack(hello) if len(hello) == HELLO.size else (0, 0, 0, 0)
+        a state of, or of the one that takes that one's place."""
+        fleet, _, servers, before, _ = HELLO.unpack(hello) if len(hello) == HELLO.size else (0, 0, 0, 0, 0)
+        if before and fleet != self.kept.fleet and (self.kept.fleet == before or (self.has_states and not self.kept.fleet)):
+            self.begin_anew(fleet)
         self.kept.fleet, self.kept.servers = self.kept.fleet or fleet, self.kept.servers or servers
         why = "this mirror keeps the states of another fleet" if fleet not in (0, self.kept.fleet) else ""
         send_frame(welcome(MIRROR, self.kept.fleet, why))
         return not why
+
+    def begin_anew(self, fleet):
+        """Puts the note aside for a fleet that takes the place of its own, and ends this process: the next
+        one, which the client starts, begins over an empty note of the new fleet."""
+        place = self.kept.put_aside(fleet)
+        say(f"{self.kept.path}: a new fleet takes the place of the one of this mirror: its states are in {place}")
+        os._exit(0)
 
     def run(self):
         """Serves until the link ends. The first end answers the note."""
@@ -123,6 +134,7 @@ class Copies:
     def __init__(self):
         self.changed = threading.Condition()
         self.granted, self.sent, self.came, self.kept = set(), {}, set(), set()
+        self.had = set() # the copies that came in earlier lives and are in the client's note
 
     def hear(self, frame):
         kind, body = frame[3], frame[FRAME_HEAD:]
@@ -132,21 +144,24 @@ class Copies:
                     generation, self.sent[generation] = COPIES_SENT.unpack(body)
             elif kind == GRANTED and len(body) == 8:
                 self.granted.add(struct.unpack(">Q", body)[0])
-            elif kind == COPY:
-                self.came.add(body)
+            elif kind == COPY and len(body) >= 20:
+                self.came.add(struct.unpack(">QII", body[4:20]))
             elif kind == COPY_OK and len(body) >= 16:
                 self.kept.add(struct.unpack(">QII", body[:16]))
             self.changed.notify_all()
 
     def are_whole(self, generation):
-        return generation in self.granted and len(self.came) >= self.sent.get(generation, len(self.came) + 1)
+        return generation in self.granted and len(self.came | self.had) >= self.sent.get(generation, 1 << 30)
 
     def await_all(self, generation, seconds, grace):
-        """Waits until all have come, so long at most, and where some must be lost no longer than a
-        grace behind the grant. Returns whether they have."""
+        """Waits for the grant, so long at most, and then until all have come, or nothing more has within a
+        grace: then some must be lost. Returns whether they have come."""
         with self.changed:
             self.changed.wait_for(lambda: generation in self.granted, seconds)
-            self.changed.wait_for(lambda: self.are_whole(generation), grace)
+            had = -1
+            while not self.are_whole(generation) and len(self.came) > had:
+                had = len(self.came)
+                self.changed.wait_for(lambda: self.are_whole(generation) or len(self.came) > had, grace)
             return self.are_whole(generation)
 
     def await_kept(self, keys, seconds):

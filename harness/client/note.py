@@ -10,12 +10,11 @@ import zlib
 from say import say
 from states import states_in
 
-# A file of the first kind says no fleet.
 CLIENT, MIRROR = 8, 9
-MAGIC, FIRST_MAGIC = b"FCNOTE2\n", b"FCNOTE1\n"
-# Whose it is, how many servers there are, the fleet's number, and that of the one whose place it takes at
-# the servers, and then the sum.
-WHOSE, HEAD, FIRST_HEAD = struct.Struct(">IIQQ"), 36, 16
+# Whose it is, how many servers there are, the fleet's number, that of the one whose place it takes, and
+# the last generation of that one; and then the sum. A file of an earlier kind has the first of these.
+MAGIC, WHOSE = b"FCNOTE3\n", struct.Struct(">IIQQQ")
+FRONTS = {MAGIC: WHOSE.size, b"FCNOTE2\n": 24, b"FCNOTE1\n": 4}
 # So many states a note keeps at most, and so many runs and attempts a generation has numbers for.
 MOST_STATES = 1024
 GENERATION_NUMBERS = 1 << 32
@@ -69,12 +68,13 @@ def first_note(run):
     return b"FCC2" + struct.pack(">QQQI", 0, used, used, 0)
 
 
-def new_generation():
-    """Returns a generation that was never handed in: the time in seconds, once such a second has
-    begun. So whoever was stopped before it could keep its note, and begins anew, takes another."""
+def new_generation(past=0):
+    """Returns a generation that was never handed in, above those that are past: the time in seconds, once
+    such a second has begun. So whoever was stopped before it could keep its note, and begins anew, takes
+    another."""
     now = time.time()
     time.sleep(1 - now % 1)
-    return int(now) + 1
+    return max(int(now), past) + 1
 
 
 class KeptNote:
@@ -82,7 +82,7 @@ class KeptNote:
     whose it is: a number that was drawn for the fleet, 0 for none yet, and how many servers that has."""
 
     def __init__(self, path, whose=CLIENT):
-        self.path, self.whose, self.fleet, self.before, self.servers = path, whose, 0, 0, 0
+        self.path, self.whose, self.servers, self.fleet, self.before, self.past = path, whose, 0, 0, 0, 0
         self.lock = open(open_own(path + ".lock", os.O_WRONLY), "w", encoding="ascii")
         until = time.monotonic() + 2
         while True:
@@ -111,22 +111,31 @@ class KeptNote:
 
     def note_in(self, data):
         """Returns the note in the bytes of a file, and takes from it which fleet it is of."""
-        is_first = data[:8] == FIRST_MAGIC
-        head = FIRST_HEAD if is_first else HEAD
-        if len(data) < head or data[:8] not in (MAGIC, FIRST_MAGIC):
+        length = FRONTS.get(data[:8], len(data))
+        front, total, note = data[8 : 8 + length], data[8 + length : 12 + length], data[12 + length :]
+        if len(total) < 4:
             raise Refused(f"{self.path}: this is no note of a node")
-        front, note = data[8 : head - 4], data[head:]
-        if struct.unpack(">I", data[head - 4 : head])[0] != zlib.crc32(front + note):
+        if struct.unpack(">I", total)[0] != zlib.crc32(front + note):
             raise Refused(f"{self.path}: its bytes aren't those that were kept")
-        whose, servers, fleet, before = (*struct.unpack(">I", front), 0, 0, 0) if is_first else WHOSE.unpack(front)
+        whose, *rest = WHOSE.unpack(front.ljust(WHOSE.size, b"\0"))
         if whose != self.whose:
             raise Refused(f"{self.path}: this is another node's note")
-        self.servers, self.fleet, self.before = servers, fleet, before
+        self.servers, self.fleet, self.before, self.past = rest
         return note
 
     def keep(self, note):
-        front = WHOSE.pack(self.whose, self.servers, self.fleet, self.before)
+        front = WHOSE.pack(self.whose, self.servers, self.fleet, self.before, self.past)
         keep_file(self.path, MAGIC + front + struct.pack(">I", zlib.crc32(front + note)) + note)
+
+    def put_aside(self, fleet, note=b"", past=0):
+        """Keeps the note beside its place, and there the first one of a fleet that takes the place of its
+        own. Who is killed within it has the old note, or the new one. Returns where the old one is."""
+        place = next(it for it in (f"{self.path}.full-{at}" for at in range(1, 1 << 30)) if not os.path.exists(it))
+        os.link(self.path, place)
+        sync_folder(place)
+        self.fleet, self.before, self.past = fleet, self.fleet, past
+        self.keep(note)
+        return place
 
     def close(self):
         self.lock.close()
@@ -148,27 +157,17 @@ def last_run(note):
     return run
 
 
-def with_room(path, servers, mirror, jobs=16):
-    """Where a client's note may have no room for the states of another run, puts it aside, and begins
-    another one above its numbers. A mirror's table fills by the same states, and can't be begun anew with
-    the servers that it knows: then that is refused, before anything is written."""
+def has_room(note, servers, jobs=16):
+    """Whether a client's note has room for the states of another run."""
+    return len(states_in(note)) + servers * jobs <= MOST_STATES
+
+
+def begin_new_fleet(path):
+    """Has a new fleet take the place of the one whose client's note is full. Its client begins behind the
+    runs and attempts of the old one; or with a mirror over no note, in a generation above: the mirror and
+    the servers then put their notes aside, too, as this client comes to them."""
     kept = KeptNote(path)
-    note = kept.read()
-    if note is not None and len(states_in(note)) + servers * jobs > MOST_STATES:
-        if mirror:
-            raise Refused(f"{path}: it keeps {len(states_in(note))} of {MOST_STATES} states, as its mirror does: begin with new notes of the client, the mirror and the servers, and other targets or zeroed ones")
-        put_aside(kept, note)
+    generation, runs, attempts = struct.unpack(">QQQ", kept.read()[4:28])
+    place = kept.put_aside(drawn_fleet(), b"" if generation else first_note(max(runs, attempts)), generation)
     kept.close()
-
-
-def put_aside(kept, note):
-    """Keeps a full note beside its place, and a new one there: without states, behind the runs and attempts
-    of the old one. It is of a new fleet, for which the servers of the old one start anew."""
-    runs, attempts = struct.unpack(">QQ", note[12:28])
-    used = max(runs, attempts, drawn_number())
-    place = next(it for it in (f"{kept.path}.full-{at}" for at in range(1, 1 << 30)) if not os.path.exists(it))
-    os.link(kept.path, place)
-    sync_folder(place)
-    kept.before, kept.fleet = kept.fleet, drawn_fleet()
-    kept.keep(b"FCC2" + struct.pack(">QQQI", 0, used, used, 0))
-    say(f"{kept.path}: it has no room for another run: its states are in {place}")
+    say(f"{path}: it has no room for another run: its states are in {place}, and a new fleet begins" + (", as do the mirror's note and the servers'" if generation else ""))

@@ -17,10 +17,10 @@ COPIES, COPIES_SENT = 6, struct.Struct(">QI")
 # job: its number, its last run, and its writes that are done and failed; and what
 # is asked of one that is to be written: its number, the size of a block, and how many there are.
 ROWS, ROW, WISH = struct.Struct(">IQ"), struct.Struct(">IQQQ"), struct.Struct(">III")
-# Who says hello: the fleet, the server that it is for, how many there are, and the fleet whose place it
-# takes, or 0. Who is here: the number of a server, or of a mirror, and the fleet that it serves, 0 where
+# Who says hello: the fleet, the server that it is for, how many there are, the fleet whose place it
+# takes, or 0, and whether it has a mirror, 1 or 0. Who is here: the number of a server, or of a mirror, and the fleet that it serves, 0 where
 # there is none yet.
-HELLO, WELCOME_HEAD = struct.Struct(">QIIQ"), struct.Struct(">IQ")
+HELLO, WELCOME_HEAD = struct.Struct(">QIIQI"), struct.Struct(">IQ")
 # So long an answer is waited for before it is asked for again, so many bytes are asked for at once,
 # and so long a server that answers nothing is taken to tell nothing.
 AGAIN, AT_ONCE, SILENT = 3, 1 << 19, 5

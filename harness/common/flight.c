@@ -5,7 +5,7 @@
 
 /* Where it stands in a state: whose it is (run 8, server 4, job 4), how many writes are issued, the number
  * below which all are done, and a bit for each of the 256 from that on. */
-enum { WHOSE_AT = 4, WHOSE = 16, JOB_AT = 16, ISSUED_AT = 56, FLOOR_AT = 96, MARKS_AT = 104, MARKS = 256 };
+enum { WHOSE_AT = 4, WHOSE = 16, SERVER_AT = 12, JOB_AT = 16, ISSUED_AT = 56, FLOOR_AT = 96, MARKS_AT = 104, MARKS = 256 };
 
 /* A stamped sector: whose it is, as in a state, write 8, block 8, sector 4, and 476 bytes that count on
  * from the write's number. */
@@ -25,6 +25,10 @@ static uint32_t short_number_at(const uint8_t *bytes) {
 
 uint64_t run_of_state(const uint8_t state[STATE_BYTES]) {
     return number_at(state + WHOSE_AT);
+}
+
+uint32_t server_of_state(const uint8_t state[STATE_BYTES]) {
+    return short_number_at(state + SERVER_AT);
 }
 
 uint32_t job_of_state(const uint8_t state[STATE_BYTES]) {

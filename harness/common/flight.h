@@ -10,8 +10,9 @@
 /* How long a state is, in layout 2; another one has nothing in flight here. */
 enum { STATE_BYTES = 136 };
 
-/* The run and the job that a state is of. */
+/* The run, the server and the job that a state is of. */
 uint64_t run_of_state(const uint8_t state[STATE_BYTES]);
+uint32_t server_of_state(const uint8_t state[STATE_BYTES]);
 uint32_t job_of_state(const uint8_t state[STATE_BYTES]);
 
 /* How many writes it counts as issued, and how many of them as done. */

@@ -2,6 +2,7 @@
 
 #include "bytes.h"
 #include "child.h"
+#include "program.h"
 #include "say.h"
 
 #include <errno.h>
@@ -20,9 +21,9 @@ static const char FIELDS[] = " (sequential|random|norandommap) blocks=([0-9]+) t
 
 /* What `fiocut jobs` says of a text; a refusal is given up on. */
 static char *said_of(const char *file, const char *text, size_t length) {
-    const char *own = getenv("FIOCUT"), *program = own ? own : "fiocut";
     static char said[MAX_SAID];
     char name[] = "fiocut", word[] = "jobs";
+    const char *program = program_of("FIOCUT", name);
     struct child fiocut = start_child(program, (char *[]){name, word, NULL}, CHILD_READS | CHILD_WRITES);
     write_all(fiocut.to, text, length); /* (it may end before it has read all, and says why) */
     end_input(&fiocut);

@@ -8,6 +8,7 @@
 struct job {
     uint64_t number, blocks, total, block_size, depth;
     uint64_t unit; /* what a map of it takes the target to write whole; 0: a block */
+    uint64_t server; /* that of a fleet which wrote it; 0 where none did, too */
     const char *text; /* the job file */
     size_t text_length;
 };

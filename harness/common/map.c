@@ -2,6 +2,7 @@
 
 #include "bytes.h"
 #include "drive.h"
+#include "flight.h"
 #include "kinds.h"
 #include "say.h"
 
@@ -35,7 +36,9 @@ static void *read_all_lines(void *given) {
 
 void open_map(struct map *map, uint64_t run, const struct job *job, const struct region *region, const uint8_t *state, size_t length) {
     *map = (struct map){.region = *region, .total = region->blocks, .next_line = time(NULL) + 2};
-    map->drive = start_drive("map", run, job, CHILD_READS | CHILD_WRITES);
+    struct job its = *job;
+    its.server = is_state(state, length) ? server_of_state(state) : 0;
+    map->drive = start_drive("map", run, &its, CHILD_READS | CHILD_WRITES);
     feed(&map->drive, state, length);
     int error = pthread_create(&map->reader, NULL, read_all_lines, map);
     if (error) give_up("threads", strerror(error));

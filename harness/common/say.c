@@ -13,6 +13,10 @@ void speak_as(const char *name) {
     own_name = name;
 }
 
+const char *spoken_as(void) {
+    return own_name;
+}
+
 void also_tell_end(void (*hear)(const char *line)) {
     hear_end = hear;
 }

@@ -8,6 +8,9 @@ enum { STATUS_SOUND = 0, STATUS_FAULTS = 1, STATUS_FAILED = 2, STATUS_NO_VERDICT
 /* Says how the program is called in all that it says from now on. */
 void speak_as(const char *name);
 
+/* How it is called. */
+const char *spoken_as(void);
+
 /* Has the line with which the program gives up heard here, too, or no more where that is NULL. */
 void also_tell_end(void (*hear)(const char *line));
 

@@ -17,7 +17,7 @@ enum { MAX_STATE = 4196, MAX_JOB_TEXT = 16384, MAX_KEPT = 32768 };
 /* A state, and which run of which job it is of, where that wrote, and to which drive. */
 struct kept {
     uint64_t run, job;
-    struct region region;
+    struct region region;  /* of a stride of 0 where it isn't known where its blocks lie */
     char drive[MAX_DRIVE]; /* as `tell_drive` tells it; nothing where that isn't known */
     char boot[MAX_BOOT];   /* of the machine that wrote, by then; nothing where that isn't known */
     char way[MAX_WAY];     /* what its writes rested on; nothing where that isn't known */
@@ -60,7 +60,8 @@ void read_kept(const char *path, struct kept *kept);
 void count_state(const struct kept *kept, uint64_t *issued, uint64_t *done);
 
 /* The region that a check by this file reads. What the command line says, the job, an offset or a
- * stride (where it isn't 0), has to be what the run had; a bare state's region is what that says. */
+ * stride (where it isn't 0), has to be what the run had, where that is known; a bare state's region is
+ * what that says. */
 struct region region_to_check(const char *path, const struct kept *kept, const struct job *job, uint64_t offset, uint64_t stride);
 
 /* Refuses another drive than the one that the run wrote to, where both are known. */

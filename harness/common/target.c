@@ -121,14 +121,18 @@ static void refuse_torn(const struct target *target, uint64_t block_size, bool t
 }
 
 /* Has blocks written by atomic writes: the most that one may have is then what the target writes
- * whole. Refuses blocks that are none. */
-static void make_atomic(struct target *target, uint64_t block_size) {
+ * whole. */
+static void make_atomic(struct target *target) {
+    target->is_atomic = true, target->whole = target->unit.most;
+}
+
+/* Refuses blocks that are no atomic write. */
+static void refuse_other_sizes(const struct target *target, uint64_t block_size) {
     char why[200];
     const struct atomic_unit *unit = &target->unit;
     if (unit->most) snprintf(why, sizeof why, "--atomic: an atomic write to it has %" PRIu64 " to %" PRIu64 " bytes, a power of two, and a block has %" PRIu64, unit->least, unit->most, block_size);
     else snprintf(why, sizeof why, "--atomic: the system tells of no atomic write to it (0 bytes), and a block has %" PRIu64, block_size);
     if (!is_atomic_size(unit, block_size)) give_up(target->name, why);
-    target->is_atomic = true, target->whole = unit->most;
 }
 
 /* Makes a file as large as the region wants, and has the disk keep that. */
@@ -141,6 +145,8 @@ struct target open_for_later(const struct opening *opening, bool *is_new) {
     struct target target = open_target(opening, true, is_new);
     refuse_unfit(&target, opening, 0);
     if (*is_new) make_room(&target, 0);
+    if (opening->atomic && !target.unit.most) give_up(target.name, "--atomic: the system tells of no atomic write to it");
+    if (opening->atomic) make_atomic(&target);
     return target;
 }
 
@@ -150,7 +156,7 @@ struct target open_to_write(const struct opening *opening, const struct region *
     refuse_unfit(&target, opening, region->block_size);
     if (!is_new && !opening->yes) refuse_other_bytes(&target, region);
     if (is_device(&target) && target.size < end_of(region)) give_up(target.name, "it is shorter than the job's region");
-    if (opening->atomic) make_atomic(&target, region->block_size);
+    if (opening->atomic) refuse_other_sizes(&target, region->block_size), make_atomic(&target);
     refuse_torn(&target, region->block_size, opening->torn);
     if (target.size < end_of(region)) make_room(&target, end_of(region));
     return target;

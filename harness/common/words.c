@@ -3,15 +3,22 @@
 #include "say.h"
 
 #include <errno.h>
+#include <stdio.h>
 #include <stdlib.h>
 #include <string.h>
 
+/* harness/build says which version this is of. */
+#ifndef FIOCUT_VERSION
+#define FIOCUT_VERSION "not known"
+#endif
+
 uint64_t number_of(const char *name, const char *word) {
-    char *end;
+    char *end, why[96];
     errno = 0;
     unsigned long long value = strtoull(word, &end, 10);
-    if (*word < '0' || *word > '9' || *end || errno) give_up(name, "this wants a number, of digits alone");
-    return value;
+    if (*word >= '0' && *word <= '9' && !*end && !errno) return value;
+    snprintf(why, sizeof why, "%.40s: this wants a number, of digits alone", word);
+    give_up(name, why);
 }
 
 /* Where the next text of an option goes. */
@@ -32,6 +39,7 @@ static int read_option(const struct option *option, int command, int left, char 
     if (left < 2) give_up(word[0], "nothing stands behind it");
     if (option->text) *place_of_text(option) = word[1];
     if (option->number) *option->number = number_of(word[0], word[1]);
+    if (option->commands & FROM_1 && *option->number == 0) give_up(word[0], "this wants a number from 1 on");
     return 2;
 }
 
@@ -44,6 +52,19 @@ void read_words(const struct option *options, int command, int count, char **wor
     }
 }
 
-bool asks_for_help(int count, char **words) {
-    return count > 1 && (!strcmp(words[1], "--help") || !strcmp(words[1], "-h"));
+void answer_first_word(const char *usage, int count, char **words) {
+    bool asks = count > 1 && (!strcmp(words[1], "--help") || !strcmp(words[1], "-h"));
+    if (count > 1 && !strcmp(words[1], "--version")) {
+        printf("%s of fiocut %s, not proved\n", spoken_as(), FIOCUT_VERSION);
+        exit(STATUS_SOUND);
+    }
+    if (count > 1 && !asks) return;
+    fputs(usage, asks ? stdout : stderr);
+    exit(asks ? STATUS_SOUND : STATUS_FAILED);
+}
+
+_Noreturn void refuse_word(const char *usage, const char *word, const char *why) {
+    say("%s: %s", word, why);
+    fputs(usage, stderr);
+    exit(STATUS_FAILED);
 }

@@ -9,6 +9,9 @@
  * where there is room for so many and a NULL. */
 enum { MANY = 1 << 16, MOST_TEXTS = 16 };
 
+/* Beside the commands of an option: its number is 1 at least. */
+enum { FROM_1 = 1 << 17 };
+
 /* An option's name, and where what stands behind it goes: a text, a number, or nothing. */
 struct option {
     const char *name;
@@ -25,7 +28,11 @@ uint64_t number_of(const char *name, const char *word);
  * can't be read so, the harness gives up. */
 void read_words(const struct option *options, int command, int count, char **words);
 
-/* Whether the first word asks how the program is called. */
-bool asks_for_help(int count, char **words);
+/* Answers the first word where that asks how the program is called, or for its version, and ends it;
+ * likewise where there is no word, with STATUS_FAILED. */
+void answer_first_word(const char *usage, int count, char **words);
+
+/* Says which word is wrong and how the program is called, and ends it with STATUS_FAILED. */
+_Noreturn void refuse_word(const char *usage, const char *word, const char *why);
 
 #endif

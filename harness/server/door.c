@@ -65,20 +65,48 @@ void send_bytes(struct door *door, const uint8_t *bytes, size_t length) {
     pthread_mutex_unlock(&door->sending);
 }
 
+/* What a hello says. */
+struct hello {
+    uint64_t fleet, server, before;
+    bool has_mirror;
+};
+
+static struct hello hello_in(const uint8_t bytes[HELLO_LENGTH]) {
+    return (struct hello){get_64(bytes), get_32(bytes + 8), get_64(bytes + 16), get_32(bytes + 24) != 0};
+}
+
+/* Starts this server anew where a fleet takes the place of the one that it serves, or whose its note is. */
+static void change_fleets(struct door *door, const struct hello *hello) {
+    static const char why[] = "another fleet takes the place of the one that was served";
+    bool is_served = hello->before && door->fleet == hello->before;
+    bool is_noted = hello->before && (!door->noted || door->noted == hello->before) && (is_served || !door->fleet);
+    if (!hello->has_mirror && is_served) door->start_anew(why, 0);
+    if (hello->has_mirror && is_noted && door->noted != hello->fleet) door->start_anew(why, hello->fleet);
+}
+
 /* Why a hello isn't welcome, or nothing. The first that is says which fleet the server serves. */
-static void judge_hello(struct door *door, const uint8_t hello[HELLO_LENGTH], char why[MOST_WORDS]) {
-    uint64_t fleet = get_64(hello), server = get_32(hello + 8);
+static void judge_hello(struct door *door, const struct hello *hello, char why[MOST_WORDS]) {
     why[0] = 0;
-    if (server != door->me) {
+    if (hello->server != door->me) {
         snprintf(why, MOST_WORDS, "this link leads to server %" PRIu64, door->me);
         return;
     }
     pthread_mutex_lock(&door->lock);
-    if (door->fleet && door->fleet == get_64(hello + 16)) door->start_anew("another fleet takes the place of the one that was served");
-    if (!door->fleet) door->fleet = fleet;
-    if (!fleet) snprintf(why, MOST_WORDS, "the hello names no fleet");
-    else if (door->fleet != fleet) snprintf(why, MOST_WORDS, "server %" PRIu64 " serves another fleet, since it was started: start it anew for this one", door->me);
+    change_fleets(door, hello);
+    bool is_foreign = hello->has_mirror && door->noted && door->noted != hello->fleet;
+    if (!hello->fleet) snprintf(why, MOST_WORDS, "the hello names no fleet");
+    else if (is_foreign) snprintf(why, MOST_WORDS, "the note of server %" PRIu64 " is of another fleet, and one with a mirror wants new notes: start it with another --note", door->me);
+    else if (door->fleet && door->fleet != hello->fleet) snprintf(why, MOST_WORDS, "server %" PRIu64 " serves another fleet, since it was started: start it anew for this one", door->me);
+    if (!*why) door->fleet = hello->fleet;
     pthread_mutex_unlock(&door->lock);
+}
+
+uint64_t fleet_to_note(struct door *door) {
+    pthread_mutex_lock(&door->lock);
+    if (door->fleet) door->noted = door->fleet;
+    uint64_t noted = door->noted;
+    pthread_mutex_unlock(&door->lock);
+    return noted;
 }
 
 /* A link that is welcome takes the place of the one before, which ends. */
@@ -94,7 +122,8 @@ static void take_place(struct visit *visit) {
 static void greet(struct visit *visit, const uint8_t *hello) {
     uint8_t answer[FRAME_HEAD + HERE_LENGTH + MOST_WORDS] = {'F', 'H', 1, ANSWER_WELCOME};
     char *why = (char *)answer + FRAME_HEAD + HERE_LENGTH;
-    judge_hello(visit->door, hello, why);
+    const struct hello said = hello_in(hello);
+    judge_hello(visit->door, &said, why);
     size_t length = HERE_LENGTH + strlen(why);
     put_32(answer + REST_AT, (uint32_t)length), put_32(answer + FRAME_HEAD, (uint32_t)visit->door->me), put_64(answer + FRAME_HEAD + 4, visit->door->fleet);
     if (!*why) take_place(visit);
@@ -156,8 +185,8 @@ static void *stand(void *given) {
     }
 }
 
-struct door shut_door(uint64_t me) {
-    return (struct door){.me = me, .sending = PTHREAD_MUTEX_INITIALIZER, .lock = PTHREAD_MUTEX_INITIALIZER, .listening = -1, .link = -1};
+struct door shut_door(uint64_t me, uint64_t noted) {
+    return (struct door){.me = me, .noted = noted, .sending = PTHREAD_MUTEX_INITIALIZER, .lock = PTHREAD_MUTEX_INITIALIZER, .listening = -1, .link = -1};
 }
 
 void refuse_long_path(const char *path) {

@@ -10,11 +10,14 @@ bool is_fit(const struct lane *lane, uint64_t block_size, char why[MOST_WHY]) {
         return false;
     }
     bool lies = lane->offset % block_size == 0 && (lane->stride == 0 || (lane->stride % block_size == 0 && lane->stride >= block_size));
+    const struct atomic_unit *unit = &lane->target->unit;
     bool tears = may_tear(lane->target, block_size) && !lane->torn;
+    bool is_written = !lane->target->is_atomic || is_atomic_size(unit, block_size);
     if (!lies) snprintf(why, MOST_WHY, "job %" PRIu32 ": blocks of %" PRIu64 " bytes don't lie at its offset and stride", lane->job, block_size);
     else if (tears)
         snprintf(why, MOST_WHY, "job %" PRIu32 ": a cut may tear a block of %" PRIu64 " bytes, as %s writes %" PRIu64 " whole: --torn takes that", lane->job, block_size, lane->target->name, lane->target->whole);
-    return lies && !tears;
+    if (lies && !is_written) snprintf(why, MOST_WHY, "job %" PRIu32 ": an atomic write to %s has %" PRIu64 " to %" PRIu64 " bytes, a power of two, and a block has %" PRIu64, lane->job, lane->target->name, unit->least, unit->most, block_size);
+    return lies && !tears && is_written;
 }
 
 /* Where the blocks of a job lie. */

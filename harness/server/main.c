@@ -44,6 +44,10 @@ static void make_lanes(struct server *server) {
     const struct options *options = &server->options;
     size_t target_of[MOST_JOBS];
     open_targets(options, server->targets, target_of);
+    for (size_t at = 0; at < options->place_count; at++) {
+        const struct target *target = &server->targets[at];
+        if (target_of[at] == at && target->unit.most) say("%s: the system tells of atomic writes to it, of %" PRIu64 " to %" PRIu64 " bytes", target->name, target->unit.least, target->unit.most);
+    }
     for (size_t at = 0; at < options->place_count; at++)
         server->lanes[at] = (struct lane){.node = &server->node, .target = &server->targets[target_of[at]], .job = (uint32_t)at, .offset = options->places[at].offset,
                                           .stride = options->places[at].stride, .flush = options->flush, .torn = options->opening.torn};
@@ -79,12 +83,24 @@ static void *tell_progress(void *given) {
 static struct server *own_server;
 static char **own_words;
 static atomic_bool begins_anew;
+static pthread_mutex_t keeping = PTHREAD_MUTEX_INITIALIZER; /* of the note's file */
+
+/* Keeps what the node says, as the note of the fleet that is served. */
+static void save_note(struct server *server, const struct record *record) {
+    const struct whose whose = {(uint32_t)server->options.me, fleet_to_note(&server->door)};
+    pthread_mutex_lock(&keeping);
+    keep_note(server->options.note, &whose, record->body, record->length);
+    pthread_mutex_unlock(&keeping);
+}
 
 /* Begins anew, as if the machine had been started: the run is over, and what was ordered has landed by
- * then, or never will, as the process that has ordered it is over, too. */
-static void start_anew(const char *why) {
+ * then, or never will, as the process that has ordered it is over, too. For a fleet the note is put aside
+ * first, and from then on this process saves nothing. */
+static void start_anew(const char *why, uint64_t fleet) {
     say("%s: the server starts anew", why);
     begins_anew = true;
+    pthread_mutex_lock(&keeping);
+    if (fleet) put_note_aside(own_server->options.note, &(struct whose){(uint32_t)own_server->options.me, fleet});
     rest_lanes(own_server->lanes, own_server->options.place_count);
     kill(own_server->node.child.pid, SIGKILL);
     wait_for(&own_server->node.child);
@@ -102,7 +118,7 @@ static void *look_for_client(void *given) {
         if (heard > since) since = heard;
         if (now == before) since = milliseconds(); /* (nothing is written) */
         before = now;
-        if (milliseconds() - since > server->options.orphan * 1000) start_anew("no client is there, and a run goes on");
+        if (milliseconds() - since > server->options.orphan * 1000) start_anew("no client is there, and a run goes on", 0);
     }
     return NULL;
 }
@@ -110,8 +126,9 @@ static void *look_for_client(void *given) {
 static void start_all(struct server *server) {
     size_t length;
     pthread_t thread;
-    uint8_t *note = read_note(server->options.note, (uint32_t)server->options.me, &length);
-    server->door = shut_door(server->options.me);
+    struct whose whose = {(uint32_t)server->options.me, 0};
+    uint8_t *note = read_note(server->options.note, &whose, &length);
+    server->door = shut_door(server->options.me, whose.fleet);
     server->queries = (struct queries){&server->door, server->lanes, server->options.place_count, &server->checks};
     server->door.whose = &server->queries, server->door.answer = answer_query, server->door.start_anew = start_anew;
     start_node(&server->node, server->options.me);
@@ -158,7 +175,7 @@ static void send_frame(struct server *server, const struct record *record) {
 static void carry_out_record(struct server *server, const struct record *record) {
     if (record->kind != RECORD_ORDER && record->kind != RECORD_END) flush_lanes(server);
     switch (record->kind) {
-    case RECORD_SAVE: keep_note(server->options.note, (uint32_t)server->options.me, record->body, record->length); break;
+    case RECORD_SAVE: save_note(server, record); break;
     case RECORD_SEND: send_frame(server, record); break;
     case RECORD_ORDER: take_any_order(server, record); break;
     case RECORD_WANT: take_want(&server->checks, record); break;

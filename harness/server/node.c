@@ -1,6 +1,7 @@
 #include "node.h"
 
 #include "bytes.h"
+#include "program.h"
 #include "say.h"
 
 #include <errno.h>
@@ -56,12 +57,11 @@ static void *give(void *given) {
 }
 
 void start_node(struct node *node, uint64_t me) {
-    const char *own = getenv("NODE");
     char name[] = "fiocut_node", word[] = "server", number[24];
     pthread_t thread;
     snprintf(number, sizeof number, "%" PRIu64, me);
     *node = (struct node){.lock = PTHREAD_MUTEX_INITIALIZER, .changed = PTHREAD_COND_INITIALIZER};
-    node->child = start_child(own ? own : name, (char *[]){name, word, number, NULL}, CHILD_READS | CHILD_WRITES);
+    node->child = start_child(program_of("NODE", name), (char *[]){name, word, number, NULL}, CHILD_READS | CHILD_WRITES);
     if (fcntl(node->child.to, F_SETFL, O_NONBLOCK)) give_up_by_errno("pipe");
     int error = pthread_create(&thread, NULL, give, node);
     if (error) give_up("threads", strerror(error));

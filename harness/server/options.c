@@ -12,6 +12,7 @@
 static const char USAGE[] =
     "usage: fleet-server ME TARGET.. --note FILE [OPTIONS]   server ME of a fleet, 0 to 7; job i writes to the i-th target\n"
     "       fleet-server link --note FILE                    ties standard input and output to it: what the client starts\n"
+    "       fleet-server --version                           which version this is\n"
     "  TARGET is a file or block device, or PATH@OFFSET or PATH@OFFSET/STRIDE, in bytes: where the first block begins, and\n"
     "  how far it is from one block's front to the next; several jobs may have one path\n"
     "  --note FILE       keeps the node's note there; not on a drive that is tested\n"
@@ -21,13 +22,9 @@ static const char USAGE[] =
     "  --orphan SECONDS  ends a run whose client is gone for so long, by starting anew: 60; 0: it goes on\n"
     "  --yes             writes over what the targets hold; what is mounted or in use it never writes\n"
     "  --torn            takes blocks that are larger than what a device writes whole\n"
+    "  --atomic          writes each block by an atomic write, RWF_ATOMIC, where the system tells of such writes of its size\n"
     "  --cached          without O_DIRECT and O_DSYNC\n"
     "NODE names the program fiocut_node. Status: 0 the node's input has ended; 2 something failed or was refused\n";
-
-static _Noreturn void tell_usage(bool is_asked) {
-    fputs(USAGE, is_asked ? stdout : stderr);
-    exit(is_asked ? STATUS_SOUND : STATUS_FAILED);
-}
 
 /* Splits a target's word at its last `@`, where numbers stand behind that. */
 static struct place place_in(char *word) {
@@ -50,7 +47,7 @@ static int read_places(struct options *read, int count, char **words) {
         if (read->place_count == MOST_JOBS) give_up(words[at], "a server has 16 jobs at most");
         read->places[read->place_count++] = place_in(words[at]);
     }
-    if (!read->place_count) tell_usage(false);
+    if (!read->place_count) refuse_word(USAGE, words[0], "a TARGET stands behind ME");
     return at;
 }
 
@@ -62,19 +59,20 @@ struct options read_options(int count, char **words) {
         {"--note", &read.note, 0, 0, SERVE | LINK},
         {"--socket", &read.socket, 0, 0, SERVE | LINK},
         {"--cut", &read.cut, 0, 0, SERVE},
-        {"--flush", 0, &read.flush, 0, SERVE},
+        {"--flush", 0, &read.flush, 0, SERVE | FROM_1},
         {"--orphan", 0, &read.orphan, 0, SERVE},
         {"--yes", 0, 0, &read.opening.yes, SERVE},
         {"--torn", 0, 0, &read.opening.torn, SERVE},
+        {"--atomic", 0, 0, &read.opening.atomic, SERVE},
         {"--cached", 0, 0, &read.opening.cached, SERVE},
         {0, 0, 0, 0, 0},
     };
-    if (asks_for_help(count, words)) tell_usage(true);
-    if (count < 2) tell_usage(false);
+    answer_first_word(USAGE, count, words);
     read.links = strcmp(words[1], "link") == 0;
     int first = read.links ? 2 : 1 + read_places(&read, count - 1, words + 1);
     read_words(all, read.links ? LINK : SERVE, count - first, words + first);
     read.opening.flushed = read.flush > 0;
+    if (read.opening.atomic && read.opening.cached) give_up("--atomic", "with --cached writes go to memory, and no write there is atomic");
     if (!read.note && !(read.links && read.socket)) give_up("--note", "this has to be said");
     if (!read.socket) path_beside(socket, read.note, ".socket"), read.socket = socket;
     return read;

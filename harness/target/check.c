@@ -2,6 +2,7 @@
 
 #include "bytes.h"
 #include "dump.h"
+#include "flight.h"
 #include "identity.h"
 #include "map.h"
 #include "reading.h"
@@ -42,6 +43,10 @@ static bool pass_over(void *given, uint64_t block, const char *why) {
     return map_missed(&subject->map);
 }
 
+static bool is_of_server_0(const struct kept *kept) {
+    return !is_state(kept->state, kept->length) || server_of_state(kept->state) == 0;
+}
+
 /* Keeps what the faulty blocks hold, and what they may. */
 static void dump_target(struct subject *subject, const struct options *options, const struct job *job) {
     struct dump dump = open_dump(options->state, &subject->map, options->dump);
@@ -49,7 +54,8 @@ static void dump_target(struct subject *subject, const struct options *options, 
         const struct region part = region_of_dump(&dump, &subject->region);
         const struct sink sink = sink_of_dump(&dump);
         read_region(&subject->target, &part, &sink);
-        keep_wanted(&dump, subject->kept.run, job);
+        if (is_of_server_0(&subject->kept)) keep_wanted(&dump, subject->kept.run, job);
+        else say("what the blocks may hold isn't kept: the state is one of a fleet's, and `drive` makes the writes of its server 0 alone");
     }
     free_dump(&dump);
 }

@@ -12,6 +12,7 @@ static const char USAGE[] =
     "       drive-target check JOBFILE TARGET STATE|- [OPTIONS]   checks the target by that state, and tells what each faulty block\n"
     "                                                             holds; `-`: a full pass\n"
     "       drive-target map JOBFILE TARGET STATE|- [OPTIONS]     the same, on a terminal with a picture of the region\n"
+    "       drive-target --version                                which version this is\n"
     "  --job N           job N of the file, from 0\n"
     "write:\n"
     "  --after N         takes the state once N writes are done\n"
@@ -45,38 +46,37 @@ static enum command command_of(const char *name) {
     return strcmp(name, "map") ? 0 : MAP;
 }
 
-/* The command that the first word names, with three words behind it. Else the program says how it
- * goes, and ends. */
+/* The command that the first word names, with three words behind it. */
 static enum command read_command(int count, char **words) {
-    bool asks = asks_for_help(count, words);
-    enum command command = count > 4 && !asks ? command_of(words[1]) : 0;
-    if (command) return command;
-    fputs(USAGE, asks ? stdout : stderr);
-    exit(asks ? STATUS_SOUND : STATUS_FAILED);
+    answer_first_word(USAGE, count, words);
+    enum command command = command_of(words[1]);
+    if (!command) refuse_word(USAGE, words[1], "there is no such command");
+    if (count < 5) refuse_word(USAGE, words[1], "JOBFILE, TARGET and STATE stand behind it");
+    return command;
 }
 
 struct options read_options(int count, char **words) {
     struct options read = {.command = read_command(count, words)};
     const struct option all[] = {
         {"--job", 0, &read.job, 0, WRITE | CHECK | MAP},
-        {"--after", 0, &read.after, 0, WRITE},
+        {"--after", 0, &read.after, 0, WRITE | FROM_1},
         {"--trigger", &read.trigger, 0, 0, WRITE},
         {"--keep", &read.keep, 0, 0, WRITE},
         {"--cut", &read.cut, 0, 0, WRITE},
-        {"--flush", 0, &read.way.flush, 0, WRITE},
+        {"--flush", 0, &read.way.flush, 0, WRITE | FROM_1},
         {"--promise", &read.way.promise, 0, 0, WRITE},
         {"--by", &read.way.by, 0, 0, WRITE},
-        {"--queue", 0, &read.queue, 0, WRITE},
+        {"--queue", 0, &read.queue, 0, WRITE | FROM_1},
         {"--cpu", &read.cpu, 0, 0, WRITE},
         {"--yes", 0, 0, &read.opening.yes, WRITE},
         {"--torn", 0, 0, &read.opening.torn, WRITE},
         {"--atomic", 0, 0, &read.opening.atomic, WRITE},
-        {"--run", 0, &read.run, 0, CHECK | MAP},
-        {"--unit", 0, &read.unit, 0, CHECK | MAP},
+        {"--run", 0, &read.run, 0, CHECK | MAP | FROM_1},
+        {"--unit", 0, &read.unit, 0, CHECK | MAP | FROM_1},
         {"--dump", 0, &read.dump, 0, CHECK | MAP},
         {"--other-drive", 0, 0, &read.other_drive, CHECK | MAP},
         {"--offset", 0, &read.offset, 0, WRITE | CHECK | MAP},
-        {"--stride", 0, &read.stride, 0, WRITE | CHECK | MAP},
+        {"--stride", 0, &read.stride, 0, WRITE | CHECK | MAP | FROM_1},
         {"--cached", 0, 0, &read.opening.cached, WRITE | CHECK | MAP},
         {0, 0, 0, 0, 0},
     };

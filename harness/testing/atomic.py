@@ -4,6 +4,7 @@ import os
 import subprocess
 
 from guards import loop_device, refused
+from serving import SERVER, Servers, fleet, job_file
 from trying import HANG, LIAR, QUIET, WITNESS, check, comes, job, read, report, run, run_of, state_in, tell, tell_has, write
 from witness import faults_by, kill_agent, link, witness
 
@@ -96,6 +97,28 @@ def atomic_writes():
         for taken in (0, 2048):
             status, _, said = run("write", "two.fio", "aw", "as", "--by", by, "--atomic", env={**env, "LIE_ATOMIC": f"{UNIT}:{taken}"})
             tell(f"by {by}, refused at the write, above {taken}", (status, "the system takes no such atomic write" in said, kinds_in_log()), (2, True, {}))
+
+
+def atomic_fleets():
+    """A fleet's server writes each block by an atomic write where that is asked for, also what is made again,
+    and no other; what is no atomic write is refused before a run begins, or the server's start."""
+    job_file("af.fio", jobs=1, blocks=64, writes=100_000)
+    for words, due in ((("--atomic",), {"atomic"}), (("--torn",), {"made"}), (("--atomic", "--flush", "4"), {"atomic"})):
+        servers = Servers("af", 0, jobs=1)
+        servers.count, servers.running = 1, [None]
+        servers.start(0, lying("af-0-0"), words)
+        tell(f"a fleet's run, {words}", fleet("write", "af.fio", "--note", "af.note", "--after", "0.5", *servers.links())[0], 0)
+        tell(f"how it is written, {words}", {*kinds_in_log()}, due)
+        tell(f"its check, {words}", fleet("check", "af.fio", "--note", "af.note", *servers.links())[0], 0)
+        tell(f"what is told of it, {words}", b"af-0-0: the system tells of atomic writes to it, of 1024 to 32768 bytes" in read(servers.said(0)), True)
+        servers.cut()
+    servers.start(0, lying("af-0-0", "8192:65536"), ("--atomic",))
+    status, _, said = fleet("write", "af.fio", "--note", "af.note", "--after", "0.5", *servers.links())
+    tell("a run of blocks that are no atomic write", (status, "job 0: an atomic write to af-0-0 has 8192 to 65536 bytes, a power of two, and a block has 4096" in said, os.path.exists("log") and read("log")), (2, True, b""))
+    servers.cut()
+    for unit, words, why in (("0:0", ("--atomic",), "the system tells of no atomic write to it"), (UNIT, ("--atomic", "--cached"), "with --cached writes go to memory")):
+        status, _, said = run("0", "an-0-0", "--note", "an.note", *words, program=SERVER, env=lying("an-0-0", unit))
+        tell(f"a server that is refused, {words}", (status, why in said), (2, True))
 
 
 def cut_writes(what, job_file, words, env, *by_witness):

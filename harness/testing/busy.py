@@ -3,10 +3,12 @@ written again, and nothing else, and no longer than it may be."""
 import os
 import random
 import re
+import socket
 import struct
 import time
 
 from atomic import lying
+from fleet_links import FLEET_NUMBER, door, hello
 from fleet_servers import BLOCKS, DONE, ORDER, name_of, order, record, told, want
 from serving import Servers, fleet, job_file, reports
 from trying import BLOCK, HERE, LIAR, as_often, await_that, job, read, run, stamp, state_in, tell, tell_has, write
@@ -82,12 +84,12 @@ def state_frame(*words, **more):
     return bytes([SEND]) + struct.pack(">Q", len(frame)) + frame
 
 
-def taken(name, says, lie="none:0", options=()):
+def taken(name, says, lie="none:0", options=(), **more):
     """A server whose node says this, and once `then` is called what that says."""
     write(f"{name}.says", says)
     servers = Servers(name, 0, jobs=1)
     servers.count, servers.running = 1, [None]
-    env = {"NODE": f"{HERE}/stepping_node.py", "NAME": name, "LD_PRELOAD": LIAR, "LIE": lie, "LIE_TARGET": f"{name}-0-0", "LIE_LOG": os.path.abspath(f"{name}.made")}
+    env = {"NODE": f"{HERE}/stepping_node.py", "NAME": name, "LD_PRELOAD": LIAR, "LIE": lie, "LIE_TARGET": f"{name}-0-0", "LIE_LOG": os.path.abspath(f"{name}.made"), **more}
     servers.start(0, env, options)
     return servers
 
@@ -161,6 +163,23 @@ def rested_servers():
     made = rows("later.made")
     tell("behind the first order of a later run nothing of the one before is begun", [it for it in made[made.index((0, 5)) :] if it[1] < 5], [])
     tell("nor does it come", comes_not(lambda: read("later-0-0")[: 2 * BLOCK] != stamp(8, 0, 5, 0) + stamp(8, 0, 6, 1)), True)
+    servers.cut()
+
+
+def started_anew_at_rest():
+    """Before a server starts anew for another fleet, what was in flight is over: each write that was begun
+    has come, and none is begun any more."""
+    servers = taken("anew", order(7, 0, 0) + state_frame(7, 1, 0), "slow:1", LIE_ENDS="1")
+    await_more("anew", 3)
+    door("anew-0.note.socket").close()
+    os.remove("anew.says") # (the next life says nothing)
+    with socket.socket(socket.AF_UNIX) as link:
+        link.connect("anew-0.note.socket")
+        link.sendall(hello(0, FLEET_NUMBER + 1, FLEET_NUMBER))
+        await_that(lambda: read(servers.said(0)).count(b"is up") == 2, "a new start")
+    kinds = [line.split()[0] for line in read("anew.made").decode().splitlines()]
+    tell("as the next life begins each write that was begun has come", kinds.count("slow") - kinds.count("came"), 0)
+    tell("none is begun any more", comes_not(lambda: count("anew") > len(kinds)), True)
     servers.cut()
 
 

@@ -5,6 +5,7 @@ import os
 import shlex
 import struct
 import sys
+import threading
 import time
 from types import SimpleNamespace
 
@@ -18,7 +19,10 @@ sys.path.insert(0, f"{TOP}/harness/client")
 import links
 import note
 import stories
-from records import COPY_OK, GOOD, Report, enveloped
+from fleet import Fleet
+from mirror import Copies
+from queries import COPIES, COPIES_SENT, query
+from records import COPY, COPY_OK, GOOD, GRANTED, Report, enveloped
 
 
 def report_of(attempt, server, faults):
@@ -45,6 +49,32 @@ def copies_not_kept():
     tell("states that the mirror doesn't keep", (status, number_in(printed) != "", "not all states are kept" in printed), (2, True, True))
     tell_has("how many it keeps", said, "the mirror keeps 0 of 1 states")
     servers.cut()
+
+
+def slow_copies():
+    """Copies that a mirror sends one behind the other for longer than a grace are waited for; where some are
+    lost, no longer than that behind the last."""
+    for what, count, due in (("all of them", 6, True), ("one is lost", 5, False)):
+        copies, begun = Copies(), time.monotonic()
+
+        def bring():
+            copies.hear(bare(struct.pack(">Q", 3), kind=GRANTED))
+            copies.hear(query(COPIES, COPIES_SENT.pack(3, 6)))
+            for at in range(count):
+                time.sleep(0.3)
+                copies.hear(bare(bytes(4) + struct.pack(">QII", 1, 0, at), kind=COPY))
+
+        threading.Thread(target=bring, daemon=True).start()
+        tell(f"copies that come slowly, {what}", (copies.await_all(3, 30, 1), time.monotonic() - begun < 10), (due, True))
+
+
+def lost_copies():
+    """Of the copies that came in a life those alone count in the next one that are in its note."""
+    states = {(9, 0, 0): None, (9, 0, 1): None}
+    data = b"".join(struct.pack(">I", 136) + b"FCV2" + struct.pack(">QII", *it) + bytes(116) for it in states)
+    life = SimpleNamespace(copies=Copies(), kept=SimpleNamespace(read=lambda: b"FCC2" + bytes(28) + data))
+    life.copies.came, life.copies.had = {(9, 0, 1), (9, 1, 1)}, {(9, 0, 0)}
+    tell("a copy that isn't in the note", Fleet.copies_had(life), {*states})
 
 
 def drawn_numbers():

@@ -4,16 +4,10 @@ import os
 import re
 import signal
 import subprocess
-import sys
 import time
 
-from serving import FLEET, TOP, Servers, fleet, job_file, reports
+from serving import FLEET, Servers, fleet, job_file
 from trying import HANG, LIAR, await_text, comes, read, tell, write
-
-sys.path.insert(0, f"{TOP}/harness/client")
-
-from note import GENERATION_NUMBERS, KeptNote, numbers_of
-from states import states_in
 
 CUT = ("--cut", "touch cut-was-made")
 
@@ -131,36 +125,4 @@ def orphans():
     tell("it is the same process", servers.running[0].poll(), None)
     tell("the next run", fleet("write", "orphan.fio", "--note", "orphan.note", "--after", "0.5", *servers.links())[0], 0)
     tell("and its check", fleet("check", "orphan.fio", "--note", "orphan.note", *servers.links())[0], 0)
-    servers.cut()
-
-
-def full_notes():
-    """Where the client's note has no room for another run, it is put aside, and a new one goes on, above
-    its numbers; the servers start anew for it. With a mirror that is refused before anything is
-    written. A client without a mirror goes on where one with a mirror was."""
-    job_file("room.fio", jobs=1, blocks=64, writes=64)
-    servers = Servers("room", 1, jobs=1)
-    words = ["write", "room.fio", "--note", "room.note", "--after-writes", "64", *servers.links()]
-    tell("a first run", fleet(*words)[0], 0)
-    kept = KeptNote("room.note")
-    note = kept.read()
-    state = next(iter(states_in(note).values())).data
-    others = b"".join(len(state).to_bytes(4, "big") + state[:4] + (9 + it).to_bytes(8, "big") + state[12:] for it in range(1010))
-    count = int.from_bytes(note[28:32], "big")
-    kept.keep(note[:28] + (count + 1010).to_bytes(4, "big") + others + note[32:])
-    full, before = kept.read(), numbers_of(note)
-    kept.close()
-    status, _, said = fleet(*words)
-    tell("a run for whose states there is no room", (status, "its states are in room.note.full-1" in said), (0, True))
-    tell("the server has started anew for it", b"another fleet takes the place" in read(servers.said(0)), True)
-    kept = KeptNote("room.note")
-    tell("its numbers are above", (len(states_in(kept.read())), numbers_of(kept.read()) > before, kept.read() != full), (1, True, True))
-    kept.close()
-    tell("and sound", fleet("check", "room.fio", "--note", "room.note", *servers.links())[0], 0)
-    aside = KeptNote("room.note.full-1")
-    tell("the old one is as it was", aside.read(), full)
-    aside.close()
-    status, printed, _ = fleet("check", "room.fio", "--note", "room.note.full-1", "--wait", "3", *servers.links())
-    tell("a check by the old one, at servers of the new one", (status, reports(printed)), (2, {}))
-    tell("a number of one scale", abs(numbers_of(full)[1] - time.time() * GENERATION_NUMBERS) < 3600 * GENERATION_NUMBERS, True)
     servers.cut()

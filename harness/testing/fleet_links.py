@@ -33,8 +33,8 @@ def frame(body, magic=b"FC", kind=1):
     return enveloped(bare(body, magic, kind))
 
 
-def hello(server=0, fleet=FLEET_NUMBER, before=0):
-    return enveloped(query(QUERY_HELLO, HELLO.pack(fleet, server, 1, before)))
+def hello(server=0, fleet=FLEET_NUMBER, before=0, has_mirror=False):
+    return enveloped(query(QUERY_HELLO, HELLO.pack(fleet, server, 1, before, has_mirror)))
 
 
 def door(path):
@@ -163,7 +163,7 @@ def strangers():
 def brought(of, count=300):
     """What comes back of so many frames over a bad link, whose other end gives each back: their
     numbers, in the order in which they come, and whether the link has ended in the middle of one."""
-    shares = [it for name in ("lose", "repeat", "late", "cut") for it in (f"--{name}", str(of.get(name, 0)))]
+    shares = [it for name in ("lose", "repeat", "late", "cut", "hang") for it in (f"--{name}", str(of.get(name, 0)))]
     with subprocess.Popen([f"{TOP}/tools/bad-link", *shares, "cat"], stdin=subprocess.PIPE, stdout=subprocess.PIPE) as link:
         try:
             os.write(link.stdin.fileno(), b"".join(frame(struct.pack(">I", at)) for at in range(count)))
@@ -187,5 +187,7 @@ def harmed_links():
     tell("some are lost, and the others come in their order", (60 < len(numbers) < 240, numbers == sorted({*numbers})), (True, True))
     numbers, _ = brought({"late": 0.3})
     tell("some come late, and none twice", (numbers != sorted(numbers), len(numbers) == len({*numbers}), len(numbers) > 150), (True, True, True))
+    numbers, is_cut = brought({"hang": 0.05})
+    tell("a link hangs behind some frames, whole", (numbers == [*range(len(numbers))], len(numbers) < 300, is_cut), (True, True, False))
     tell("the first frame ends the link", brought({"cut": 1})[0], [])
     tell("a link ends in the middle of a frame", any(brought({"cut": 0.02})[1] for _ in range(20)), True)

@@ -9,7 +9,7 @@ import subprocess
 import sys
 import time
 
-from serving import FLEET, TOP, Servers, earliest, fleet, job_file, reports
+from serving import FLEET, TOP, Servers, earliest, fleet, job_file, jobs_left_out, reports
 from trying import BLOCK, HANG, QUIET, as_often, read, tell, tell_has, write
 
 BAD_LINK = f"exec {shlex.quote(f'{TOP}/tools/bad-link')}"
@@ -57,17 +57,36 @@ def lost_with_a_mirror():
     tell_has("where both notes are lost", fleet("check", "mirror.fio", "--note", "mirror.note", *kept, *servers.links())[2], "no run was begun yet")
     servers.cut()
     servers.restart() # (till then they serve the fleet that is forgotten)
-    status, printed, said = fleet("check", "mirror.fio", "--run", number, "--note", "mirror.note", *kept, *servers.links())
+    status, printed, said = fleet("check", "mirror.fio", "--run", number, "--note", "mirror.note", "--wait", "3", *kept, *servers.links())
+    tell("another fleet with a mirror isn't served by their notes", (status, reports(printed), "is of another fleet" in said), (2, {}, True))
+    status, printed, said = fleet("check", "mirror.fio", "--run", number, "--note", "plain.note", *servers.links())
     tell("its run has no verdict", (status, reports(printed), "" if status == 3 else said), (3, {}, ""))
     servers.cut()
 
 
+def lossy_mirrors():
+    """A mirror's link loses four frames in ten: no life of the client has all copies, and what came in one
+    counts in the next."""
+    job_file("lossy.fio", jobs=4, blocks=64, writes=64)
+    servers = Servers("lossy", 2, jobs=4)
+    for _ in range(3):
+        status, _, _ = fleet("write", "lossy.fio", "--note", "lossy.note", "--after-writes", "512", *mirror("lossy.kept"), *servers.links())
+        tell("a fleet writes", status, 0)
+    os.remove("lossy.note")
+    bad = mirror("lossy.kept", f"{BAD_LINK} --lose 0.4 --repeat 0 --late 0 --cut 0")
+    status, printed, said = fleet("check", "lossy.fio", "--note", "lossy.note", *bad, *servers.links())
+    tell("a check by copies that come bit by bit", (status, [it[:2] for it in reports(printed).values()]), (0, [(64, 0)] * 8))
+    tell("more than one life was wanted", "copies of the mirror were lost" in said, True)
+    servers.cut()
+
+
 def killed_mirrors():
-    """Servers, the client and the mirror are killed at random moments, over bad links, and the
-    client's note is lost now and then; where a job is checked by its state, it has no fault."""
+    """Servers, the client and the mirror are killed at random moments, over links that lose, end, garble and
+    hang, and the client's note is lost now and then; where a job is checked by its state, it has no fault,
+    and where all is sound nothing is left out."""
     job_file("losses.fio", jobs=2, blocks=256, writes=100_000)
     servers, chance, whole, losses, kills = Servers("losses", 2), random.Random(11), 0, 0, 0
-    links = servers.links()
+    links = servers.links(f"{BAD_LINK} --lose 0.02 --repeat 0.02 --late 0.02 --cut 0.005 --garble 0.005 --hang 0.0005")
     for turn in range(8 * as_often["killed"]):
         kept = mirror("losses.kept", f"{BAD_LINK} --cut 0.02")
         writing = subprocess.Popen([FLEET, "write", "losses.fio", "--note", "losses.note", "--after", f"{chance.uniform(0.2, 0.6):.2f}", "--wait", "4", *kept, *links], **QUIET)
@@ -84,7 +103,8 @@ def killed_mirrors():
         status, printed, _ = fleet("check", "losses.fio", "--note", "losses.note", "--wait", "10", *kept, *links)
         tell(f"killed mirrors, turn {turn}: no false fault", [at for at, it in reports(printed).items() if it[1]], [])
         whole += status == 0
-    print(f"killed_mirrors: {kills} kills at random and a cut each turn, {losses} notes lost, {whole} checks by all states")
+        tell(f"killed mirrors, turn {turn}: its check ends, and what is sound is whole", (status is not None, jobs_left_out(printed, 2, 2) if status == 0 else []), (True, []))
+    print(f"killed_mirrors: {kills} kills at random and {2 * 8 * as_often['killed']} of servers at their cuts, {losses} notes lost, {whole} checks by all states")
     tell("notes were lost, and checks came to their end", (losses >= 2, whole >= 2), (True, True))
     servers.cut()
 

@@ -52,6 +52,14 @@ def faults_first():
     servers.kill(0)
 
 
+def new_notes(servers):
+    """Starts servers anew over notes that there weren't yet."""
+    servers.cut()
+    for at in range(servers.count):
+        os.remove(servers.note(at))
+    servers.restart()
+
+
 def other_fleets():
     """A server serves the fleet that has come first until it is started anew, and says so to another
     one; a link that leads to another server says that; a note knows how many servers there are."""
@@ -73,10 +81,12 @@ def other_fleets():
     servers.cut()
     mirrors = ["--mirror", f"exec {shlex.quote(FLEET)} mirror --note other.mirror"]
     servers.restart()
+    status, printed, said = fleet(*words, "--note", "three.note", "--wait", "3", *mirrors, *servers.links())
+    tell("a fleet with a mirror, over the notes of another one", (status, printed, "the note of server 0 is of another fleet, and one with a mirror wants new notes" in said), (2, "", True))
+    new_notes(servers)
     tell("a fleet with a mirror", fleet(*words, "--note", "three.note", *mirrors, *servers.links())[0], 0)
     tell("a client that begins anew over the mirror is of its fleet", fleet(*words, "--note", "four.note", *mirrors, *servers.links())[0], 0)
-    servers.cut()
-    servers.restart()
+    new_notes(servers)
     new = ["--mirror", f"exec {shlex.quote(FLEET)} mirror --note new.mirror"]
     tell("another fleet, with a mirror of its own", fleet(*words, "--note", "five.note", *new, *servers.links())[0], 0)
     status, _, said = fleet("check", "other.fio", "--note", "five.note", "--wait", "3", *mirrors, *servers.links())

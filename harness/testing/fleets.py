@@ -11,7 +11,7 @@ import struct
 import subprocess
 import time
 
-from serving import FLEET, SERVER, TOP, Servers, earliest, fleet, fleet_until, job_file, reports
+from serving import FLEET, SERVER, TOP, Servers, earliest, fleet, fleet_until, job_file, jobs_left_out, reports
 from trying import BLOCK, HANG, LIAR, QUIET, as_often, read, run, tell, tell_has, write
 
 
@@ -95,8 +95,9 @@ def killed_nodes():
         status, printed, _ = fleet("check", "kills.fio", "--note", "kills.note", "--wait", "10", *servers.links())
         by_state = {at: it for at, it in reports(printed).items()}
         tell(f"killed nodes, turn {turn}: no false fault", [at for at, it in by_state.items() if it[1]], [])
+        tell(f"killed nodes, turn {turn}: its check ends, and what is sound is whole", (status is not None, jobs_left_out(printed, 3, 2) if status == 0 else []), (True, []))
         whole += status == 0
-    print(f"killed_nodes: {kills} kills at random and a cut each turn, {whole} checks by all states")
+    print(f"killed_nodes: {kills} kills at random and {3 * 10 * as_often['killed']} of servers at their cuts, {whole} checks by all states")
     tell("checks came to their end", whole >= 2, True)
     servers.cut()
 

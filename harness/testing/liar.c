@@ -4,7 +4,8 @@
  * its first half alone; misdirected, to the block behind it; flipped, its last bit; late, behind
  * LIE_HELD further writes; failed, and not made; fallen, failed once the file LIE_UNTIL is there,
  * with LIE_FALLS_SLOWLY after seven seconds;
- * doubtful, failed but made; short, half of it written and told; slow, it takes a while; stalled,
+ * doubtful, failed but made; short, half of it written and told; slow, it takes a while, and with
+ * LIE_ENDS a line `came` tells its end; stalled,
  * it never comes back; cut, nor does it, and its first half is made, or of an atomic write all or
  * nothing, by turns (atomic_liar.c). LIE=cached:N is a drive with a volatile cache of
  * N blocks: each write is told at once, whatever O_DSYNC says, and another one, by chance, makes
@@ -16,7 +17,9 @@
  * byte, and LIE_READS_FALL each one while the file LIE_UNTIL is there. LIE_TARGET=NAME is the end of the target's path. LIE_PIECES has standard output take five
  * bytes at a time, with other threads' turn behind them. The kernel's io_uring passes a library by:
  * LIE_RING has one of this library's own in its place (ring_liar.c), and without it there is none, so
- * that the harness writes by threads. LIE_DIES=N kills the process behind the Nth flush by that. */
+ * that the harness writes by threads. LIE_DIES=N kills the process behind the Nth flush by that.
+ * LIE_LEAVES=link kills it once it has given a file a second name, and LIE_LEAVES=rename once it has
+ * put another file in the place of one, behind that. */
 #include "liar.h"
 
 #include <dlfcn.h>
@@ -25,7 +28,9 @@
 #include <limits.h>
 #include <pthread.h>
 #include <sched.h>
+#include <signal.h>
 #include <stdarg.h>
+#include <stdatomic.h>
 #include <stdint.h>
 #include <stdio.h>
 #include <stdlib.h>
@@ -159,6 +164,31 @@ int fsync(int fd) {
     return real(fd);
 }
 
+/* Ends the process, where it is to leave here. */
+static void leave_at(const char *step) {
+    const char *leaves = getenv("LIE_LEAVES");
+    if (leaves && !strcmp(leaves, step)) kill(getpid(), SIGKILL);
+}
+
+static atomic_bool has_linked;
+
+int link(const char *from, const char *to) {
+    static int (*real)(const char *, const char *);
+    if (!real) *(void **)&real = dlsym(RTLD_NEXT, "link");
+    int answer = real(from, to);
+    has_linked = true;
+    leave_at("link");
+    return answer;
+}
+
+int rename(const char *from, const char *to) {
+    static int (*real)(const char *, const char *);
+    if (!real) *(void **)&real = dlsym(RTLD_NEXT, "rename");
+    int answer = real(from, to);
+    if (has_linked) leave_at("rename");
+    return answer;
+}
+
 ssize_t write(int fd, const void *bytes, size_t length) {
     static ssize_t (*real)(int, const void *, size_t);
     if (!real) *(void **)&real = dlsym(RTLD_NEXT, "write");
@@ -186,6 +216,13 @@ static void cut_within(int fd, const void *bytes, size_t length, off_t at, bool 
     if (!is_atomic || count % 2) real_write(fd, bytes, is_atomic ? length : length / 2, at);
 }
 
+static ssize_t write_slowly(int fd, const void *bytes, size_t length, off_t at) {
+    usleep(SLOW);
+    ssize_t told = real_write(fd, bytes, length, at);
+    if (getenv("LIE_ENDS")) note("came", bytes, length, at);
+    return told;
+}
+
 ssize_t write_or_lie(int fd, const void *bytes, size_t length, off_t at, bool is_atomic, bool *never) {
     *never = false;
     if (!is_target(fd)) return real_write(fd, bytes, length, at);
@@ -202,7 +239,7 @@ ssize_t write_or_lie(int fd, const void *bytes, size_t length, off_t at, bool is
     if (cuts) cut_within(fd, bytes, length, at, is_atomic);
     if (*never || (harms && !strcmp(kind, "slow"))) {
         pthread_mutex_unlock(&lock);
-        return *never ? 0 : (usleep(SLOW), real_write(fd, bytes, length, at));
+        return *never ? 0 : write_slowly(fd, bytes, length, at);
     }
     ssize_t told = harms ? lie(fd, bytes, length, at) : real_write(fd, bytes, length, at);
     int why = errno;

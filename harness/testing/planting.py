@@ -20,7 +20,7 @@ TOP = os.path.dirname(os.path.dirname(HERE))
 FOLDER, PLANTED = "harness/must-fail", "harness/must-fail/planted"
 # What a copy has beside the harness, and for how many seconds a part there waits for what never comes,
 # and goes on at all: what is planted may keep it from coming.
-COPIED, LIMITS = ("harness", "tools", "examples"), {"HANG": "20", "LONGEST": "90"}
+COPIED, LIMITS = ("harness", "tools", "examples", "release"), {"HANG": "20", "LONGEST": "90"}
 # In so many days the gate tries each edit once; and so many go together at most, so that what one
 # breaks hides little of the others.
 TURNS, MOST = 8, 6
@@ -131,6 +131,7 @@ def run_group(taken, texts):
     with tempfile.TemporaryDirectory(prefix="planted-", dir=os.path.dirname(TOP) if os.access(os.path.dirname(TOP), os.W_OK) else None) as room:
         for it in COPIED:
             shutil.copytree(f"{TOP}/{it}", f"{room}/{it}", ignore=shutil.ignore_patterns("out", "__pycache__", "must-fail"), symlinks=True)
+        shutil.copyfile(f"{TOP}/VERSION", f"{room}/VERSION")
         for path, text in texts.items():
             with open(f"{room}/{path}", "w", encoding="utf-8") as it:
                 it.write(text)

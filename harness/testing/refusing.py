@@ -1,8 +1,9 @@
 """The numbers of runs, and what is refused: targets, options, job files and states."""
 import os
+import shutil
 import subprocess
 
-from trying import LIAR, QUIET, TARGET, await_file, check, job, read, report, run, run_of, state_in, tell, tell_has, whole_run, write
+from trying import HERE, LIAR, OUT, QUIET, TARGET, await_file, check, job, read, report, run, run_of, state_in, tell, tell_has, whole_run, write
 
 
 def run_numbers():
@@ -48,6 +49,7 @@ def refusals():
         (["--after", "1k"], "wants a number"), (["--job", "-1"], "wants a number"), (["--after"], "nothing stands behind it"), (["--afer", "1"], "no such option"),
         (["--run", "1"], "it is for another command"), (["--job", "1"], "no such job"), (["--cpu", "-1"], "wants a number"),
         (["--cpu", "1000"], "no such processor"), (["--cpu", "99999"], "no such processor"),
+        (["--queue", "0"], "--queue: this wants a number from 1 on"), (["--after", "0"], "--after: this wants a number from 1 on"), (["--after", "-1"], "--after: -1: this wants a number"),
     ):
         refused(" ".join(words), ["write", full, "t", "rs2", *words], part)
     write("bad.fio", "[a]\nrw=write\n")
@@ -55,12 +57,52 @@ def refusals():
     refused("no fiocut", ["write", full, "t", "rs2"], "No such file", env={"FIOCUT": "/nowhere/fiocut"})
     refused("no drive", ["write", full, "t", "rs2"], "No such file", env={"DRIVE": "/nowhere/drive"})
     tell("nothing of these has put a state aside", os.path.exists("rs2"), False)
-    status, printed, _ = run("--help")
-    tell_has("--help", printed, "--after N")
+    tell_has("--help", run("--help")[1], "--after N")
     fields = "sequential blocks=1 total=1 bs=512 seed=1 depth=1 window=1 verify=stamp save=1 load=0 fatal=0 file=x"
     write("name.fio", f"[a {fields[:60]}]\nrw=write\nbs=4k\nsize=256k\nfilename=b {fields}\n")
     tell("names that read like fields: the write", run("write", "name.fio", "named3", "ns")[0], 0)
     check("names that read like fields: the check", "name.fio", "named3", "ns", [])
+
+
+def first_words():
+    """What each program of the harness answers to its first word, and to a wrong one."""
+    with open(f"{HERE}/../../VERSION", encoding="ascii") as it:
+        version = it.read().strip()
+    for name, due in (("drive-target", "--after N"), ("drive-agent", "--queue N"), ("drive-witness", "--cycles N"), ("fleet-server", "--orphan SECONDS")):
+        program = f"{OUT}/{name}"
+        status, printed, said = run("--help", program=program)
+        tell(f"{name} --help: its status, and what is said", (status, said), (0, ""))
+        tell_has(f"{name} --help", printed, due)
+        tell(f"{name} --version", run("--version", program=program), (0, f"{name} of fiocut {version}, not proved\n", ""))
+        status, printed, said = run("--frob", program=program)
+        tell(f"{name} --frob: its status, and what is printed", (status, printed), (2, ""))
+        tell_has(f"{name} --frob: which word is wrong", said, "--frob")
+
+
+def found_programs():
+    """The proved programs are those that FIOCUT and DRIVE name, else those beside the harness's own,
+    also where that is called by a link, else those on the PATH."""
+    def checked(program, path, *named):
+        words = ["-u", "FIOCUT", "-u", "DRIVE", f"PATH={path}", *named, program, "check", "two.fio", "t", "s"]
+        status, _, said = run(*words, program="/usr/bin/env")
+        return status, said if status == 2 else ""
+
+    whole_run()
+    for at in ("beside", "other"):
+        os.makedirs(at)
+    shutil.copy2(TARGET, "beside/drive-target")
+    os.symlink("beside/drive-target", "linked")
+    none = "drive-target: fiocut: there is no such program: FIOCUT names it, or it stands beside this one, or on the PATH\n"
+    tell("where there is none", checked("./linked", "/nowhere"), (2, none))
+    for name in ("fiocut", "drive"):
+        os.symlink(os.environ[name.upper()], f"beside/{name}")
+        write(f"other/{name}", "#!/bin/sh\necho other\n")
+        os.chmod(f"other/{name}", 0o755)
+    beside, other = (os.path.abspath(it) for it in ("beside", "other"))
+    tell("beside it, called by a link", checked("./linked", "/nowhere"), (0, ""))
+    tell("beside it goes before the PATH", checked("./linked", f"{other}:/bin"), (0, ""))
+    tell("on the PATH", checked(TARGET, f"/nowhere:{beside}:/bin"), (0, ""))
+    tell("what FIOCUT names goes first", checked("./linked", "/bin", f"FIOCUT={other}/fiocut")[0], 2)
 
 
 def folders():

@@ -95,6 +95,12 @@ def earliest(data):
     return numbers[min(numbers)]
 
 
+def jobs_left_out(printed, servers, jobs):
+    """The jobs of a check that is told as sound of which no block was checked by a state."""
+    found = reports(printed)
+    return [(server, job) for server in range(servers) for job in range(jobs) if not found.get((server, job), (0,))[0]]
+
+
 def reports(printed):
     """What a check printed, by server and job: how many blocks were checked, and the faulty ones."""
     found = {}

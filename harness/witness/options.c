@@ -12,6 +12,7 @@ static const char USAGE[] =
     "       drive-witness map JOBFILE STATE --link COMMAND [OPTIONS]      the same, and tells what each faulty block holds\n"
     "       drive-witness cycle JOBFILE FOLDER --link COMMAND --off COMMAND --on COMMAND [OPTIONS]\n"
     "                                                    writes, cuts, checks, again and again, and keeps all in FOLDER\n"
+    "       drive-witness --version    which version this is\n"
     "  --link COMMAND    a shell runs it: the way to drive-agent, as 'ssh dut drive-agent /dev/disk/by-id/X'\n"
     "  --job N           job N of the file, from 0\n"
     "  --offset BYTES    where the first block begins, 0 else; --stride BYTES: from one block's front to the next\n"
@@ -63,15 +64,15 @@ static void refuse_missing(const struct options *read) {
     if (read->command == CYCLE && (!read->off || !read->on)) give_up("--off, --on", "a cycle wants both");
 }
 
-/* The command that the first word names, with two words behind it. Else the program says how it
- * goes, and ends. */
+/* The command that the first word names, with two words behind it. */
 static enum command read_command(int count, char **words) {
     const char *const names[] = {"write", "check", "map", "cycle"};
-    bool asks = asks_for_help(count, words);
-    for (int at = 0; at < 4; at++)
-        if (count > 3 && !strcmp(words[1], names[at])) return (enum command)(1 << at);
-    fputs(USAGE, asks ? stdout : stderr);
-    exit(asks ? STATUS_SOUND : STATUS_FAILED);
+    int at = 0;
+    answer_first_word(USAGE, count, words);
+    while (at < 4 && strcmp(words[1], names[at])) at++;
+    if (at == 4) refuse_word(USAGE, words[1], "there is no such command");
+    if (count < 4) refuse_word(USAGE, words[1], at == 3 ? "JOBFILE and FOLDER stand behind it" : "JOBFILE and STATE stand behind it");
+    return (enum command)(1 << at);
 }
 
 struct options read_options(int count, char **words) {
@@ -83,19 +84,19 @@ struct options read_options(int count, char **words) {
         {"--link", read.links, 0, 0, all_commands | MANY},
         {"--job", 0, &read.job, 0, all_commands},
         {"--offset", 0, &read.offset, 0, all_commands},
-        {"--stride", 0, &read.stride, 0, all_commands},
-        {"--wait", 0, &read.wait, 0, all_commands},
-        {"--quiet", 0, &read.quiet, 0, all_commands},
+        {"--stride", 0, &read.stride, 0, all_commands | FROM_1},
+        {"--wait", 0, &read.wait, 0, all_commands | FROM_1},
+        {"--quiet", 0, &read.quiet, 0, all_commands | FROM_1},
         {"--local", 0, 0, &read.local, WRITE | CYCLE},
-        {"--unit", 0, &read.unit, 0, CHECK | MAP | CYCLE},
+        {"--unit", 0, &read.unit, 0, CHECK | MAP | CYCLE | FROM_1},
         {"--dump", 0, &read.dump, 0, CHECK | MAP | CYCLE},
         {"--other-drive", 0, 0, &read.other_drive, CHECK | MAP | CYCLE},
         {"--trust-off", 0, 0, &read.trust_off, CYCLE},
         {"--drive-only", 0, 0, &read.drive_only, CYCLE},
-        {"--after", 0, &read.after, 0, WRITE},
+        {"--after", 0, &read.after, 0, WRITE | FROM_1},
         {"--off", &read.off, 0, 0, CYCLE},
         {"--on", &read.on, 0, 0, CYCLE},
-        {"--cycles", 0, &read.cycles, 0, CYCLE},
+        {"--cycles", 0, &read.cycles, 0, CYCLE | FROM_1},
         {"--every", &every, 0, 0, CYCLE},
         {"--seed", 0, &read.seed, 0, CYCLE},
         {"--keep-going", 0, 0, &read.keep_going, CYCLE},
