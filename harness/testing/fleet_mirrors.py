@@ -5,6 +5,7 @@ import random
 import re
 import shlex
 import shutil
+import signal
 import subprocess
 import sys
 import time
@@ -117,7 +118,18 @@ def kill_one(victim, servers, writing, kept):
     elif victim == 2:
         writing.kill()
     else:
-        subprocess.run(["pkill", "-KILL", "-f", f"mirror --note {kept}"], **QUIET)
+        kill_mirror(kept)
+
+
+def kill_mirror(kept):
+    """Kills the mirror over this note in this folder, and no other test's."""
+    for pid in filter(str.isdigit, os.listdir("/proc")):
+        try:
+            words = read(f"/proc/{pid}/cmdline").split(b"\0")
+            if words[-4:-1] == [b"mirror", b"--note", kept.encode()] and os.readlink(f"/proc/{pid}/cwd") == os.getcwd():
+                os.kill(int(pid), signal.SIGKILL)
+        except OSError:
+            pass # (it has ended)
 
 
 def taken_places():
