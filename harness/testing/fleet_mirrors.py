@@ -10,8 +10,9 @@ import subprocess
 import sys
 import time
 
+from fleet_links import hello
 from serving import FLEET, TOP, Servers, earliest, fleet, job_file, jobs_left_out, reports
-from trying import BLOCK, HANG, QUIET, as_often, read, tell, tell_has, write
+from trying import BLOCK, HANG, QUIET, as_often, comes, read, tell, tell_has, write
 
 BAD_LINK = f"exec {shlex.quote(f'{TOP}/tools/bad-link')}"
 
@@ -155,6 +156,17 @@ def taken_places():
         shutil.copy("place.kept", "torn.kept")
         write("torn.kept", read("torn.kept")[:-1])
         tell_has(f"a mirror on {what}", fleet("mirror", "--note", note)[2], why)
+
+
+def untaken_words():
+    """A mirror whose words nobody takes any more ends, though its input goes on."""
+    it = subprocess.Popen([FLEET, "mirror", "--note", "untaken.kept"], stdin=subprocess.PIPE, stdout=subprocess.PIPE, stderr=subprocess.DEVNULL)
+    it.stdout.close()
+    it.stdin.write(hello(9))
+    it.stdin.flush()
+    tell("it has ended", comes(lambda: it.poll() is not None), True)
+    it.kill()
+    it.wait()
 
 
 LIVES = """import sys, time
