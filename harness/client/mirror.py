@@ -73,7 +73,8 @@ class Mirror:
         self.process.stdin.flush()
 
     def hear_all(self):
-        """Hands the node what comes over the link, up to its end."""
+        """Hands the node what comes over the link, up to its end. Where nobody takes what goes out, that is
+        one, too: then the node ends, and with it this process."""
         is_welcome = False
         try:
             while frame := read_frame(sys.stdin.buffer):
@@ -81,9 +82,12 @@ class Mirror:
                     is_welcome = frame[3] == QUERY_HELLO and self.greet(frame[HEAD:])
                 elif is_welcome:
                     self.tell(FRAME, frame)
+        except OSError:
+            pass # the link has ended, or the node
+        try:
             self.process.stdin.close()
         except OSError:
-            pass # the node has ended
+            pass
 
     def greet(self, hello):
         """Answers a hello, and returns whether it is welcome: a mirror is of the first fleet that it kept

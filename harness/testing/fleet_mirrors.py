@@ -5,12 +5,14 @@ import random
 import re
 import shlex
 import shutil
+import signal
 import subprocess
 import sys
 import time
 
+from fleet_links import hello
 from serving import FLEET, TOP, Servers, earliest, fleet, job_file, jobs_left_out, reports
-from trying import BLOCK, HANG, QUIET, as_often, read, tell, tell_has, write
+from trying import BLOCK, HANG, QUIET, as_often, comes, read, tell, tell_has, write
 
 BAD_LINK = f"exec {shlex.quote(f'{TOP}/tools/bad-link')}"
 
@@ -117,7 +119,18 @@ def kill_one(victim, servers, writing, kept):
     elif victim == 2:
         writing.kill()
     else:
-        subprocess.run(["pkill", "-KILL", "-f", f"mirror --note {kept}"], **QUIET)
+        kill_mirror(kept)
+
+
+def kill_mirror(kept):
+    """Kills the mirror over this note in this folder, and no other test's."""
+    for pid in filter(str.isdigit, os.listdir("/proc")):
+        try:
+            words = read(f"/proc/{pid}/cmdline").split(b"\0")
+            if words[-4:-1] == [b"mirror", b"--note", kept.encode()] and os.readlink(f"/proc/{pid}/cwd") == os.getcwd():
+                os.kill(int(pid), signal.SIGKILL)
+        except OSError:
+            pass # (it has ended)
 
 
 def taken_places():
@@ -143,6 +156,17 @@ def taken_places():
         shutil.copy("place.kept", "torn.kept")
         write("torn.kept", read("torn.kept")[:-1])
         tell_has(f"a mirror on {what}", fleet("mirror", "--note", note)[2], why)
+
+
+def untaken_words():
+    """A mirror whose words nobody takes any more ends, though its input goes on."""
+    it = subprocess.Popen([FLEET, "mirror", "--note", "untaken.kept"], stdin=subprocess.PIPE, stdout=subprocess.PIPE, stderr=subprocess.DEVNULL)
+    it.stdout.close()
+    it.stdin.write(hello(9))
+    it.stdin.flush()
+    tell("it has ended", comes(lambda: it.poll() is not None), True)
+    it.kill()
+    it.wait()
 
 
 LIVES = """import sys, time
