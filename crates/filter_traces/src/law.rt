@@ -7,6 +7,7 @@ use messages::{frames_are_read_back, frames_are_readable};
 use net_world::{
     ends_are_kept, frames_are_of_packets, nothing_differs, numbers_are_given_once,
     one_state_of_each_job, one_text_of_each, only_sent_is_heard, sent_are_in_range,
+    shown_reports_were_made,
 };
 
 /// Whatever happens to the filters of a client, its servers and its mirror, what came to their nodes is one trace, of
