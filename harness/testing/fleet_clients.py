@@ -44,7 +44,7 @@ def copies_not_kept():
     job_file("copies.fio", jobs=1, blocks=64, writes=64)
     servers = Servers("copies", 1, jobs=1)
     command = f"exec env DROPS={COPY_OK} {sys.executable} {shlex.quote(f'{HERE}/tapped.py')} mirror.tap {shlex.quote(f'exec {FLEET} mirror --note mirror.note')}"
-    words = ["write", "copies.fio", "--note", "copies.note", "--after", "0.2", "--wait", "2", "--mirror", command, *servers.links()]
+    words = ["write", "copies.fio", "--note", "copies.note", "--after", "0.2", "--wait", "6", "--mirror", command, *servers.links()]
     status, printed, said = fleet(*words)
     tell("states that the mirror doesn't keep", (status, number_in(printed) != "", "not all states are kept" in printed), (2, True, True))
     tell_has("how many it keeps", said, "the mirror keeps 0 of 1 states")

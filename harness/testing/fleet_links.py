@@ -170,7 +170,7 @@ def brought(of, count=300):
         except BrokenPipeError:
             pass
         data = b""
-        while select.select([link.stdout], [], [], 1)[0] and (more := os.read(link.stdout.fileno(), 65536)):
+        while select.select([link.stdout], [], [], 3)[0] and (more := os.read(link.stdout.fileno(), 65536)):
             data += more
         link.kill()
     found = frames_in(data)
