@@ -19,7 +19,7 @@ from provenance import TOP, put, sources, sum_of, sum_of_sources, write_whole
 FOLDER = f"{TOP}/release"
 OUT = f"{FOLDER}/out"
 # Where the words of the command line are kept before the program begins: see shim.c.
-FLAGS = ("-std=c11", "-O2", "-Wl,--wrap=main", "-pthread")
+FLAGS = ("-std=c11", "-O2", "-Wl,--wrap=main", "-Wl,--gc-sections", "-pthread")
 
 
 class Refused(Exception):
