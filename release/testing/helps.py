@@ -6,7 +6,7 @@ import subprocess
 
 from clones import TOP, read, run, tell, tell_has
 
-# What runs as another command, or stands for one in tests, is none.
+# What runs as another command, stands for one in tests, or is installed under other names, is none.
 NONE = (".ci/run", "harness/testing/", "release/run")
 # What is handed on to another program takes any word but an option.
 STRANGE = "--frob"
