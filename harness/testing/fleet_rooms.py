@@ -204,7 +204,7 @@ def killed_within():
             servers.start(0, lie if victim == "server" else None)
             once = f"[ -e died ] || {{ touch died; export LD_PRELOAD={shlex.quote(LIAR)} LIE_LEAVES={step}; }}; {links[1]}"
             ways = [links[0], once if victim == "mirror" else links[1], *links[2:]]
-            status = fleet(*WRITE, "--wait", "4", *ways, env=lie if victim == "client" else {})[0]
+            status = fleet(*WRITE, "--wait", "10" if victim == "server" else "60", *ways, env=lie if victim == "client" else {})[0]
             tell(f"{what}: the write", status, due)
             tell(f"{what}: the server", servers.running[0].poll(), -9 if victim == "server" else None)
             tell(f"{what}: one note at least is put aside", any(os.path.exists(f"{it}.full-1") for it in NOTES), True)
