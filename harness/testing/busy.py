@@ -43,7 +43,8 @@ def busy_targets():
         status, _, said = run("write", "busy.fio", "bt", "bs", "--after", "200", "--torn", *way.split(), "--cut", cut, env=env)
         due, done = in_flight(state_in("bs")), counted(state_in("bs"))[1]
         before, all_ = rows("before"), rows("bt.log")
-        behind, block_of = rows("behind")[len(before) :], dict((number, block) for block, number in before)
+        # (a write may be in flight by the state, and come to the target only behind the copy)
+        behind, block_of = rows("behind")[len(before) :], {number: block for block, number in reversed(all_)}
         tell(f"{way}: what is written while the cut comes", (status, set(behind) <= {(block_of.get(it), it) for it in due}, len(behind) > 40), (0, True, True))
         tell(f"{way}: each that is done came once", [it for it in done if [number for _, number in all_].count(it) != 1], [])
         tell(f"{way}: how", {line.split()[0] for line in read("bt.log").decode().splitlines()}, {"atomic" if "atomic" in way else "made"})
