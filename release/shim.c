@@ -7,6 +7,7 @@
 #include <stddef.h>
 #include <stdint.h>
 #include <stdlib.h>
+#include <sys/syscall.h>
 #include <sys/types.h>
 #include <unistd.h>
 
@@ -97,9 +98,15 @@ int __wrap_main(int count, char **words) {
 typedef void (*handler)(int);
 ssize_t __write(int fd, const void *bytes, size_t length);
 handler __sysv_signal(int number, handler takes);
+int statx(int folder, const char *path, int flags, unsigned mask, void *told);
 
 ssize_t __write(int fd, const void *bytes, size_t length) {
     return write(fd, bytes, length);
+}
+
+/* What a file is, as the system tells it. */
+int statx(int folder, const char *path, int flags, unsigned mask, void *told) {
+    return (int)syscall(SYS_statx, folder, path, flags, mask, told);
 }
 
 /* As System V has it: the handler is taken away by the first signal, and holds none back. */

@@ -116,6 +116,17 @@ static void test_write(void) {
     tell("write: so many bytes go out", !pipe(ends) && __write(ends[1], "abcd", 3) == 3 && read(ends[0], got, 4) == 3 && !strcmp(got, "abc"));
     tell("write: what fails is told", __write(-1, "a", 1) == -1 && errno == EBADF);
 }
+
+/* (its kind stands behind seven numbers of four bytes; 040000 is a folder's) */
+static void test_statx(void) {
+    enum { HERE = -100, BASIC = 0x7ff, MODE = 28 };
+    unsigned char told[256] = {0};
+    unsigned short mode;
+    tell("statx: there is a root", statx(HERE, "/", 0, BASIC, told) == 0);
+    memcpy(&mode, told + MODE, sizeof mode);
+    tell("statx: that is a folder", (mode & 0170000) == 0040000);
+    tell("statx: what isn't there is told", statx(HERE, "/no/such", 0, BASIC, told) == -1 && errno == ENOENT);
+}
 #endif
 
 #if defined LACKS_FEATURES && defined __x86_64__
@@ -136,7 +147,7 @@ static void test_features(void) {
 int main(void) {
     test_alloc(), test_realloc(), test_dealloc(), test_errno(), test_words();
 #ifdef LACKS_GLIBC
-    test_signals(), test_write();
+    test_signals(), test_write(), test_statx();
 #endif
 #if defined LACKS_FEATURES && defined __x86_64__
     test_features();
