@@ -27,8 +27,8 @@ pub record HasCome (seen : List Observation) (p : PacketParts) : Type 0 where
   pub comes : Comes older now p
 
 -- What job j of an attempt is checked with: a state of the run, of this server and job, that fits
--- the job and came to the server in a Saved of the attempt; or none, where the job doesn't load one, or where a
--- NoSaved of the attempt came.
+-- the job and came to the server in a Saved of the attempt; or none, where the job doesn't load
+-- one, or where a NoSaved of the attempt came.
 abbrev pub IsMadeWith : List Observation → ℕ → ℕ → ℕ → ℕ → Job → Option State → Type 0
 IsMadeWith seen s run attempt j job (Some state) =
     (state.key ≡ key_at run s j) × (misfit state state.key job.rec ≡ None)
