@@ -1,0 +1,4 @@
+mod ListLemmas
+mod StateLemmas
+mod PacketLemmas
+mod PieceLemmas

@@ -1,0 +1,24 @@
+-- Lists that are looked through.
+use Rattle.std.proofs.Common.{◌<◌, ℕ, zero, suc, List, [], ◌∷◌, inl, inr, subst, arith}
+use Rattle.std.specs.Prelude.{IsTrue, nat_lt, slice_index, Contains}
+use Rattle.std.specs.List.{list_all}
+use Rattle.fc_base.proofs.ListLemmas.{first_of, behind_one, first_or_behind, only_in}
+
+-- Each number that stands somewhere in a list is below 256, where each one in it is.
+pub each_is_byte : (xs : List ℕ) → IsTrue (list_all (λ x. nat_lt x 256) xs) → (i : ℕ) → slice_index xs i < 256
+each_is_byte [] h i = omega arith
+each_is_byte (x ∷ xs) h zero = grind arith
+each_is_byte (x ∷ xs) h (suc i) = each_is_byte xs (grind arith) i
+
+-- What holds of two holds of each of both; and of three likewise.
+pub of_two : {X : Type 0} (P : X → Type 0) (a b : X) → P a → P b → (x : X) → Contains (a ∷ b ∷ []) x → P x
+of_two P a b first second x h =
+    elim (first_or_behind a (b ∷ []) x h) [ inl e ↦ subst P e first | inr i ↦ subst P (only_in b x i) second ]
+
+pub of_three : {X : Type 0} (P : X → Type 0) (a b c : X) → P a → P b → P c → (x : X) → Contains (a ∷ b ∷ c ∷ []) x → P x
+of_three P a b c first second third x h =
+    elim (first_or_behind a (b ∷ c ∷ []) x h) [ inl e ↦ subst P e first | inr i ↦ of_two P b c second third x i ]
+
+-- The second of a list is in it.
+pub second_of : {X : Type 0} (a b : X) (xs : List X) → Contains (a ∷ b ∷ xs) b
+second_of a b xs = behind_one a (b ∷ xs) b (first_of b xs)

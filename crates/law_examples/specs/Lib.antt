@@ -1,0 +1,3 @@
+pub mod OneJob
+pub mod Packets
+pub mod Pieces

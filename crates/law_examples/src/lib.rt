@@ -1,0 +1,7 @@
+//! An instance of each law that has premises: values that meet them, which can be followed by hand,
+//! and what the law says of these.
+#![tactic(auto)]
+
+mod packets;
+
+pub use packets::{examples_of_frames, examples_of_packets, examples_of_pieces};
