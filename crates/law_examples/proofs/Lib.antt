@@ -1,4 +1,5 @@
 mod ListLemmas
 mod StateLemmas
+mod DiagnosisLemmas
 mod PacketLemmas
 mod PieceLemmas

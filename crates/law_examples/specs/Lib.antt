@@ -1,3 +1,4 @@
 pub mod OneJob
+pub mod Diagnoses
 pub mod Packets
 pub mod Pieces

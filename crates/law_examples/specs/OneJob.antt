@@ -7,6 +7,7 @@ use Rattle.fc_base.specs.declared.record.Kind.TheVariants.{Sequential}
 use Rattle.fc_base.specs.declared.record.Verify.TheVariants.{Stamp}
 use Rattle.write_order.specs.Places.{place}
 use Rattle.verify_state.specs.State.{State}
+use Rattle.window.specs.History.{Event, issue, done}
 
 -- Job 0 of run 1 at server 0.
 abbrev pub key : Key
@@ -34,7 +35,12 @@ text = codes "[a]\nrw=write\nbs=512\nsize=1k\nio_size=3k\n"
 abbrev pub reading_text : List ℕ
 reading_text = codes "[a]\nrw=read\nbs=512\nsize=1k\nio_size=3k\nverify_state_load=1\n"
 
--- Writes 0, 1 and 2 are done, write 3 is in flight, and no other was issued.
+-- What happens to its writes up to a trigger, the newest first: writes 0, 1 and 2 are done, and
+-- write 3 is in flight.
+abbrev pub events : List Event
+events = issue 3 ∷ done 2 ∷ issue 2 ∷ done 1 ∷ issue 1 ∷ done 0 ∷ issue 0 ∷ []
+
+-- The state that the trigger takes.
 abbrev pub state : State
 state = record {
   key = key;

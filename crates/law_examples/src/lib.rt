@@ -2,6 +2,8 @@
 //! and what the law says of these.
 #![tactic(auto)]
 
+mod diagnoses;
 mod packets;
 
+pub use diagnoses::examples_of_diagnosis;
 pub use packets::{examples_of_frames, examples_of_packets, examples_of_pieces};
