@@ -3,3 +3,4 @@ mod StateLemmas
 mod DiagnosisLemmas
 mod PacketLemmas
 mod PieceLemmas
+mod LossLemmas

@@ -3,7 +3,9 @@
 #![tactic(auto)]
 
 mod diagnoses;
+mod losses;
 mod packets;
 
 pub use diagnoses::examples_of_diagnosis;
+pub use losses::examples_of_targets;
 pub use packets::{examples_of_frames, examples_of_packets, examples_of_pieces};

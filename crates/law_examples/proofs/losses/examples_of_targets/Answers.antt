@@ -1,0 +1,14 @@
+use Rattle.law_examples.proofs.LossLemmas as lemmas
+use Rattle.law_examples.proofs.losses.examples_of_targets.Goals as goal
+
+pub returns-clause-survivors : goal.returns-clause-survivors
+returns-clause-survivors c = lemmas.survivors_are_there c.examples.ensures.behind c.loss_law.ensures.survivors
+
+pub returns-clause-losses : goal.returns-clause-losses
+returns-clause-losses c = lemmas.loss_is_a_fault c.examples.ensures.behind c.loss_law.ensures.losses
+
+pub returns-clause-sound : goal.returns-clause-sound
+returns-clause-sound c = lemmas.sound_block_has_sound_units c.unit_law.ensures.sound
+
+pub returns-clause-whole : goal.returns-clause-whole
+returns-clause-whole c = lemmas.block_is_its_unit c.unit_law.ensures.whole
