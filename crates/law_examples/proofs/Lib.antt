@@ -1,6 +1,13 @@
 mod ListLemmas
 mod StateLemmas
+mod LegalLemmas
+mod FrameLemmas
+mod CutLemmas
 mod DiagnosisLemmas
 mod PacketLemmas
 mod PieceLemmas
 mod LossLemmas
+mod ClientCutLemmas
+mod MirrorCutLemmas
+mod ServerCutLemmas
+mod ServerLossLemmas

@@ -8,19 +8,19 @@ use Rattle.write_order.specs.Words.{word, state_after}
 use Rattle.verify_state.specs.State.{IsState, has_come_by}
 use Rattle.law_examples.specs.OneJob.{state}
 
-word_0 : word 1 0 < 2 ^ 64
+pub word_0 : word 1 0 < 2 ^ 64
 unfolding word state_after u32_at stream_of word_bytes fill_bytes
 word_0 = ltb-true (word 1 0) (2 ^ 64) refl
 
-word_1 : word 1 1 < 2 ^ 64
+pub word_1 : word 1 1 < 2 ^ 64
 unfolding word state_after u32_at stream_of word_bytes fill_bytes
 word_1 = ltb-true (word 1 1) (2 ^ 64) refl
 
-word_2 : word 1 2 < 2 ^ 64
+pub word_2 : word 1 2 < 2 ^ 64
 unfolding word state_after u32_at stream_of word_bytes fill_bytes
 word_2 = ltb-true (word 1 2) (2 ^ 64) refl
 
-word_3 : word 1 3 < 2 ^ 64
+pub word_3 : word 1 3 < 2 ^ 64
 unfolding word state_after u32_at stream_of word_bytes fill_bytes
 word_3 = ltb-true (word 1 3) (2 ^ 64) refl
 

@@ -3,3 +3,7 @@ pub mod Diagnoses
 pub mod Packets
 pub mod Pieces
 pub mod Losses
+pub mod ClientCut
+pub mod MirrorCut
+pub mod ServerCut
+pub mod ServerLoss

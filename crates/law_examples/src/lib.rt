@@ -2,10 +2,14 @@
 //! and what the law says of these.
 #![tactic(auto)]
 
+mod cuts;
 mod diagnoses;
 mod losses;
 mod packets;
 
+pub use cuts::{
+    examples_of_checks, examples_of_cut_clients, examples_of_cut_mirrors, examples_of_cut_servers,
+};
 pub use diagnoses::examples_of_diagnosis;
 pub use losses::examples_of_targets;
 pub use packets::{examples_of_frames, examples_of_packets, examples_of_pieces};

@@ -1,0 +1,98 @@
+-- A client that is cut, by computation and by the laws.
+use Rattle.std.proofs.Common.{◌≡◌, ◌+◌, ℕ, false, inl, inr, refl, sym, subst, arith, [], ◌∷◌, length, take, drop, take-append-drop}
+use Rattle.std.specs.Prelude.{Ok}
+use Rattle.fc_base.specs.Layouts.{bytes_of}
+use Rattle.messages.specs.declared.frame.Frame.TheVariants.{Whole}
+use Rattle.messages.specs.FrameLaws.{FramesAreRead}
+use Rattle.messages.specs.FrameBytes.{frame_spelling}
+use Rattle.messages.specs.Laws.{LengthsAreBounded}
+use Rattle.client_core.specs.Inputs.{Begin, Deliver}
+use Rattle.client_core.specs.Note.{blank, Says, IsNoted, SaysWhatIsWritten}
+use Rattle.client_core.specs.Refusals.{has_next, is_of_generation, is_free_to_number, is_for_client, is_from_server, is_from_mirror}
+use Rattle.filters.specs.declared.beginning.Beginning.TheVariants.{Renewed}
+use Rattle.filters.specs.declared.kinds.Told.TheVariants as told
+use Rattle.filters.specs.ClientAsks.{input_in}
+use Rattle.filters.specs.ClientCuts.{LivesGoOn, RenewalsGoOn}
+use Rattle.filters.specs.ClientLives.{ClientTakes, TakesBody, opening_bytes}
+use Rattle.filters.specs.Kinds.{told_numbered}
+use Rattle.filters.specs.Lives.{Lives}
+use Rattle.law_examples.specs.OneJob.{state, text}
+use Rattle.law_examples.specs.Packets.{state_packet}
+use Rattle.law_examples.specs.ClientCut.{opening, first, one_run, begun, kept, first_answer, second_answer, records, answers, ClientGoesOn, ClientIsCut, lost, RenewalIsCut}
+use Rattle.law_examples.proofs.CutLemmas.{in_two}
+use Rattle.law_examples.proofs.FrameLemmas.{state_is_short}
+use Rattle.law_examples.proofs.StateLemmas.{is_state}
+
+says_blank : Says [] blank
+says_blank = record {
+  note = record { generation = omega arith; runs = omega arith; attempts = omega arith; count = omega arith; states = tt; keys = refl };
+  spelled = inr (refl, refl);
+}
+
+pub is_begun_note : IsNoted one_run
+is_begun_note = record { generation = omega arith; runs = omega arith; attempts = omega arith; count = omega arith; states = tt; keys = refl }
+
+is_kept : IsNoted (record one_run { kept = state ∷ [] })
+is_kept = record { generation = omega arith; runs = omega arith; attempts = omega arith; count = omega arith; states = (is_state, tt); keys = refl }
+
+-- ---- the two records
+
+state_is_read : LengthsAreBounded → FramesAreRead → input_in told.Frame (frame_spelling (Whole state_packet)) ≡ Ok (Deliver (Whole state_packet))
+state_is_read lengths law =
+    let read = law (Whole state_packet) (record { in_range = refl; state = is_state }) (state_is_short lengths) in
+    rw (read.0, read.1) refl
+
+pub takes_begin : TakesBody opening first (Ok (Begin text)) begun first_answer
+unfolding bytes_of has_next is_of_generation is_free_to_number
+takes_begin = inl (refl, refl)
+
+takes_state : TakesBody opening begun (Ok (Deliver (Whole state_packet))) kept second_answer
+unfolding bytes_of has_next is_of_generation is_free_to_number is_for_client is_from_server is_from_mirror
+takes_state = inl (refl, refl)
+
+lives : LengthsAreBounded → FramesAreRead → SaysWhatIsWritten → Lives (ClientTakes opening) first records kept answers
+unfolding told_numbered has_next is_of_generation is_free_to_number is_for_client is_from_server is_from_mirror
+lives lengths law written = record {
+  before = begun;
+  earlier = first_answer;
+  answer = second_answer;
+  lived = record {
+    before = first;
+    earlier = [];
+    answer = first_answer;
+    lived = (refl, refl);
+    takes = (takes_begin, written one_run is_begun_note);
+    all = refl;
+  };
+  takes = (
+    subst (λ r. TakesBody opening begun r kept second_answer) (sym (state_is_read lengths law)) takes_state,
+    written (record one_run { kept = state ∷ [] }) is_kept,
+  );
+  all = refl;
+}
+
+goes_on : Lives (ClientTakes opening) first records kept answers → LivesGoOn → (n : ℕ) → ClientGoesOn n
+goes_on lived law n =
+    let at = length first_answer + n in
+    record {
+      may = tt;
+      says = says_blank;
+      lives = lived;
+      goes_on =
+          law false opening first kept records (take at answers) (drop at answers) tt says_blank
+          (in_two (ClientTakes opening) first records kept at answers lived);
+    }
+
+pub client_is_cut : LengthsAreBounded → FramesAreRead → SaysWhatIsWritten → LivesGoOn → ClientIsCut
+client_is_cut lengths read written law =
+    let lived = lives lengths read written in
+    record { in_save = goes_on lived law 100; behind_save = goes_on lived law 200 }
+
+pub renewal_is_cut : RenewalsGoOn → RenewalIsCut
+renewal_is_cut law = record {
+  generation = refl;
+  says = says_blank;
+  renewed =
+      law 2 opening lost (take 20 (opening_bytes (Renewed 2))) (drop 20 (opening_bytes (Renewed 2))) refl says_blank
+      (sym (take-append-drop 20 (opening_bytes (Renewed 2))));
+}

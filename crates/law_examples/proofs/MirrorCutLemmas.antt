@@ -1,0 +1,90 @@
+-- A mirror that is cut, by computation and by the laws.
+use Rattle.std.proofs.Common.{◌≡◌, ◌+◌, ℕ, inl, inr, refl, sym, subst, arith, [], ◌∷◌, length, take, drop}
+use Rattle.std.specs.Prelude.{Ok}
+use Rattle.fc_base.specs.Layouts.{bytes_of}
+use Rattle.messages.specs.declared.body.Body.TheVariants.{Copy, Fetch}
+use Rattle.messages.specs.FrameLaws.{FramesAreRead}
+use Rattle.messages.specs.FrameBytes.{frame_spelling}
+use Rattle.messages.specs.Laws.{LengthsAreBounded}
+use Rattle.mirror_core.specs.Note.{blank, Says, IsNoted, SaysWhatIsWritten}
+use Rattle.filters.specs.Kinds.{told_numbered}
+use Rattle.filters.specs.Lives.{Lives}
+use Rattle.filters.specs.MirrorCuts.{LivesGoOn}
+use Rattle.filters.specs.MirrorLives.{MirrorTakes, TakesBody, frame_in}
+use Rattle.law_examples.specs.OneJob.{state}
+use Rattle.law_examples.specs.MirrorCut.{asks, first, granted, kept, first_answer, second_answer, records, answers, MirrorGoesOn, MirrorIsCut}
+use Rattle.law_examples.proofs.CutLemmas.{in_two}
+use Rattle.law_examples.proofs.FrameLemmas.{copy_is_short}
+use Rattle.law_examples.proofs.StateLemmas.{is_state}
+
+says_first : Says [] blank
+says_first = record {
+  note = record { generation = omega arith; count = omega arith; states = tt; keys = refl };
+  spelled = inr (refl, refl);
+}
+
+is_granted : IsNoted (record { generation = 1; kept = [] })
+is_granted = record { generation = omega arith; count = omega arith; states = tt; keys = refl }
+
+is_kept : IsNoted (record { generation = 1; kept = state ∷ [] })
+is_kept = record { generation = omega arith; count = omega arith; states = (is_state, tt); keys = refl }
+
+-- ---- the two records
+
+fetch_is_read : FramesAreRead → frame_in (frame_spelling (asks (Fetch 1))) ≡ Ok (asks (Fetch 1))
+fetch_is_read law =
+    let read = law (asks (Fetch 1)) (record { in_range = refl; state = tt }) (omega arith) in
+    rw (read.0, read.1) refl
+
+copy_is_read : LengthsAreBounded → FramesAreRead → frame_in (frame_spelling (asks (Copy state))) ≡ Ok (asks (Copy state))
+copy_is_read lengths law =
+    let read = law (asks (Copy state)) (record { in_range = refl; state = is_state }) (copy_is_short lengths) in
+    rw (read.0, read.1) refl
+
+takes_fetch : TakesBody blank first (Ok (asks (Fetch 1))) granted first_answer
+unfolding bytes_of
+takes_fetch = inl (refl, refl)
+
+takes_copy : TakesBody blank granted (Ok (asks (Copy state))) kept second_answer
+unfolding bytes_of
+takes_copy = inl (refl, refl)
+
+lives : LengthsAreBounded → FramesAreRead → SaysWhatIsWritten → Lives (MirrorTakes blank) first records kept answers
+unfolding told_numbered
+lives lengths law written = record {
+  before = granted;
+  earlier = first_answer;
+  answer = second_answer;
+  lived = record {
+    before = first;
+    earlier = [];
+    answer = first_answer;
+    lived = (refl, refl);
+    takes = (
+      subst (λ r. TakesBody blank first r granted first_answer) (sym (fetch_is_read law)) takes_fetch,
+      written (record { generation = 1; kept = [] }) is_granted,
+    );
+    all = refl;
+  };
+  takes = (
+    subst (λ r. TakesBody blank granted r kept second_answer) (sym (copy_is_read lengths law)) takes_copy,
+    written (record { generation = 1; kept = state ∷ [] }) is_kept,
+  );
+  all = refl;
+}
+
+goes_on : Lives (MirrorTakes blank) first records kept answers → LivesGoOn → (n : ℕ) → MirrorGoesOn n
+goes_on lived law n =
+    let at = length first_answer + n in
+    record {
+      says = says_first;
+      lives = lived;
+      goes_on =
+          law blank first kept records (take at answers) (drop at answers) says_first
+          (in_two (MirrorTakes blank) first records kept at answers lived);
+    }
+
+pub mirror_is_cut : LengthsAreBounded → FramesAreRead → SaysWhatIsWritten → LivesGoOn → MirrorIsCut
+mirror_is_cut lengths read written law =
+    let lived = lives lengths read written in
+    record { in_save = goes_on lived law 100; behind_save = goes_on lived law 180 }

@@ -1,0 +1,110 @@
+-- A server that is cut, by computation and by the laws.
+use Rattle.std.proofs.Common.{◌≡◌, ◌+◌, ℕ, zero, suc, inl, refl, sym, subst, arith, [], ◌∷◌, length, take, drop}
+use Rattle.std.specs.Prelude.{Ok}
+use Rattle.fc_base.specs.Layouts.{bytes_of}
+use Rattle.messages.specs.declared.body.Body.TheVariants.{Jobs, Start}
+use Rattle.messages.specs.declared.frame.Frame.TheVariants.{Whole}
+use Rattle.messages.specs.FrameLaws.{FramesAreRead}
+use Rattle.messages.specs.FrameBytes.{frame_spelling, frame_at, frame_faults}
+use Rattle.write_order.specs.Stamps.{counting_bytes, stamped_sector}
+use Rattle.server_core.specs.declared.input.Input.TheVariants.{Deliver}
+use Rattle.server_core.specs.Note.{Says}
+use Rattle.server_core.specs.Run.{has_open, have_ended}
+use Rattle.server_core.specs.Texts.{jobs_for}
+use Rattle.filters.specs.Kinds.{told_numbered}
+use Rattle.filters.specs.Lives.{Lives}
+use Rattle.filters.specs.ServerAt.{ServerAt, noted}
+use Rattle.filters.specs.ServerCuts.{LivesGoOn}
+use Rattle.filters.specs.ServerLives.{ServerTakes, TakesBody, frame_in}
+use Rattle.filters.specs.ServerOrders.{AreAllGiven}
+use Rattle.filters.specs.ServerTurns.{Turns, Asks}
+use Rattle.law_examples.specs.OneJob.{text}
+use Rattle.law_examples.specs.Packets.{to_server}
+use Rattle.law_examples.specs.ServerCut.{opening, first, staged, started, first_order, first_answer, second_answer, records, answers, ServerGoesOn, ServerIsCut}
+use Rattle.law_examples.proofs.CutLemmas.{in_two}
+
+-- ---- the two records
+
+jobs_are_read : FramesAreRead
+    → frame_in (frame_faults (frame_spelling (Whole (to_server (Jobs 1 text))))) (frame_at (frame_spelling (Whole (to_server (Jobs 1 text)))))
+    ≡ Ok (Deliver (Whole (to_server (Jobs 1 text))))
+jobs_are_read law =
+    let read = law (Whole (to_server (Jobs 1 text))) (record { in_range = refl; state = tt }) (omega arith) in
+    rw (read.0, read.1) refl
+
+start_is_read : FramesAreRead
+    → frame_in (frame_faults (frame_spelling (Whole (to_server (Start 1))))) (frame_at (frame_spelling (Whole (to_server (Start 1)))))
+    ≡ Ok (Deliver (Whole (to_server (Start 1))))
+start_is_read law =
+    let read = law (Whole (to_server (Start 1))) (record { in_range = refl; state = tt }) (omega arith) in
+    rw (read.0, read.1) refl
+
+none_yet : AreAllGiven opening staged.list
+unfolding jobs_for has_open have_ended
+none_yet j few = refl
+
+-- With one write open the job is given no other, and there is no other job.
+all_given : AreAllGiven opening started.list
+unfolding jobs_for has_open have_ended
+all_given zero few = refl
+all_given (suc j) few = refl
+
+pub takes_jobs : TakesBody opening first (Ok (Deliver (Whole (to_server (Jobs 1 text))))) staged first_answer
+unfolding bytes_of jobs_for has_open have_ended
+takes_jobs = inl (record { written = []; turns = ([], (refl, refl)); ordered = none_yet; all = refl })
+
+-- The server once its Start is taken, and before its first turn.
+asked : ServerAt
+asked = record started { list = drop 1 started.list }
+
+orders : Turns opening asked started first_order
+unfolding asked bytes_of jobs_for has_open have_ended stamped_sector counting_bytes
+orders = (
+  Asks 0 ∷ [],
+  record { before = asked; earlier = []; answer = first_order; lived = (refl, refl); takes = (refl, refl); all = refl },
+)
+
+pub takes_start : TakesBody opening staged (Ok (Deliver (Whole (to_server (Start 1))))) started second_answer
+unfolding asked bytes_of jobs_for has_open have_ended
+takes_start = inl (record { written = first_order; turns = orders; ordered = all_given; all = refl })
+
+says_boot : Says first.note (noted opening first.list)
+says_boot = record { boot_range = omega arith; last_range = omega arith; spelled = inl refl }
+
+pub says_start : Says started.note (noted opening started.list)
+unfolding jobs_for has_open have_ended
+says_start = record { boot_range = omega arith; last_range = omega arith; spelled = inl refl }
+
+lives : FramesAreRead → Lives (ServerTakes opening) first records started answers
+unfolding told_numbered jobs_for has_open have_ended
+lives law = record {
+  before = staged;
+  earlier = first_answer;
+  answer = second_answer;
+  lived = record {
+    before = first;
+    earlier = [];
+    answer = first_answer;
+    lived = (refl, refl);
+    takes = (subst (λ r. TakesBody opening first r staged first_answer) (sym (jobs_are_read law)) takes_jobs, says_boot);
+    all = refl;
+  };
+  takes = (subst (λ r. TakesBody opening staged r started second_answer) (sym (start_is_read law)) takes_start, says_start);
+  all = refl;
+}
+
+goes_on : Lives (ServerTakes opening) first records started answers → LivesGoOn → (n : ℕ) → ServerGoesOn n
+goes_on lived law n =
+    let at = length first_answer + n in
+    record {
+      says = says_boot;
+      lives = lived;
+      goes_on =
+          law opening first started records (take at answers) (drop at answers) says_boot
+          (in_two (ServerTakes opening) first records started at answers lived);
+    }
+
+pub server_is_cut : FramesAreRead → LivesGoOn → ServerIsCut
+server_is_cut read law =
+    let lived = lives read in
+    record { in_save = goes_on lived law 20; behind_save = goes_on lived law 100 }

@@ -1,0 +1,93 @@
+-- A server's filter that is cut in its answer: an instance of the law of servers that are cut.
+use Rattle.std.specs.Prelude.{ℕ, ◌+◌, List, [], ◌∷◌, ◌++◌, length, take, Ok}
+use Rattle.disk_model.specs.declared.left.Left.TheVariants.{NoSave, Saved}
+use Rattle.messages.specs.declared.body.Body.{Body}
+use Rattle.messages.specs.declared.body.Body.TheVariants.{Jobs, JobsOk, Start, Started}
+use Rattle.messages.specs.declared.frame.Frame.TheVariants.{Whole}
+use Rattle.messages.specs.declared.node.Node.TheVariants.{Server, Client}
+use Rattle.messages.specs.FrameBytes.{frame_spelling}
+use Rattle.write_order.specs.Stamps.{stamped_sector}
+use Rattle.server_core.specs.declared.input.Input.TheVariants.{Deliver, Issue}
+use Rattle.server_core.specs.Hearing.{FrameEntry, Met, Restart}
+use Rattle.server_core.specs.History.{Opening}
+use Rattle.server_core.specs.Note.{Says, spelling}
+use Rattle.filters.specs.declared.kinds.Said.TheVariants.{Save, Send, Order}
+use Rattle.filters.specs.declared.kinds.Told.TheVariants as told
+use Rattle.filters.specs.Kinds.{told_number, said_number}
+use Rattle.filters.specs.Lives.{RecordParts, Lives}
+use Rattle.filters.specs.Records.{record_bytes, end_bytes}
+use Rattle.filters.specs.ServerAt.{ServerAt, no_checks, noted}
+use Rattle.filters.specs.ServerCuts.{GoesOnFrom}
+use Rattle.filters.specs.ServerLives.{ServerTakes}
+use Rattle.filters.specs.ServerTells.{order_name}
+use Rattle.law_examples.specs.OneJob.{key, text}
+use Rattle.law_examples.specs.Packets.{to_server}
+
+-- Server 0, whose note was empty.
+abbrev pub opening : Opening
+opening = record { me = 0; boot = 0; last = 0 }
+
+-- It begins, in its first boot.
+abbrev pub first : ServerAt
+first = record {
+  list = Restart Saved ∷ [];
+  note = spelling (record { boot = 1; last_run = 0 });
+  checks = no_checks;
+}
+
+-- The client says this to it.
+abbrev pub hears : Body → FrameEntry
+hears body = Met (Deliver (Whole (to_server body))) NoSave
+
+-- The text of run 1 has come.
+abbrev pub staged : ServerAt
+staged = record first { list = hears (Jobs 1 text) ∷ first.list }
+
+-- The run is started, which is noted, and its first write is ordered.
+abbrev pub started : ServerAt
+started = record {
+  list = Met (Issue 0) NoSave ∷ (Met (Deliver (Whole (to_server (Start 1)))) Saved ∷ staged.list);
+  note = spelling (record { boot = 1; last_run = 1 });
+  checks = no_checks;
+}
+
+-- The record that brings what the client says, and the one with what the server says.
+abbrev pub reads : Body → RecordParts
+reads body = record { kind = told_number told.Frame; body = frame_spelling (Whole (to_server body)) }
+
+abbrev pub says : Body → List ℕ
+says body =
+    record_bytes (said_number Send)
+    (frame_spelling (Whole (record { from = Server 0; to = Client; body = body })))
+
+-- The order of write 0: which it is, and the bytes of its block.
+abbrev pub first_order : List ℕ
+first_order = record_bytes (said_number Order) (order_name key 0 0 ++ stamped_sector key 0 0 0)
+
+-- What is answered to the text: the JobsOk, and the end.
+abbrev pub first_answer : List ℕ
+first_answer = says (JobsOk 1 1) ++ end_bytes (Ok tt)
+
+-- What is answered to the Start: the note, the Started, the order, and the end.
+abbrev pub second_answer : List ℕ
+second_answer =
+    (record_bytes (said_number Save) started.note ++ says (Started 1))
+    ++ (first_order ++ end_bytes (Ok tt))
+
+-- What the server reads, the newest first, and all that it answers.
+abbrev pub records : List RecordParts
+records = reads (Start 1) ∷ reads (Jobs 1 text) ∷ []
+
+abbrev pub answers : List ℕ
+answers = first_answer ++ second_answer
+
+-- The answers are cut behind so many bytes of the second one. The next life goes on from there.
+pub record ServerGoesOn (n : ℕ) : Type 0 where
+  pub says : Says first.note (noted opening first.list)
+  pub lives : Lives (ServerTakes opening) first records started answers
+  pub goes_on : GoesOnFrom opening first records (take (length first_answer + n) answers)
+
+-- So it does where the cut is within the save of the Start, and where it is within the order.
+pub record ServerIsCut : Type 0 where
+  pub in_save : ServerGoesOn 20
+  pub behind_save : ServerGoesOn 100
