@@ -23,7 +23,7 @@ use Rattle.law_examples.proofs.CutLemmas.{in_two}
 use Rattle.law_examples.proofs.FrameLemmas.{state_is_short}
 use Rattle.law_examples.proofs.StateLemmas.{is_state}
 
-says_blank : Says [] blank
+pub says_blank : Says [] blank
 says_blank = record {
   note = record { generation = omega arith; runs = omega arith; attempts = omega arith; count = omega arith; states = tt; keys = refl };
   spelled = inr (refl, refl);

@@ -11,3 +11,6 @@ mod ClientCutLemmas
 mod MirrorCutLemmas
 mod ServerCutLemmas
 mod ServerLossLemmas
+mod StoryClientLemmas
+mod StoryServerLemmas
+mod FleetLemmas

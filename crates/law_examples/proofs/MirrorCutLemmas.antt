@@ -17,7 +17,7 @@ use Rattle.law_examples.proofs.CutLemmas.{in_two}
 use Rattle.law_examples.proofs.FrameLemmas.{copy_is_short}
 use Rattle.law_examples.proofs.StateLemmas.{is_state}
 
-says_first : Says [] blank
+pub says_first : Says [] blank
 says_first = record {
   note = record { generation = omega arith; count = omega arith; states = tt; keys = refl };
   spelled = inr (refl, refl);

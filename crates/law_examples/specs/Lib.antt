@@ -7,3 +7,5 @@ pub mod ClientCut
 pub mod MirrorCut
 pub mod ServerCut
 pub mod ServerLoss
+pub mod Story
+pub mod Fleet

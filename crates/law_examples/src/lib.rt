@@ -4,6 +4,7 @@
 
 mod cuts;
 mod diagnoses;
+mod fleets;
 mod losses;
 mod packets;
 
@@ -11,5 +12,6 @@ pub use cuts::{
     examples_of_checks, examples_of_cut_clients, examples_of_cut_mirrors, examples_of_cut_servers,
 };
 pub use diagnoses::examples_of_diagnosis;
+pub use fleets::examples_of_fleets;
 pub use losses::examples_of_targets;
 pub use packets::{examples_of_frames, examples_of_packets, examples_of_pieces};
