@@ -45,7 +45,7 @@ undamaged bytes far d = let near : is_near_expected expected 0 bytes ≡ true = 
 
 -- ---- what it holds
 
-room : (k block : ℕ) → k < 6 → block < 2 → HasRoom (said k block).write
+pub room : (k block : ℕ) → k < 6 → block < 2 → HasRoom (said k block).write
 room k block few near = record { run = omega arith; server = omega arith; job = omega arith; seq = omega (arith, few); block = omega (arith, near) }
 
 holds_0 : HoldsWrite expected (sector 0 0) (said 0 0).write
@@ -95,13 +95,17 @@ bytes_3 = refl
 pub says_that_alone : SectorsSayOneThing → SaysThatAlone
 says_that_alone law = record { says = says; alone = λ fields h. law (sector 3 1) (fields_of (said 3 1)) fields says h }
 
-pub is_lost_alone : EachBlockHoldsOneKind → IsLostAlone 0
-is_lost_alone law = record {
-  limits = refl;
-  length_is = length_0;
-  holds = lost;
-  alone = λ kind h. law expected refl 0 (sector 0 0) length_0 (kinds.Lost 0) kind lost h;
-}
+-- Where block 0 holds write k: each premise is a computation at that number.
+pub is_lost_alone : (k : ℕ) → length (sector k 0) ≡ 512 → is_expected expected 0 (sector k 0) ≡ false → is_near_expected expected 0 (sector k 0) ≡ false
+    → HoldsWrite expected (sector k 0) (said k 0).write → k < 2 → EachBlockHoldsOneKind → IsLostAlone k
+is_lost_alone k length_is unexpected far held older law =
+    let holds : BlockHolds expected 0 (sector k 0) (kinds.Lost k) = (unexpected, (undamaged (sector k 0) far, (held, older))) in
+    record {
+      limits = refl;
+      length_is = length_is;
+      holds = holds;
+      alone = λ kind h. law expected refl 0 (sector k 0) length_is (kinds.Lost k) kind holds h;
+    }
 
 pub is_misdirected : NamedWritesAreHeld → IsMisdirected
 is_misdirected law = record { holds = misdirected; held = law expected 0 (sector 3 1) (kinds.Misdirected (said 3 1).write) misdirected }

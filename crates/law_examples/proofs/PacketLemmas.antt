@@ -1,8 +1,8 @@
 -- Packets, by computation and by the laws of messages.
-use Rattle.std.proofs.Common.{refl}
+use Rattle.std.proofs.Common.{◌≡◌, ℕ, refl}
 use Rattle.fc_base.specs.Layouts.{bytes_of, number_in}
-use Rattle.verify_state.specs.Spelling as states
-use Rattle.messages.specs.Bodies.{spelled_state}
+use Rattle.messages.specs.declared.kind.PacketKind.TheVariants as kinds
+use Rattle.messages.specs.Bodies.{length_of, length_limit}
 use Rattle.messages.specs.Kinds.{kind_numbered}
 use Rattle.messages.specs.Laws.{IsPacket, SpellingsAreRead, OnlyPacketsAreRead, NoneBeginsAnother, LengthsAreBounded}
 use Rattle.law_examples.specs.OneJob.{state}
@@ -41,12 +41,11 @@ begins_no_other law = record {
   no_other = λ q more h e. law start_packet q more start_is_packet h e;
 }
 
-pub is_within_its_length : LengthsAreBounded → IsWithinItsLength 140
-unfolding bytes_of spelled_state states.spelling states.key_bytes states.job_bytes
-is_within_its_length law = record {
+pub is_within_its_length : (n : ℕ) → length_of (State 1 state) ≡ n → length_limit kinds.State ≡ n → LengthsAreBounded → IsWithinItsLength n
+is_within_its_length n length_is limit_is law = record {
   in_range = refl;
   keeps = is_state;
   bounded = law (State 1 state) refl is_state;
-  length_is = refl;
-  limit_is = refl;
+  length_is = length_is;
+  limit_is = limit_is;
 }

@@ -3,6 +3,7 @@ use Rattle.std.proofs.Common.{◌≡◌, ◌<◌, ◌≤◌, ℕ, zero, suc, tru
 use Rattle.std.specs.Prelude.{IsTrue, codes, slice_index}
 use Rattle.rand_core.specs.Steps.{u32_at, stream_of, word_bytes}
 use Rattle.rand_core.specs.Stream.{fill_bytes}
+use Rattle.fc_base.specs.declared.report.ReportParts.{ReportParts}
 use Rattle.fc_base.specs.Counted.{has}
 use Rattle.job_file.specs.declared.job.Job.{Job}
 use Rattle.verify_state.specs.Misfit.{misfit}
@@ -20,7 +21,7 @@ use Rattle.server_core.specs.Texts.{jobs_for}
 use Rattle.server_core.specs.Hearing.{packets_heard}
 use Rattle.filters.specs.ServerLosses.{Reports, SurvivesIn, IsTakenOf, FaultsAreLosses, ListedHaveLost, SurvivorsAreNoFaults, LossesAreFaults}
 use Rattle.filters.specs.ServerTurns.{IsNew, ready_by}
-use Rattle.filters.specs.UnderWay.{UnderWay, IsOver}
+use Rattle.filters.specs.UnderWay.{UnderWay, IsOver, report_on}
 use Rattle.law_examples.specs.OneJob.{key, job, state, events}
 use Rattle.law_examples.specs.ServerCut.{opening}
 use Rattle.law_examples.specs.ServerLoss.{triggered, at, came, report, AllSurvive, OneIsLost}
@@ -70,15 +71,8 @@ over_2 : IsOver (record begins { came = came 2 }) (report [])
 unfolding stamped_sector counting_bytes
 over_2 = record { report = refl; over = inl (λ b from below. absurd (omega (arith, from, below))) }
 
-over_0 : IsOver (record begins { came = came 0 }) (report (0 ∷ []))
-unfolding stamped_sector counting_bytes
-over_0 = record { report = refl; over = inl (λ b from below. absurd (omega (arith, from, below))) }
-
 abbrev check_2 : Reports opening at 0 (came 2) (report [])
 check_2 = record { first = begins; new = is_new; over = over_2 }
-
-abbrev check_0 : Reports opening at 0 (came 0) (report (0 ∷ []))
-check_0 = record { first = begins; new = is_new; over = over_0 }
 
 is_taken : state_taken opening (packets_heard opening triggered) 0 ≡ Some state
 unfolding jobs_for has_open have_ended job_state word state_after u32_at stream_of word_bytes fill_bytes
@@ -116,25 +110,38 @@ all_survive faults law = record {
 taken : IsTakenOf job state events
 taken = record { origin = record { boot = 1; key = key; job = job }; job_is = refl; limits = refl; legal = is_legal; taken = refl }
 
--- Write 0 has another last byte of its number than write 2, and write 3 goes to the other block.
-other : (k : ℕ) → 2 ≤ k → k < 4 → block_of job k ≡ 0 → stamped_sector key 0 0 0 ≡ written_bytes key job k 0 → ⊥
-unfolding stamped_sector counting_bytes
-other zero some few goes e = absurd (omega (arith, some))
-other (suc zero) some few goes e = absurd (omega (arith, some))
-other (suc (suc zero)) some few goes e = let byte : 0 ≡ 2 = ap (λ l. slice_index l 23) e in absurd (omega (arith, byte))
-other (suc (suc (suc zero))) some few goes e = let block : 1 ≡ 0 = goes in absurd (omega (arith, block))
-other (suc (suc (suc (suc k)))) some few goes e = absurd (omega (arith, few))
+-- What the check of these blocks reports.
+abbrev pub report_behind : ℕ → ReportParts
+report_behind k = report_on (record begins { came = came k }) 2
 
-gone : SurvivesIn check_0 state 2 → ⊥
-gone s = other s.write s.later s.issued s.goes s.holds
-
-pub one_is_lost : ListedHaveLost → LossesAreFaults → OneIsLost 0
-one_is_lost listed law = record {
-  check = check_0;
-  state_is = refl;
-  taken = taken;
-  done = refl;
-  gone = gone;
-  fault = law opening at 0 (came 0) (report (0 ∷ [])) check_0 state events refl taken 2 refl gone;
-  lost = listed opening at 0 (came 0) (report (0 ∷ [])) check_0 0 refl;
+-- Where block 0 holds write k, the check of it reports one fault.
+abbrev check_of : (k : ℕ) → report (0 ∷ []) ≡ report_behind k → Reports opening at 0 (came k) (report (0 ∷ []))
+check_of k told = record {
+  first = begins;
+  new = is_new;
+  over = record { report = told; over = inl (λ b from below. absurd (omega (arith, from, below))) };
 }
+
+-- Write k has another last byte of its number than write 2, and write 3 goes to the other block.
+other : (k : ℕ) → slice_index (stamped_sector key k 0 0) 23 < 2 → (l : ℕ) → 2 ≤ l → l < 4 → block_of job l ≡ 0
+    → stamped_sector key k 0 0 ≡ written_bytes key job l 0 → ⊥
+unfolding stamped_sector counting_bytes
+other k byte zero some few goes e = absurd (omega (arith, some))
+other k byte (suc zero) some few goes e = absurd (omega (arith, some))
+other k byte (suc (suc zero)) some few goes e =
+    let same : slice_index (stamped_sector key k 0 0) 23 ≡ 2 = ap (λ l. slice_index l 23) e in absurd (omega (arith, byte, same))
+other k byte (suc (suc (suc zero))) some few goes e = let block : 1 ≡ 0 = goes in absurd (omega (arith, block))
+other k byte (suc (suc (suc (suc l)))) some few goes e = absurd (omega (arith, few))
+
+pub one_is_lost : (k : ℕ) → report (0 ∷ []) ≡ report_behind k → slice_index (stamped_sector key k 0 0) 23 < 2 → ListedHaveLost → LossesAreFaults → OneIsLost k
+one_is_lost k told byte listed law =
+    let gone : SurvivesIn (check_of k told) state 2 → ⊥ = λ s. other k byte s.write s.later s.issued s.goes s.holds in
+    record {
+      check = check_of k told;
+      state_is = refl;
+      taken = taken;
+      done = refl;
+      gone = gone;
+      fault = law opening at 0 (came k) (report (0 ∷ [])) (check_of k told) state events refl taken 2 refl gone;
+      lost = listed opening at 0 (came k) (report (0 ∷ [])) (check_of k told) 0 refl;
+    }

@@ -1,3 +1,5 @@
+use Rattle.std.proofs.Common.{refl, arith}
+use Rattle.write_order.specs.Stamps.{counting_bytes, stamped_sector}
 use Rattle.law_examples.proofs.ServerLossLemmas as lemmas
 use Rattle.law_examples.proofs.cuts.examples_of_checks.Goals as goal
 
@@ -5,4 +7,5 @@ pub returns-clause-survive : goal.returns-clause-survive
 returns-clause-survive c = lemmas.all_survive c.server_loss_law.ensures.faults c.server_loss_law.ensures.survivors
 
 pub returns-clause-lost : goal.returns-clause-lost
-returns-clause-lost c = lemmas.one_is_lost c.server_loss_law.ensures.listed c.server_loss_law.ensures.losses
+unfolding stamped_sector counting_bytes
+returns-clause-lost c = lemmas.one_is_lost _ refl (omega arith) c.server_loss_law.ensures.listed c.server_loss_law.ensures.losses

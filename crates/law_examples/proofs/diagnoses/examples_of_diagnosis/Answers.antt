@@ -1,3 +1,5 @@
+use Rattle.std.proofs.Common.{refl, arith}
+use Rattle.write_order.specs.Stamps.{counting_bytes, stamped_sector}
 use Rattle.law_examples.proofs.DiagnosisLemmas as lemmas
 use Rattle.law_examples.proofs.diagnoses.examples_of_diagnosis.Goals as goal
 
@@ -5,7 +7,11 @@ pub returns-clause-says : goal.returns-clause-says
 returns-clause-says c = lemmas.says_that_alone c.sectors_say_one_thing.ensures
 
 pub returns-clause-alone : goal.returns-clause-alone
-returns-clause-alone c = lemmas.is_lost_alone c.each_block_holds_one_kind.ensures
+unfolding stamped_sector counting_bytes lib.Count.ones
+returns-clause-alone c =
+    lemmas.is_lost_alone _ refl refl refl
+    (record { stamps = refl; room = lemmas.room _ 0 (omega arith) (omega arith); possible = refl; held = refl }) (omega arith)
+    c.each_block_holds_one_kind.ensures
 
 pub returns-clause-misdirected : goal.returns-clause-misdirected
 returns-clause-misdirected c = lemmas.is_misdirected c.named_writes_are_held.ensures

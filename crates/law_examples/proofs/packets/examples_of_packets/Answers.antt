@@ -1,3 +1,7 @@
+use Rattle.std.proofs.Common.{refl}
+use Rattle.fc_base.specs.Layouts.{bytes_of}
+use Rattle.verify_state.specs.Spelling as states
+use Rattle.messages.specs.Bodies.{spelled_state}
 use Rattle.law_examples.proofs.PacketLemmas as lemmas
 use Rattle.law_examples.proofs.packets.examples_of_packets.Goals as goal
 
@@ -11,4 +15,5 @@ pub returns-clause-begins : goal.returns-clause-begins
 returns-clause-begins c = lemmas.begins_no_other c.no_spelling_begins_another.ensures
 
 pub returns-clause-within : goal.returns-clause-within
-returns-clause-within c = lemmas.is_within_its_length c.lengths_are_bounded.ensures
+unfolding bytes_of spelled_state states.spelling states.key_bytes states.job_bytes
+returns-clause-within c = lemmas.is_within_its_length _ refl refl c.lengths_are_bounded.ensures
