@@ -1,13 +1,15 @@
 -- A client that is cut, by computation and by the laws.
-use Rattle.std.proofs.Common.{◌≡◌, ◌+◌, ℕ, false, inl, inr, refl, sym, subst, arith, [], ◌∷◌, length, take, drop, take-append-drop}
+use Rattle.std.proofs.Common.{◌≡◌, ◌<◌, ◌+◌, ℕ, false, inl, inr, refl, sym, subst, arith, [], ◌∷◌, ◌++◌, length, take, drop, take-append-drop}
 use Rattle.std.specs.Prelude.{Ok}
+use Rattle.std.proofs.lemmas.Bool.{ltb-true}
 use Rattle.fc_base.specs.Layouts.{bytes_of}
 use Rattle.messages.specs.declared.frame.Frame.TheVariants.{Whole}
 use Rattle.messages.specs.FrameLaws.{FramesAreRead}
 use Rattle.messages.specs.FrameBytes.{frame_spelling}
 use Rattle.messages.specs.Laws.{LengthsAreBounded}
 use Rattle.client_core.specs.Inputs.{Begin, Deliver}
-use Rattle.client_core.specs.Note.{blank, Says, IsNoted, SaysWhatIsWritten}
+use Rattle.verify_state.specs.Spelling.{spelling as state_bytes, key_bytes, job_bytes}
+use Rattle.client_core.specs.Note.{numbers_of, note_of, blank, Says, IsNoted, SaysWhatIsWritten}
 use Rattle.client_core.specs.Refusals.{has_next, is_of_generation, is_free_to_number, is_for_client, is_from_server, is_from_mirror}
 use Rattle.filters.specs.declared.beginning.Beginning.TheVariants.{Renewed}
 use Rattle.filters.specs.declared.kinds.Told.TheVariants as told
@@ -16,9 +18,10 @@ use Rattle.filters.specs.ClientCuts.{LivesGoOn, RenewalsGoOn}
 use Rattle.filters.specs.ClientLives.{ClientTakes, TakesBody, opening_bytes}
 use Rattle.filters.specs.Kinds.{told_numbered}
 use Rattle.filters.specs.Lives.{Lives}
+use Rattle.filters.specs.NodeCuts.{saved}
 use Rattle.law_examples.specs.OneJob.{state, text}
 use Rattle.law_examples.specs.Packets.{state_packet}
-use Rattle.law_examples.specs.ClientCut.{opening, first, one_run, begun, kept, first_answer, second_answer, records, answers, ClientGoesOn, ClientIsCut, lost, RenewalIsCut}
+use Rattle.law_examples.specs.ClientCut.{opening, first, one_run, begun, kept, acknowledges, first_answer, second_answer, records, answers, ClientGoesOn, ClientIsCut, lost, RenewalIsCut}
 use Rattle.law_examples.proofs.CutLemmas.{in_two}
 use Rattle.law_examples.proofs.FrameLemmas.{state_is_short}
 use Rattle.law_examples.proofs.StateLemmas.{is_state}
@@ -83,10 +86,30 @@ goes_on lived law n =
           (in_two (ClientTakes opening) first records kept at answers lived);
     }
 
+-- ---- where the cuts are
+
+is_in_save : 100 < length (saved kept.note)
+unfolding bytes_of note_of numbers_of state_bytes key_bytes job_bytes
+is_in_save = ltb-true 100 (length (saved kept.note)) refl
+
+is_behind_save : length (saved kept.note) < 200
+unfolding bytes_of note_of numbers_of state_bytes key_bytes job_bytes
+is_behind_save = ltb-true (length (saved kept.note)) 200 refl
+
+is_in_sent : 200 < length (saved kept.note ++ acknowledges)
+unfolding bytes_of note_of numbers_of state_bytes key_bytes job_bytes
+is_in_sent = ltb-true 200 (length (saved kept.note ++ acknowledges)) refl
+
 pub client_is_cut : LengthsAreBounded → FramesAreRead → SaysWhatIsWritten → LivesGoOn → ClientIsCut
 client_is_cut lengths read written law =
     let lived = lives lengths read written in
-    record { in_save = goes_on lived law 100; behind_save = goes_on lived law 200 }
+    record {
+      is_in_save = is_in_save;
+      in_save = goes_on lived law 100;
+      is_behind_save = is_behind_save;
+      is_in_sent = is_in_sent;
+      behind_save = goes_on lived law 200;
+    }
 
 pub renewal_is_cut : RenewalsGoOn → RenewalIsCut
 renewal_is_cut law = record {

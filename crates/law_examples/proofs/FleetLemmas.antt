@@ -1,6 +1,7 @@
 -- The fleet goes through the story, by the steps of its nodes and by the laws.
-use Rattle.std.proofs.Common.{◌≡◌, ◌<◌, ℕ, zero, suc, inl, refl, arith, List, [], ◌∷◌, ◌++◌, take}
+use Rattle.std.proofs.Common.{◌≡◌, ◌<◌, ℕ, zero, suc, inl, refl, arith, List, [], ◌∷◌, ◌++◌, length, take}
 use Rattle.std.specs.Prelude.{Contains, IfSome}
+use Rattle.std.proofs.lemmas.Bool.{ltb-true}
 use Rattle.fc_base.specs.Layouts.{bytes_of}
 use Rattle.verify_state.specs.Misfit.{misfit}
 use Rattle.verify_state.specs.Spelling.{spelling, key_bytes, job_bytes}
@@ -272,10 +273,14 @@ ran lengths law written =
     let ran_13 : Ran one (fleet client.first server.first 0) (fleets.reports ∷ fleets.checks ∷ fleets.gives ∷ fleets.wants ∷ fleets.asks_to_verify ∷ fleets.keeps ∷ fleets.is_cut ∷ fleets.asks_for_states ∷ fleets.writes ∷ fleets.starts ∷ fleets.is_ready ∷ fleets.stages ∷ fleets.begins ∷ []) (fleet giving checked 11) = (fleet giving checking 10, ran_12, goes_reports) in
     (fleet giving checked 11, ran_13, goes_shows law written)
 
+is_within : 50 < length (sends (tells (State 1 taken)))
+unfolding bytes_of spelled_state spelling key_bytes job_bytes
+is_within = ltb-true 50 (length (sends (tells (State 1 taken)))) refl
+
 pub goes_through_the_story : LengthsAreBounded → FramesAreRead → SaysWhatIsWritten → FleetsAreTraces → GoesThroughTheStory
 goes_through_the_story lengths read written law =
     let all = ran lengths read written in
-    record { begins = begins; ran = all; one_trace = law one (fleet client.first server.first 0) (fleet shown checked 11) steps begins all }
+    record { is_within = is_within; begins = begins; ran = all; one_trace = law one (fleet client.first server.first 0) (fleet shown checked 11) steps begins all }
 
 -- ---- fleets that begin
 

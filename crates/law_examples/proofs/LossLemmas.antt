@@ -4,12 +4,13 @@ use Rattle.std.specs.Prelude.{IsTrue, slice_index}
 use Rattle.write_order.specs.Stamps.{counting_bytes, stamped_sector, written_bytes}
 use Rattle.targets.specs.declared.notice.Notice.TheVariants.{Done}
 use Rattle.targets.specs.Examples.{three_writes, one_told, two_told, holds_write}
-use Rattle.targets.specs.Fronts.{IsBehind}
+use Rattle.targets.specs.Fronts.{IsBehind, HistoriesAreOne, FrontsAreBehind, HistoriesGoOn, OrdersGoOn, OrderedAreIssued, ToldAreCounted, OrderedAreOpen}
 use Rattle.targets.specs.Losses.{Survives, AllSurvive, SurvivorsAreNoFaults, LossesAreFaults}
+use Rattle.targets.specs.Notices.{notice_bytes}
 use Rattle.targets.specs.Units.{SoundBlocksHaveSoundUnits, BlocksAreUnits}
 use Rattle.recheck.specs.Faults.{is_expected}
 use Rattle.targets.specs.Units.{has_sound_units}
-use Rattle.law_examples.specs.Losses.{both, wide, written, torn, SurvivorsAreThere, LossIsAFault, SoundBlockHasSoundUnits, BlockIsItsUnit}
+use Rattle.law_examples.specs.Losses.{OneIsAhead, both, wide, written, torn, SurvivorsAreThere, LossIsAFault, SoundBlockHasSoundUnits, BlockIsItsUnit}
 use Rattle.law_examples.proofs.ListLemmas.{of_those}
 
 survives_0 : Survives three_writes one_told (holds_write 1) 0
@@ -48,6 +49,33 @@ loss_is_a_fault behind law = record {
   gone = gone;
   fault = law three_writes both two_told (holds_write 0) 1 refl behind.history refl gone;
 }
+
+-- ---- two runs
+
+pub one_is_ahead : IsBehind three_writes (Done 0 ∷ []) both one_told two_told → HistoriesAreOne → FrontsAreBehind → HistoriesGoOn → OrdersGoOn
+    → OrderedAreIssued → ToldAreCounted → OrderedAreOpen → OneIsAhead
+one_is_ahead behind one fronts histories orders_on issued_law counts opens =
+    let first = behind.first_history in
+    let ahead = behind.history in
+    let itself : IsBehind three_writes (Done 0 ∷ []) (Done 0 ∷ []) one_told one_told =
+    record { more = []; front = refl; first_history = first; history = first } in
+    record {
+      limits = refl;
+      first_history = first;
+      history = ahead;
+      one_history = λ h is. one three_writes both two_told h ahead is;
+      front = refl;
+      behind = fronts three_writes (Done 0 ∷ []) both one_told two_told (notice_bytes (Done 1)) refl first ahead refl;
+      goes_on = histories three_writes (Done 0 ∷ []) both one_told two_told behind;
+      orders_go_on = orders_on three_writes (Done 0 ∷ []) both one_told two_told behind;
+      ordered = omega arith;
+      is_issued = issued_law three_writes (Done 0 ∷ []) both one_told two_told behind 1 (omega arith);
+      counted = counts three_writes both two_told ahead 1;
+      at_itself = itself;
+      untold = refl;
+      not_failed = refl;
+      in_flight = opens three_writes (Done 0 ∷ []) (Done 0 ∷ []) one_told one_told itself 1 (omega arith) refl refl;
+    }
 
 -- ---- units
 

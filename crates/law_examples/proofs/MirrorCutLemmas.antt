@@ -1,18 +1,21 @@
 -- A mirror that is cut, by computation and by the laws.
-use Rattle.std.proofs.Common.{◌≡◌, ◌+◌, ℕ, inl, inr, refl, sym, subst, arith, [], ◌∷◌, length, take, drop}
+use Rattle.std.proofs.Common.{◌≡◌, ◌<◌, ◌+◌, ℕ, inl, inr, refl, sym, subst, arith, [], ◌∷◌, ◌++◌, length, take, drop}
 use Rattle.std.specs.Prelude.{Ok}
+use Rattle.std.proofs.lemmas.Bool.{ltb-true}
 use Rattle.fc_base.specs.Layouts.{bytes_of}
-use Rattle.messages.specs.declared.body.Body.TheVariants.{Copy, Fetch}
+use Rattle.messages.specs.declared.body.Body.TheVariants.{Copy, CopyOk, Fetch}
 use Rattle.messages.specs.FrameLaws.{FramesAreRead}
 use Rattle.messages.specs.FrameBytes.{frame_spelling}
 use Rattle.messages.specs.Laws.{LengthsAreBounded}
-use Rattle.mirror_core.specs.Note.{blank, Says, IsNoted, SaysWhatIsWritten}
+use Rattle.verify_state.specs.Spelling.{spelling as state_bytes, key_bytes, job_bytes}
+use Rattle.mirror_core.specs.Note.{note_of, blank, Says, IsNoted, SaysWhatIsWritten}
 use Rattle.filters.specs.Kinds.{told_numbered}
 use Rattle.filters.specs.Lives.{Lives}
+use Rattle.filters.specs.NodeCuts.{saved}
 use Rattle.filters.specs.MirrorCuts.{LivesGoOn}
 use Rattle.filters.specs.MirrorLives.{MirrorTakes, TakesBody, frame_in}
 use Rattle.law_examples.specs.OneJob.{state}
-use Rattle.law_examples.specs.MirrorCut.{asks, first, granted, kept, first_answer, second_answer, records, answers, MirrorGoesOn, MirrorIsCut}
+use Rattle.law_examples.specs.MirrorCut.{asks, says, first, granted, kept, first_answer, second_answer, records, answers, MirrorGoesOn, MirrorIsCut}
 use Rattle.law_examples.proofs.CutLemmas.{in_two}
 use Rattle.law_examples.proofs.FrameLemmas.{copy_is_short}
 use Rattle.law_examples.proofs.StateLemmas.{is_state}
@@ -84,7 +87,27 @@ goes_on lived law n =
           (in_two (MirrorTakes blank) first records kept at answers lived);
     }
 
+-- ---- where the cuts are
+
+is_in_save : 100 < length (saved kept.note)
+unfolding bytes_of note_of state_bytes key_bytes job_bytes
+is_in_save = ltb-true 100 (length (saved kept.note)) refl
+
+is_behind_save : length (saved kept.note) < 180
+unfolding bytes_of note_of state_bytes key_bytes job_bytes
+is_behind_save = ltb-true (length (saved kept.note)) 180 refl
+
+is_in_sent : 180 < length (saved kept.note ++ says (CopyOk 1 0 0))
+unfolding bytes_of note_of state_bytes key_bytes job_bytes
+is_in_sent = ltb-true 180 (length (saved kept.note ++ says (CopyOk 1 0 0))) refl
+
 pub mirror_is_cut : LengthsAreBounded → FramesAreRead → SaysWhatIsWritten → LivesGoOn → MirrorIsCut
 mirror_is_cut lengths read written law =
     let lived = lives lengths read written in
-    record { in_save = goes_on lived law 100; behind_save = goes_on lived law 180 }
+    record {
+      is_in_save = is_in_save;
+      in_save = goes_on lived law 100;
+      is_behind_save = is_behind_save;
+      is_in_sent = is_in_sent;
+      behind_save = goes_on lived law 180;
+    }

@@ -1,8 +1,9 @@
 -- A server that is cut, by computation and by the laws.
-use Rattle.std.proofs.Common.{◌≡◌, ◌+◌, ℕ, zero, suc, inl, refl, sym, subst, arith, [], ◌∷◌, length, take, drop}
+use Rattle.std.proofs.Common.{◌≡◌, ◌<◌, ◌+◌, ℕ, zero, suc, inl, refl, sym, subst, arith, [], ◌∷◌, ◌++◌, length, take, drop}
 use Rattle.std.specs.Prelude.{Ok}
+use Rattle.std.proofs.lemmas.Bool.{ltb-true}
 use Rattle.fc_base.specs.Layouts.{bytes_of}
-use Rattle.messages.specs.declared.body.Body.TheVariants.{Jobs, Start}
+use Rattle.messages.specs.declared.body.Body.TheVariants.{Jobs, Start, Started}
 use Rattle.messages.specs.declared.frame.Frame.TheVariants.{Whole}
 use Rattle.messages.specs.FrameLaws.{FramesAreRead}
 use Rattle.messages.specs.FrameBytes.{frame_spelling, frame_at, frame_faults}
@@ -13,6 +14,7 @@ use Rattle.server_core.specs.Run.{has_open, have_ended}
 use Rattle.server_core.specs.Texts.{jobs_for}
 use Rattle.filters.specs.Kinds.{told_numbered}
 use Rattle.filters.specs.Lives.{Lives}
+use Rattle.filters.specs.NodeCuts.{saved}
 use Rattle.filters.specs.ServerAt.{ServerAt, noted}
 use Rattle.filters.specs.ServerCuts.{LivesGoOn}
 use Rattle.filters.specs.ServerLives.{ServerTakes, TakesBody, frame_in}
@@ -20,7 +22,7 @@ use Rattle.filters.specs.ServerOrders.{AreAllGiven}
 use Rattle.filters.specs.ServerTurns.{Turns, Asks}
 use Rattle.law_examples.specs.OneJob.{text}
 use Rattle.law_examples.specs.Packets.{to_server}
-use Rattle.law_examples.specs.ServerCut.{opening, first, staged, started, first_order, first_answer, second_answer, records, answers, ServerGoesOn, ServerIsCut}
+use Rattle.law_examples.specs.ServerCut.{opening, says, first, staged, started, first_order, first_answer, second_answer, records, answers, ServerGoesOn, ServerIsCut}
 use Rattle.law_examples.proofs.CutLemmas.{in_two}
 
 -- ---- the two records
@@ -104,7 +106,27 @@ goes_on lived law n =
           (in_two (ServerTakes opening) first records started at answers lived);
     }
 
+-- ---- where the cuts are
+
+is_in_save : 20 < length (saved started.note)
+unfolding bytes_of
+is_in_save = ltb-true 20 (length (saved started.note)) refl
+
+is_behind_started : length (saved started.note ++ says (Started 1)) < 100
+unfolding bytes_of
+is_behind_started = ltb-true (length (saved started.note ++ says (Started 1))) 100 refl
+
+is_in_order : 100 < length (saved started.note ++ (says (Started 1) ++ first_order))
+unfolding bytes_of stamped_sector counting_bytes
+is_in_order = ltb-true 100 (length (saved started.note ++ (says (Started 1) ++ first_order))) refl
+
 pub server_is_cut : FramesAreRead → LivesGoOn → ServerIsCut
 server_is_cut read law =
     let lived = lives read in
-    record { in_save = goes_on lived law 20; behind_save = goes_on lived law 100 }
+    record {
+      is_in_save = is_in_save;
+      in_save = goes_on lived law 20;
+      is_behind_started = is_behind_started;
+      is_in_order = is_in_order;
+      behind_save = goes_on lived law 100;
+    }

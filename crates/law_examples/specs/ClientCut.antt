@@ -1,6 +1,6 @@
 -- A client's filter that is cut in its answer, and one that is cut as it begins anew: instances of
 -- the laws of clients that are cut.
-use Rattle.std.specs.Prelude.{ℕ, ◌+◌, false, List, [], ◌∷◌, ◌++◌, length, take, Ok, IsTrue}
+use Rattle.std.specs.Prelude.{◌<◌, ℕ, ◌+◌, false, List, [], ◌∷◌, ◌++◌, length, take, Ok, IsTrue}
 use Rattle.std.specs.Int.{w64}
 use Rattle.fc_base.specs.Layouts.{bytes_of}
 use Rattle.disk_model.specs.declared.left.Left.TheVariants.{Saved}
@@ -21,6 +21,7 @@ use Rattle.filters.specs.ClientLives.{ClientAt, ClientTakes, MayBegin, restarts,
 use Rattle.filters.specs.ClientSteps.{noted}
 use Rattle.filters.specs.Kinds.{told_number, said_number}
 use Rattle.filters.specs.Lives.{RecordParts, Lives}
+use Rattle.filters.specs.NodeCuts.{saved}
 use Rattle.filters.specs.Records.{record_bytes, end_bytes}
 use Rattle.law_examples.specs.OneJob.{text, state}
 use Rattle.law_examples.specs.Packets.{to_server, state_packet}
@@ -63,12 +64,13 @@ first_answer =
     ++ record_bytes (said_number Send) (frame_spelling (Whole (to_server (Jobs 1 text))))))
     ++ end_bytes (Ok tt)
 
+-- The StateAck, in its record.
+abbrev pub acknowledges : List ℕ
+acknowledges = record_bytes (said_number Send) (frame_spelling (Whole (to_server (StateAck 1 0))))
+
 -- What is answered to the second one: the note with the state, the StateAck, and the end.
 abbrev pub second_answer : List ℕ
-second_answer =
-    (record_bytes (said_number Save) kept.note
-    ++ record_bytes (said_number Send) (frame_spelling (Whole (to_server (StateAck 1 0)))))
-    ++ end_bytes (Ok tt)
+second_answer = (record_bytes (said_number Save) kept.note ++ acknowledges) ++ end_bytes (Ok tt)
 
 -- What the client reads, the newest first, and all that it answers.
 abbrev pub records : List RecordParts
@@ -84,9 +86,13 @@ pub record ClientGoesOn (n : ℕ) : Type 0 where
   pub lives : Lives (ClientTakes opening) first records kept answers
   pub goes_on : GoesOnFrom false opening first records (take (length first_answer + n) answers)
 
--- So it does where the cut is within the save of the state, and where it is within the StateAck.
+-- So it does where the cut is within the save of the state, and where it is behind that, within the
+-- StateAck.
 pub record ClientIsCut : Type 0 where
+  pub is_in_save : 100 < length (saved kept.note)
   pub in_save : ClientGoesOn 100
+  pub is_behind_save : length (saved kept.note) < 200
+  pub is_in_sent : 200 < length (saved kept.note ++ acknowledges)
   pub behind_save : ClientGoesOn 200
 
 -- A client with a mirror has begun in generation 1; it was cut, and its note is lost.

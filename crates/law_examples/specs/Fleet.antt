@@ -1,6 +1,6 @@
 -- A fleet of a client and one server that goes through the story; and fleets that begin, with a
 -- mirror, and over a server that has served others: instances of the laws of `filter_traces`.
-use Rattle.std.specs.Prelude.{◌<◌, ◌≤◌, ℕ, zero, suc, true, List, [], ◌∷◌, ◌++◌, take, IsTrue}
+use Rattle.std.specs.Prelude.{◌<◌, ◌≤◌, ℕ, zero, suc, true, List, [], ◌∷◌, ◌++◌, length, take, IsTrue}
 use Rattle.fc_base.specs.declared.limits.TheConstants.{MAX_SERVERS}
 use Rattle.messages.specs.declared.body.Body.TheVariants.{Jobs, JobsOk, Start, Trigger, State, Verify, WantState, Saved as Brings, Report}
 use Rattle.messages.specs.declared.refusal.Act.TheVariants.{Cut as CutOff}
@@ -95,6 +95,7 @@ steps = shows ∷ reports ∷ checks ∷ gives ∷ wants ∷ asks_to_verify ∷ 
 -- The fleet begins over empty notes, and all that happens. That is one trace, and the fleet holds
 -- one state of the job.
 pub record GoesThroughTheStory : Type 0 where
+  pub is_within : 50 < length (sends (tells (State 1 taken)))
   pub begins : FleetBegins one (fleet client.first server.first 0)
   pub ran : Ran one (fleet client.first server.first 0) steps (fleet shown checked 11)
   pub one_trace : IsOneTrace one (fleet shown checked 11)

@@ -6,7 +6,8 @@ use Rattle.fc_base.specs.Counted.{has}
 use Rattle.fc_base.specs.JobParts.{is_within_limits}
 use Rattle.write_order.specs.Blocks.{block_of}
 use Rattle.write_order.specs.Stamps.{written_bytes}
-use Rattle.window.specs.History.{open_writes}
+use Rattle.window.specs.History.{Event, issued, open_writes}
+use Rattle.engine.specs.Taken.{state_after}
 use Rattle.recheck.specs.Expected.{Expected, expected_by}
 use Rattle.recheck.specs.Faults.{is_expected}
 use Rattle.targets.specs.declared.notice.Notice.{Notice}
@@ -14,7 +15,8 @@ use Rattle.targets.specs.declared.notice.Notice.TheVariants.{Done}
 use Rattle.targets.specs.Examples.{three_writes, one_told, two_told, holds_write}
 use Rattle.targets.specs.Fronts.{IsBehind}
 use Rattle.targets.specs.Losses.{Survives, AllSurvive, is_fault_after}
-use Rattle.targets.specs.Notices.{told_done}
+use Rattle.targets.specs.Notices.{told_bytes, told_done, told_failed, notice_bytes}
+use Rattle.targets.specs.Orders.{orders}
 use Rattle.targets.specs.Runs.{IsHistory}
 use Rattle.targets.specs.Units.{has_sound_units}
 use Rattle.law_examples.specs.OneJob.{key, job, state}
@@ -22,6 +24,27 @@ use Rattle.law_examples.specs.OneJob.{key, job, state}
 -- Of three writes to one block, write 0 was told as done, and then write 1.
 abbrev pub both : List Notice
 both = Done 1 ∷ Done 0 ∷ []
+
+-- One run was told of both, and the other one of write 0 alone: its notices are a front of those of
+-- the run ahead, which has issued and counted more. Where neither was told of write 1, that is open.
+pub record OneIsAhead : Type 0 where
+  pub limits : IsTrue (is_within_limits three_writes.job)
+  pub first_history : IsHistory three_writes (Done 0 ∷ []) one_told
+  pub history : IsHistory three_writes both two_told
+  pub one_history : (h : List Event) → IsHistory three_writes both h → two_told ≡ h
+  pub front : told_bytes both ≡ told_bytes (Done 0 ∷ []) ++ notice_bytes (Done 1)
+  pub behind : IsBehind three_writes (Done 0 ∷ []) both one_told two_told
+  pub goes_on : (newer : List Event) × (two_told ≡ newer ++ one_told)
+  pub orders_go_on : (more : List ℕ)
+      × (orders three_writes.key three_writes.job two_told
+      ≡ orders three_writes.key three_writes.job one_told ++ more)
+  pub ordered : 1 < issued one_told
+  pub is_issued : 1 < (state_after three_writes two_told).issued
+  pub counted : has (state_after three_writes two_told).counted 1 ≡ has (told_done both) 1
+  pub at_itself : IsBehind three_writes (Done 0 ∷ []) (Done 0 ∷ []) one_told one_told
+  pub untold : has (told_done (Done 0 ∷ [])) 1 ≡ false
+  pub not_failed : has (told_failed (Done 0 ∷ [])) 1 ≡ false
+  pub in_flight : has (open_writes one_told) 1 ≡ true
 
 -- One run was told of both, and the other one of write 0 alone, which has write 1 in flight. That
 -- is what the block holds: it is there for write 0, too, and by the state of the run ahead the

@@ -1,5 +1,5 @@
 -- A mirror's filter that is cut in its answer: an instance of the law of mirrors that are cut.
-use Rattle.std.specs.Prelude.{ℕ, ◌+◌, List, [], ◌∷◌, ◌++◌, length, take, Ok}
+use Rattle.std.specs.Prelude.{◌<◌, ℕ, ◌+◌, List, [], ◌∷◌, ◌++◌, length, take, Ok}
 use Rattle.disk_model.specs.declared.left.Left.TheVariants.{Saved}
 use Rattle.messages.specs.declared.body.Body.{Body}
 use Rattle.messages.specs.declared.body.Body.TheVariants.{Copy, CopyOk, Fetch, Granted}
@@ -15,6 +15,7 @@ use Rattle.filters.specs.declared.kinds.Told.TheVariants as told
 use Rattle.filters.specs.Kinds.{told_number, said_number}
 use Rattle.filters.specs.Lives.{RecordParts, Lives}
 use Rattle.filters.specs.MirrorCuts.{GoesOnFrom}
+use Rattle.filters.specs.NodeCuts.{saved}
 use Rattle.filters.specs.MirrorLives.{MirrorAt, MirrorTakes}
 use Rattle.filters.specs.Records.{record_bytes, end_bytes}
 use Rattle.law_examples.specs.OneJob.{state}
@@ -74,7 +75,11 @@ pub record MirrorGoesOn (n : ℕ) : Type 0 where
   pub lives : Lives (MirrorTakes blank) first records kept answers
   pub goes_on : GoesOnFrom blank first records (take (length first_answer + n) answers)
 
--- So it does where the cut is within the save of the state, and where it is within the CopyOk.
+-- So it does where the cut is within the save of the state, and where it is behind that, within the
+-- CopyOk.
 pub record MirrorIsCut : Type 0 where
+  pub is_in_save : 100 < length (saved kept.note)
   pub in_save : MirrorGoesOn 100
+  pub is_behind_save : length (saved kept.note) < 180
+  pub is_in_sent : 180 < length (saved kept.note ++ says (CopyOk 1 0 0))
   pub behind_save : MirrorGoesOn 180

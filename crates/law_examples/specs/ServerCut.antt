@@ -1,5 +1,5 @@
 -- A server's filter that is cut in its answer: an instance of the law of servers that are cut.
-use Rattle.std.specs.Prelude.{ℕ, ◌+◌, List, [], ◌∷◌, ◌++◌, length, take, Ok}
+use Rattle.std.specs.Prelude.{◌<◌, ℕ, ◌+◌, List, [], ◌∷◌, ◌++◌, length, take, Ok}
 use Rattle.disk_model.specs.declared.left.Left.TheVariants.{NoSave, Saved}
 use Rattle.messages.specs.declared.body.Body.{Body}
 use Rattle.messages.specs.declared.body.Body.TheVariants.{Jobs, JobsOk, Start, Started}
@@ -15,6 +15,7 @@ use Rattle.filters.specs.declared.kinds.Said.TheVariants.{Save, Send, Order}
 use Rattle.filters.specs.declared.kinds.Told.TheVariants as told
 use Rattle.filters.specs.Kinds.{told_number, said_number}
 use Rattle.filters.specs.Lives.{RecordParts, Lives}
+use Rattle.filters.specs.NodeCuts.{saved}
 use Rattle.filters.specs.Records.{record_bytes, end_bytes}
 use Rattle.filters.specs.ServerAt.{ServerAt, no_checks, noted}
 use Rattle.filters.specs.ServerCuts.{GoesOnFrom}
@@ -89,5 +90,8 @@ pub record ServerGoesOn (n : ℕ) : Type 0 where
 
 -- So it does where the cut is within the save of the Start, and where it is within the order.
 pub record ServerIsCut : Type 0 where
+  pub is_in_save : 20 < length (saved started.note)
   pub in_save : ServerGoesOn 20
+  pub is_behind_started : length (saved started.note ++ says (Started 1)) < 100
+  pub is_in_order : 100 < length (saved started.note ++ (says (Started 1) ++ first_order))
   pub behind_save : ServerGoesOn 100

@@ -1,6 +1,11 @@
 use Rattle.law_examples.proofs.LossLemmas as lemmas
 use Rattle.law_examples.proofs.losses.examples_of_targets.Goals as goal
 
+pub returns-clause-ahead : goal.returns-clause-ahead
+returns-clause-ahead c =
+    let law = c.front_law.ensures in
+    lemmas.one_is_ahead c.examples.ensures.behind law.one law.behind law.history law.orders law.issued law.counted law.open_writes
+
 pub returns-clause-survivors : goal.returns-clause-survivors
 returns-clause-survivors c = lemmas.survivors_are_there c.examples.ensures.behind c.loss_law.ensures.survivors
 
