@@ -25,7 +25,7 @@ survives = of_those (Survives three_writes one_told (holds_write 1)) (0 ∷ 1 �
 pub survivors_are_there : IsBehind three_writes (Done 0 ∷ []) both one_told two_told → SurvivorsAreNoFaults → SurvivorsAreThere
 survivors_are_there behind law = record {
   behind = behind;
-  in_flight = refl;
+  is_open = refl;
   survive = survives;
   no_fault = law three_writes (Done 0 ∷ []) both one_told two_told (holds_write 1) behind survives;
 }
@@ -74,7 +74,7 @@ one_is_ahead behind one fronts histories orders_on issued_law counts opens =
       at_itself = itself;
       untold = refl;
       not_failed = refl;
-      in_flight = opens three_writes (Done 0 ∷ []) (Done 0 ∷ []) one_told one_told itself 1 (omega arith) refl refl;
+      is_open = opens three_writes (Done 0 ∷ []) (Done 0 ∷ []) one_told one_told itself 1 (omega arith) refl refl;
     }
 
 -- ---- units

@@ -44,14 +44,14 @@ pub record OneIsAhead : Type 0 where
   pub at_itself : IsBehind three_writes (Done 0 ∷ []) (Done 0 ∷ []) one_told one_told
   pub untold : has (told_done (Done 0 ∷ [])) 1 ≡ false
   pub not_failed : has (told_failed (Done 0 ∷ [])) 1 ≡ false
-  pub in_flight : has (open_writes one_told) 1 ≡ true
+  pub is_open : has (open_writes one_told) 1 ≡ true
 
 -- One run was told of both, and the other one of write 0 alone, which has write 1 in flight. That
 -- is what the block holds: it is there for write 0, too, and by the state of the run ahead the
 -- block is no fault.
 pub record SurvivorsAreThere : Type 0 where
   pub behind : IsBehind three_writes (Done 0 ∷ []) both one_told two_told
-  pub in_flight : has (open_writes one_told) 1 ≡ true
+  pub is_open : has (open_writes one_told) 1 ≡ true
   pub survive : AllSurvive three_writes both one_told (holds_write 1)
   pub no_fault : (block : ℕ) → block < three_writes.job.blocks
       → is_fault_after three_writes two_told (holds_write 1) block ≡ false
