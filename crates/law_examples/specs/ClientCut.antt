@@ -30,19 +30,19 @@ use Rattle.law_examples.specs.Packets.{to_server, state_packet}
 abbrev pub opening : Opening
 opening = record { servers = 1; noted = blank }
 
--- It begins.
+-- The client begins over that note.
 abbrev pub first : ClientAt
 first = record { list = Restart false ∷ []; note = [] }
 
--- Its note says that one run was begun.
+-- What the note says once one run was begun.
 abbrev pub one_run : ClientNote
 one_run = record blank { runs = 1 }
 
--- The run is begun.
+-- The client behind the first record: the run is begun.
 abbrev pub begun : ClientAt
 begun = record { list = Met (Begin text) Saved ∷ first.list; note = spelling one_run }
 
--- The state of its job comes from the server, and is kept.
+-- The client behind the second one: the state of the job came from the server, and is kept.
 abbrev pub kept : ClientAt
 kept = record {
   list = Met (Deliver (Whole state_packet)) Saved ∷ begun.list;
@@ -86,8 +86,8 @@ pub record ClientGoesOn (n : ℕ) : Type 0 where
   pub lives : Lives (ClientTakes opening) first records kept answers
   pub goes_on : GoesOnFrom false opening first records (take (length first_answer + n) answers)
 
--- So it does where the cut is within the save of the state, and where it is behind that, within the
--- StateAck.
+-- The next life goes on where the cut is within the save of the state, and where it is behind
+-- that, within the StateAck.
 pub record ClientIsCut : Type 0 where
   pub is_in_save : 100 < length (saved kept.note)
   pub in_save : ClientGoesOn 100
@@ -99,7 +99,7 @@ pub record ClientIsCut : Type 0 where
 abbrev pub lost : List FrameEntry
 lost = Lose ∷ Cut ∷ Renew 1 Saved ∷ []
 
--- It begins anew, in generation 2, and the save of its new note is cut.
+-- That client begins anew, in generation 2, and is cut within the save of its new note.
 pub record RenewalIsCut : Type 0 where
   pub generation : IsTrue (is_generation 2)
   pub says : Says [] (noted opening lost)

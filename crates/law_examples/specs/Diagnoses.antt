@@ -1,4 +1,5 @@
--- A sector on a disk that holds another write than it should: instances of the laws of `diagnosis`.
+-- A sector on a disk that holds another write than it should: instances of the laws of
+-- `diagnosis`.
 use Rattle.std.specs.Prelude.{◌≡◌, ◌<◌, ℕ, false, List, length, slice_index, Some, IsTrue}
 use Rattle.fc_base.specs.declared.record.Verify.TheVariants.{Stamp}
 use Rattle.fc_base.specs.JobParts.{is_within_limits}

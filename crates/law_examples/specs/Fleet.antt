@@ -26,7 +26,7 @@ use Rattle.law_examples.specs.Story.{taken, report, asks, tells, sent, brings, s
 abbrev pub one : Setup
 one = without_mirror 1
 
--- The server is at this moment. Others there are none: they stay as they begin.
+-- Server 0 is at this moment. There are no others: they stay as they begin.
 abbrev pub servers_at : ServerAt → ℕ → ServerAt
 servers_at at zero = at
 servers_at at (suc s) = server.first
@@ -41,7 +41,8 @@ fleet client_at server_at n = record {
   sent = sent n;
 }
 
--- The client's steps and the server's.
+-- The client begins the run; the server stages it, and then starts it, is told that write 0 is
+-- done, and the client asks for its states.
 abbrev pub begins : FleetStep
 begins = AtClient (Answers client.begins client.first_answer)
 
@@ -65,6 +66,8 @@ abbrev pub is_cut : FleetStep
 is_cut = AtServer 0
     (EndsWithin (brings (asks (Trigger 1 CutOff))) (take 50 (sends (tells (State 1 taken)))))
 
+-- The client keeps the state, and asks to verify; the server wants the state, which the client
+-- gives; then it checks, and reports, and the client shows the report.
 abbrev pub keeps : FleetStep
 keeps = AtClient (Answers (brings (tells (State 1 taken))) keeping_answer)
 
@@ -104,7 +107,8 @@ pub record GoesThroughTheStory : Type 0 where
 abbrev pub mirrored : Setup
 mirrored = record { servers = 1; mirror = true }
 
--- Its client begins anew in generation 3, over a note of that; the mirror's note is empty.
+-- A fleet with a mirror begins: its client anew in generation 3, over a note of that, and its
+-- mirror over an empty one.
 pub record BeginsWithAMirror : Type 0 where
   pub few : mirrored.servers ≤ MAX_SERVERS
   pub generation : IsTrue (is_generation 3)
@@ -116,7 +120,7 @@ pub record BeginsWithAMirror : Type 0 where
 abbrev pub older : ℕ → ServerNote
 older s = record { boot = 4; last_run = 7 }
 
--- Over such a server a fleet begins whose client has drawn that 9 runs and 2 attempts were given.
+-- A fleet begins over such a server, whose client has drawn that 9 runs and 2 attempts were given.
 pub record BeginsOverOlder : Type 0 where
   pub few : 1 ≤ MAX_SERVERS
   pub drawn : CanBeDrawn 9 2

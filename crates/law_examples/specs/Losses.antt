@@ -25,8 +25,9 @@ use Rattle.law_examples.specs.OneJob.{key, job, state}
 abbrev pub both : List Notice
 both = Done 1 ∷ Done 0 ∷ []
 
--- One run was told of both, and the other one of write 0 alone: its notices are a front of those of
--- the run ahead, which has issued and counted more. Where neither was told of write 1, that is open.
+-- One run was told of both, and the other one of write 0 alone: its notices are a front of those
+-- of the run ahead, which has issued and counted more. Where neither was told of write 1, that is
+-- open.
 pub record OneIsAhead : Type 0 where
   pub limits : IsTrue (is_within_limits three_writes.job)
   pub first_history : IsHistory three_writes (Done 0 ∷ []) one_told

@@ -24,7 +24,7 @@ use Rattle.law_examples.specs.OneJob.{state}
 abbrev pub asks : Body → Frame
 asks body = Whole (record { from = Client; to = Mirror; body = body })
 
--- The record that brings it.
+-- The record that brings what the client says.
 abbrev pub reads : Body → RecordParts
 reads body = record { kind = told_number told.Frame; body = frame_spelling (asks body) }
 
@@ -38,14 +38,14 @@ says body =
 abbrev pub first : MirrorAt
 first = record { list = Restart ∷ []; note = [] }
 
--- Generation 1 is granted.
+-- The mirror behind the first record: generation 1 is granted.
 abbrev pub granted : MirrorAt
 granted = record {
   list = Met (asks (Fetch 1)) Saved ∷ first.list;
   note = spelling (record { generation = 1; kept = [] });
 }
 
--- The state that comes then is kept.
+-- The mirror behind the second one: the state that came is kept.
 abbrev pub kept : MirrorAt
 kept = record {
   list = Met (asks (Copy state)) Saved ∷ granted.list;
@@ -75,8 +75,8 @@ pub record MirrorGoesOn (n : ℕ) : Type 0 where
   pub lives : Lives (MirrorTakes blank) first records kept answers
   pub goes_on : GoesOnFrom blank first records (take (length first_answer + n) answers)
 
--- So it does where the cut is within the save of the state, and where it is behind that, within the
--- CopyOk.
+-- The next life goes on where the cut is within the save of the state, and where it is behind
+-- that, within the CopyOk.
 pub record MirrorIsCut : Type 0 where
   pub is_in_save : 100 < length (saved kept.note)
   pub in_save : MirrorGoesOn 100

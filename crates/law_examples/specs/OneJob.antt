@@ -1,5 +1,5 @@
--- A job that can be followed by hand, and the state of it that a trigger takes: all examples are of
--- this one.
+-- A job that can be followed by hand, and the state of it that a trigger takes. Nearly all
+-- instances are of this job.
 use Rattle.std.specs.Prelude.{ℕ, List, [], ◌∷◌, codes}
 use Rattle.fc_base.specs.declared.numbers.Key.{Key}
 use Rattle.fc_base.specs.declared.record.JobParts.{JobParts}
@@ -13,7 +13,8 @@ use Rattle.window.specs.History.{Event, issue, done}
 abbrev pub key : Key
 key = record { run = 1; server = 0; job = 0 }
 
--- Six writes to two blocks of one sector each: 0, 2 and 4 go to block 0, and the others to block 1.
+-- Six writes to two blocks of one sector each: 0, 2 and 4 go to block 0, and the others to block
+-- 1.
 abbrev pub job : JobParts
 job = record {
   kind = Sequential;
@@ -27,16 +28,16 @@ job = record {
   window = 1;
 }
 
--- The text of it, of 39 bytes.
+-- The job file of that job, of 39 bytes.
 abbrev pub text : List ℕ
 text = codes "[a]\nrw=write\nbs=512\nsize=1k\nio_size=3k\n"
 
--- The text of the job that checks it by its state.
+-- The job file that checks it by its state.
 abbrev pub reading_text : List ℕ
 reading_text = codes "[a]\nrw=read\nbs=512\nsize=1k\nio_size=3k\nverify_state_load=1\n"
 
--- What happens to its writes up to a trigger, the newest first: writes 0, 1 and 2 are done, and
--- write 3 is in flight.
+-- What happens to the writes of the job up to a trigger, the newest first: writes 0, 1 and 2 are
+-- done, and write 3 is in flight.
 abbrev pub events : List Event
 events = issue 3 ∷ done 2 ∷ issue 2 ∷ done 1 ∷ issue 1 ∷ done 0 ∷ issue 0 ∷ []
 

@@ -16,7 +16,8 @@ use Rattle.messages.specs.PieceLaws.{IsPartOf, has_places, all_taken, GivesThis,
 use Rattle.messages.specs.Pieces.{is_cut, tag_of, places, piece_at, pieces_of, frames_of}
 use Rattle.law_examples.specs.Packets.{long_packet}
 
--- The first piece of the job file of a run has 1,024 bytes of the body, and the last one has eight.
+-- The first piece of the job file of a run has 1,024 bytes of the body, and the last one has
+-- eight.
 abbrev pub first_piece : ℕ → PieceParts
 first_piece run = piece_at (long_packet run) 0
 
@@ -45,7 +46,8 @@ pub record GivesTheBytes : Type 0 where
   pub gives : look_at_piece (all_taken rows (last_piece 1 ∷ last_piece 1 ∷ [])) (first_piece 1)
       ≡ look_by_body (first_piece 1) (Some (bytes 1))
 
--- And it gives the packet; the last piece, as long as the first one lacks, gives nothing.
+-- The first piece of run 1, behind the last one that came twice, gives the packet. The last piece
+-- gives nothing as long as the first one lacks.
 pub record GivesThePacket : Type 0 where
   pub packet : IsPacket (long_packet 1)
   pub cut : is_cut (long_packet 1).body ≡ true
@@ -59,7 +61,8 @@ pub record GivesThePacket : Type 0 where
       ≡ Gives (long_packet 1)
   pub waits : look_at_piece (all_taken rows (last_piece 1 ∷ [])) (last_piece 1) ≡ Waits
 
--- What a piece gives is what fills its last place.
+-- Where the first piece of run 1 fills the last place that lacked one, it gives the packet; and
+-- that is the one whose body the bytes in order are.
 pub record IsGivenWhole : Type 0 where
   pub gives : look_at_piece (rows_after_piece rows (last_piece 1)) (first_piece 1)
       ≡ Gives (long_packet 1)
@@ -69,8 +72,8 @@ pub record IsGivenWhole : Type 0 where
 abbrev pub sent : List PacketParts
 sent = long_packet 1 ∷ long_packet 2 ∷ []
 
--- The first piece of run 2 and the last one of run 1 have come: the first one of run 1 gives nothing
--- or its packet, and leaves what was sent.
+-- The first piece of run 2 and the last one of run 1 have come: the first one of run 1 gives
+-- nothing or its packet, and leaves what was sent.
 pub record IsOfThoseSent : Type 0 where
   pub packets : ArePackets sent
   pub one_body : OneBodyOfEachTag sent
@@ -83,7 +86,8 @@ pub record IsOfThoseSent : Type 0 where
       ≡ Gives (long_packet 1)))
       × WasSent sent (rows_after_piece (rows_after_piece rows (last_piece 1)) (first_piece 1))
 
--- So it is of the frames that came, the newest first.
+-- The frames that came, the newest first: the last piece of run 1, and before it the first one of
+-- run 2.
 abbrev pub came : List Frame
 came = Piece (last_piece 1) ∷ Piece (first_piece 2) ∷ []
 
@@ -109,7 +113,8 @@ pub record PieceIsReadBack : Type 0 where
   pub faultless : frame_faults (frame_spelling (Piece (last_piece 1))) ≡ []
   pub read : frame_at (frame_spelling (Piece (last_piece 1))) ≡ Some (Piece (last_piece 1))
 
--- And its bytes begin those of no other frame.
+-- The bytes of the last piece begin those of no other frame, and of itself with nothing behind
+-- them.
 pub record PieceBeginsNoOther : Type 0 where
   pub frame : IsFrame (Piece (last_piece 1))
   pub itself : frame_spelling (Piece (last_piece 1)) ++ []
@@ -127,7 +132,7 @@ piece_bytes = 70 ∷ 67 ∷ 1 ∷ 17 ∷ 0 ∷ 0 ∷ 0 ∷ 8 ∷ 0 ∷ 0 ∷ 0 �
     ∷ 0 ∷ 0 ∷ 0 ∷ 0 ∷ 0 ∷ 0 ∷ 4 ∷ 8 ∷ 0 ∷ 0 ∷ 4 ∷ 0
     ∷ 97 ∷ 97 ∷ 97 ∷ 97 ∷ 97 ∷ 97 ∷ 97 ∷ 10 ∷ []
 
--- They say a frame, which is that piece.
+-- The bytes of the last piece say a frame, which is that piece.
 pub record SaysAFrame : Type 0 where
   pub are_bytes : IsBytes piece_bytes
   pub faultless : frame_faults piece_bytes ≡ []

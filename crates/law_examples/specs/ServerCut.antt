@@ -28,7 +28,7 @@ use Rattle.law_examples.specs.Packets.{to_server}
 abbrev pub opening : Opening
 opening = record { me = 0; boot = 0; last = 0 }
 
--- It begins, in its first boot.
+-- The server begins, in its first boot.
 abbrev pub first : ServerAt
 first = record {
   list = Restart Saved ∷ [];
@@ -36,15 +36,16 @@ first = record {
   checks = no_checks;
 }
 
--- The client says this to it.
+-- What the client says comes to the server, with no save.
 abbrev pub hears : Body → FrameEntry
 hears body = Met (Deliver (Whole (to_server body))) NoSave
 
--- The text of run 1 has come.
+-- The server behind the first record: the text of run 1 came.
 abbrev pub staged : ServerAt
 staged = record first { list = hears (Jobs 1 text) ∷ first.list }
 
--- The run is started, which is noted, and its first write is ordered.
+-- The server behind the second one: the run is started, which is noted, and its first write is
+-- ordered.
 abbrev pub started : ServerAt
 started = record {
   list = Met (Issue 0) NoSave ∷ (Met (Deliver (Whole (to_server (Start 1)))) Saved ∷ staged.list);
@@ -88,7 +89,8 @@ pub record ServerGoesOn (n : ℕ) : Type 0 where
   pub lives : Lives (ServerTakes opening) first records started answers
   pub goes_on : GoesOnFrom opening first records (take (length first_answer + n) answers)
 
--- So it does where the cut is within the save of the Start, and where it is within the order.
+-- The next life goes on where the cut is within the save of the Start, and where it is within the
+-- order.
 pub record ServerIsCut : Type 0 where
   pub is_in_save : 20 < length (saved started.note)
   pub in_save : ServerGoesOn 20

@@ -25,7 +25,7 @@ use Rattle.law_examples.specs.ServerCut.{opening, hears, started}
 abbrev pub ticket : ℕ → Ticket
 ticket k = record { boot = 1; key = key; seq = k; block = k % 2 }
 
--- It is done, and the next one is ordered.
+-- Behind this list write k is done, and the next one is ordered.
 abbrev pub goes_on_behind : ℕ → List FrameEntry → List FrameEntry
 goes_on_behind k past = Met (Issue 0) NoSave ∷ (Met (WriteDone (ticket k) Done) NoSave ∷ past)
 
@@ -42,8 +42,8 @@ at = record {
   checks = no_checks;
 }
 
--- Block 0 holds this write, and block 1 the one that was in flight. The block that came last stands
--- first.
+-- Block 0 holds this write, and block 1 the one that was in flight. The block that came last
+-- stands first.
 abbrev pub came : ℕ → List Came
 came k = record { block = 1; bytes = stamped_sector key 3 1 0 }
     ∷ record { block = 0; bytes = stamped_sector key k 0 0 } ∷ []

@@ -87,15 +87,15 @@ ends = end_bytes (Ok tt)
 abbrev pub heard : Body → ClientAt → ClientAt
 heard body at = record at { list = Comes (Hears (tells body)) NoSave ∷ at.list }
 
--- The run is begun, and its jobs are there: it is to start.
+-- The client behind the JobsOk: the run is to start.
 abbrev pub starting : ClientAt
 starting = heard (JobsOk 1 1) client.begun
 
--- It is triggered, with a cut.
+-- The client that triggers the run, with a cut.
 abbrev pub triggering : ClientAt
 triggering = record starting { list = Comes (Triggers 1 CutOff) NoSave ∷ starting.list }
 
--- The state is kept.
+-- The client that keeps the state, and what its note says.
 abbrev pub kept_note : ClientNote
 kept_note = record client.one_run { kept = taken ∷ [] }
 
@@ -105,7 +105,7 @@ keeping = record {
   note = client_note kept_note;
 }
 
--- The run is to be verified, in the first attempt.
+-- The client that verifies the run, in the first attempt, and what its note says.
 abbrev pub verify_note : ClientNote
 verify_note = record kept_note { attempts = 1 }
 
@@ -115,7 +115,7 @@ verifying = record {
   note = client_note verify_note;
 }
 
--- The state is wanted, and then the report comes.
+-- The client that gives the state, which is wanted; and the one that holds the report.
 abbrev pub giving : ClientAt
 giving = heard (WantState 1 1 0) verifying
 
@@ -142,17 +142,17 @@ verifying_answer =
 
 -- ---- the server
 
--- Write 0 is done, and write 1 is ordered.
+-- The server once write 0 is done, and write 1 is ordered.
 abbrev pub writing : ServerAt
 writing = record started {
   list = Met (Issue 0) NoSave ∷ (Met (WriteDone (ticket 0) Done) NoSave ∷ started.list);
 }
 
--- The Trigger has come.
+-- The server behind the Trigger.
 abbrev pub triggered : ServerAt
 triggered = record writing { list = hears (Trigger 1 CutOff) ∷ writing.list }
 
--- The server was cut, and begins anew, in its second boot.
+-- The server that was cut, and begins anew, in its second boot.
 abbrev pub again : ServerAt
 again = record {
   list = Restart Saved ∷ (Cut ∷ triggered.list);
@@ -160,7 +160,7 @@ again = record {
   checks = no_checks;
 }
 
--- It is to verify the run.
+-- The server that is to verify the run, and wants its state.
 abbrev pub wanting : ServerAt
 wanting = record again { list = hears (Verify 1 1 reading_text) ∷ again.list }
 
@@ -176,11 +176,11 @@ check = record {
   count = 1;
 }
 
--- The state comes back, and the check begins.
+-- The server to which the state came back: the check begins.
 abbrev pub checking : ServerAt
 checking = with_check 0 (Some check) (record wanting { list = hears (Brings 1 taken) ∷ wanting.list })
 
--- The block comes, and the check is done.
+-- The server to which the block came: the check is done.
 abbrev pub checked : ServerAt
 checked = with_check 0 None
     (record checking { list = Met (CheckDone 2 1 0 report) NoSave ∷ checking.list })
