@@ -1,6 +1,6 @@
 -- The fleet goes through the story, by the steps of its nodes and by the laws.
 use Rattle.std.proofs.Common.{◌≡◌, ◌<◌, ℕ, zero, suc, inl, refl, arith, List, [], ◌∷◌, ◌++◌, length, take}
-use Rattle.std.specs.Prelude.{Contains, IfSome}
+use Rattle.std.specs.Prelude.{Contains, IfSome, Some}
 use Rattle.std.proofs.lemmas.Bool.{ltb-true}
 use Rattle.fc_base.specs.Layouts.{bytes_of}
 use Rattle.verify_state.specs.Misfit.{misfit}
@@ -16,7 +16,10 @@ use Rattle.messages.specs.declared.refusal.Act.TheVariants.{Cut as CutOff}
 use Rattle.messages.specs.Bodies.{spelled_state}
 use Rattle.messages.specs.FrameLaws.{FramesAreRead}
 use Rattle.messages.specs.Laws.{LengthsAreBounded}
-use Rattle.client_core.specs.Hearing.{FrameEntry as ClientEntry, Met as Comes}
+use Rattle.client_core.specs.Hearing.{FrameEntry as ClientEntry, Met as Comes, packets_heard as client_heard}
+use Rattle.client_core.specs.Life.{life}
+use Rattle.client_core.specs.Reports.{reports}
+use Rattle.client_core.specs.Words.{kept_state, shown_entries}
 use Rattle.client_core.specs.FrameAnswers.{frames as client_frames}
 use Rattle.client_core.specs.Inputs.{Begin, Trigger as Triggers, Verify as Verifies, Deliver as Hears}
 use Rattle.client_core.specs.Note.{SaysWhatIsWritten, IsNoted, new_note, spelling as client_note}
@@ -24,9 +27,9 @@ use Rattle.client_core.specs.Refusals.{has_next, is_of_generation, is_free_to_nu
 use Rattle.server_core.specs.declared.input.Input.TheVariants.{Deliver, Issue, WriteDone, CheckDone}
 use Rattle.server_core.specs.declared.input.WriteEnd.TheVariants.{Done}
 use Rattle.server_core.specs.FrameAnswers.{frames as server_frames}
-use Rattle.server_core.specs.Hearing.{FrameEntry as ServerEntry, Met, Cut, Restart}
+use Rattle.server_core.specs.Hearing.{FrameEntry as ServerEntry, Met, Cut, Restart, packets_heard as server_heard}
 use Rattle.server_core.specs.Run.{has_open, have_ended}
-use Rattle.server_core.specs.Taken.{job_state}
+use Rattle.server_core.specs.Taken.{job_state, state_taken}
 use Rattle.server_core.specs.Texts.{jobs_for}
 use Rattle.net_world.specs.Frames.{frames_sent, to_of}
 use Rattle.filters.specs.ClientLives.{ClientAt}
@@ -36,7 +39,7 @@ use Rattle.filter_traces.specs.Again.{CanBeDrawn, IsOlder}
 use Rattle.filter_traces.specs.Fleets.{AtClient, AtServer, FleetBegins, Ran, Steps, BeginsAtServer}
 use Rattle.filter_traces.specs.Laws.{FleetsAreTraces, FleetsCanBegin, FleetsCanBeginAgain}
 use Rattle.filter_traces.specs.Members.{Happening, Answers, EndsWithin, Becomes, WasSentTo, client_member, server_member, frame_bytes_read, sent_since}
-use Rattle.law_examples.specs.OneJob.{text, reading_text}
+use Rattle.law_examples.specs.OneJob.{key, text, reading_text}
 use Rattle.law_examples.specs.ClientCut as client
 use Rattle.law_examples.specs.ServerCut as server
 use Rattle.law_examples.specs.ServerLoss.{ticket}
@@ -143,9 +146,9 @@ sent_as_checks : sent 10 ≡ sent 10 ++ sent_since (server_frames server.opening
 unfolding bytes_of spelled_state spelling key_bytes job_bytes jobs_for has_open have_ended job_state misfit word state_after u32_at stream_of word_bytes fill_bytes
 sent_as_checks = refl
 
-sent_as_reports : sent 11 ≡ sent 10 ++ sent_since (server_frames server.opening) checking.list (Met (CheckDone 2 1 0 report) NoSave ∷ [])
+sent_as_tells_report : sent 11 ≡ sent 10 ++ sent_since (server_frames server.opening) checking.list (Met (CheckDone 2 1 0 report) NoSave ∷ [])
 unfolding bytes_of spelled_state spelling key_bytes job_bytes jobs_for has_open have_ended job_state misfit word state_after u32_at stream_of word_bytes fill_bytes
-sent_as_reports = refl
+sent_as_tells_report = refl
 
 sent_as_shows : sent 11 ≡ sent 11 ++ sent_since (client_frames client.opening) giving.list (Comes (Hears (tells (Report 1 1 0 1 report))) NoSave ∷ [])
 unfolding bytes_of spelled_state spelling key_bytes job_bytes has_next is_of_generation is_free_to_number is_begun is_for_client is_from_server is_from_mirror
@@ -243,9 +246,9 @@ goes_checks lengths law =
     (to_server 10 (asks (Brings 1 taken)) (9, there, refl) refl (wants_block ++ ends))
     (server_part.checks lengths law) refl sent_as_checks
 
-goes_reports : Steps one (fleet giving checking 10) fleets.reports (fleet giving checked 11)
+goes_tells_report : Steps one (fleet giving checking 10) fleets.tells_report (fleet giving checked 11)
 unfolding told_numbered
-goes_reports = server_goes (Answers has_block (sends (tells (Report 1 1 0 1 report)) ++ ends)) giving checking checked 10 11 (Met (CheckDone 2 1 0 report) NoSave ∷ []) tt server_part.reports refl sent_as_reports
+goes_tells_report = server_goes (Answers has_block (sends (tells (Report 1 1 0 1 report)) ++ ends)) giving checking checked 10 11 (Met (CheckDone 2 1 0 report) NoSave ∷ []) tt server_part.reports refl sent_as_tells_report
 
 goes_shows : FramesAreRead → SaysWhatIsWritten → Steps one (fleet giving checked 11) fleets.shows (fleet shown checked 11)
 goes_shows law written =
@@ -270,17 +273,30 @@ ran lengths law written =
     let ran_10 : Ran one (fleet client.first server.first 0) (fleets.wants ∷ fleets.asks_to_verify ∷ fleets.keeps ∷ fleets.is_cut ∷ fleets.asks_for_states ∷ fleets.writes ∷ fleets.starts ∷ fleets.is_ready ∷ fleets.stages ∷ fleets.begins ∷ []) (fleet verifying wanting 9) = (fleet verifying again 8, ran_9, goes_wants law) in
     let ran_11 : Ran one (fleet client.first server.first 0) (fleets.gives ∷ fleets.wants ∷ fleets.asks_to_verify ∷ fleets.keeps ∷ fleets.is_cut ∷ fleets.asks_for_states ∷ fleets.writes ∷ fleets.starts ∷ fleets.is_ready ∷ fleets.stages ∷ fleets.begins ∷ []) (fleet giving wanting 10) = (fleet verifying wanting 9, ran_10, goes_gives law written) in
     let ran_12 : Ran one (fleet client.first server.first 0) (fleets.checks ∷ fleets.gives ∷ fleets.wants ∷ fleets.asks_to_verify ∷ fleets.keeps ∷ fleets.is_cut ∷ fleets.asks_for_states ∷ fleets.writes ∷ fleets.starts ∷ fleets.is_ready ∷ fleets.stages ∷ fleets.begins ∷ []) (fleet giving checking 10) = (fleet giving wanting 10, ran_11, goes_checks lengths law) in
-    let ran_13 : Ran one (fleet client.first server.first 0) (fleets.reports ∷ fleets.checks ∷ fleets.gives ∷ fleets.wants ∷ fleets.asks_to_verify ∷ fleets.keeps ∷ fleets.is_cut ∷ fleets.asks_for_states ∷ fleets.writes ∷ fleets.starts ∷ fleets.is_ready ∷ fleets.stages ∷ fleets.begins ∷ []) (fleet giving checked 11) = (fleet giving checking 10, ran_12, goes_reports) in
+    let ran_13 : Ran one (fleet client.first server.first 0) (fleets.tells_report ∷ fleets.checks ∷ fleets.gives ∷ fleets.wants ∷ fleets.asks_to_verify ∷ fleets.keeps ∷ fleets.is_cut ∷ fleets.asks_for_states ∷ fleets.writes ∷ fleets.starts ∷ fleets.is_ready ∷ fleets.stages ∷ fleets.begins ∷ []) (fleet giving checked 11) = (fleet giving checking 10, ran_12, goes_tells_report) in
     (fleet giving checked 11, ran_13, goes_shows law written)
 
 is_within : 50 < length (sends (tells (State 1 taken)))
 unfolding bytes_of spelled_state spelling key_bytes job_bytes
 is_within = ltb-true 50 (length (sends (tells (State 1 taken)))) refl
 
+is_taken : state_taken server.opening (server_heard server.opening triggered.list) 0 ≡ Some taken
+unfolding jobs_for has_open have_ended job_state
+is_taken = refl
+
+is_kept : kept_state client.opening (client_heard client.opening shown.list) key ≡ Some taken
+unfolding has_next is_of_generation is_free_to_number is_begun is_for_client is_from_server is_from_mirror
+is_kept = refl
+
+is_reported : reports (life client.opening (shown_entries (client_heard client.opening shown.list)))
+    ≡ record { run = 1; attempt = 1; server = 0; job = 0; report = report } ∷ []
+unfolding has_next is_of_generation is_free_to_number is_begun is_for_client is_from_server is_from_mirror
+is_reported = refl
+
 pub goes_through_the_story : LengthsAreBounded → FramesAreRead → SaysWhatIsWritten → FleetsAreTraces → GoesThroughTheStory
 goes_through_the_story lengths read written law =
     let all = ran lengths read written in
-    record { is_within = is_within; begins = begins; ran = all; one_trace = law one (fleet client.first server.first 0) (fleet shown checked 11) steps begins all }
+    record { is_within = is_within; begins = begins; ran = all; is_taken = is_taken; is_kept = is_kept; is_reported = is_reported; one_trace = law one (fleet client.first server.first 0) (fleet shown checked 11) steps begins all }
 
 -- ---- fleets that begin
 

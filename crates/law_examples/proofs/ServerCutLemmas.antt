@@ -1,5 +1,5 @@
 -- A server that is cut, by computation and by the laws.
-use Rattle.std.proofs.Common.{◌≡◌, ◌<◌, ◌+◌, ℕ, zero, suc, inl, refl, sym, subst, arith, [], ◌∷◌, ◌++◌, length, take, drop}
+use Rattle.std.proofs.Common.{◌≡◌, ◌<◌, ◌+◌, ℕ, zero, suc, inl, refl, sym, subst, arith, List, [], ◌∷◌, ◌++◌, length, take, drop, append_assoc}
 use Rattle.std.specs.Prelude.{Ok}
 use Rattle.std.proofs.lemmas.Bool.{ltb-true}
 use Rattle.fc_base.specs.Layouts.{bytes_of}
@@ -9,12 +9,14 @@ use Rattle.messages.specs.FrameLaws.{FramesAreRead}
 use Rattle.messages.specs.FrameBytes.{frame_spelling, frame_at, frame_faults}
 use Rattle.write_order.specs.Stamps.{counting_bytes, stamped_sector}
 use Rattle.server_core.specs.declared.input.Input.TheVariants.{Deliver}
+use Rattle.server_core.specs.Hearing.{Cut}
 use Rattle.server_core.specs.Note.{Says}
 use Rattle.server_core.specs.Run.{has_open, have_ended}
 use Rattle.server_core.specs.Texts.{jobs_for}
 use Rattle.filters.specs.Kinds.{told_numbered}
 use Rattle.filters.specs.Lives.{Lives}
-use Rattle.filters.specs.NodeCuts.{saved}
+use Rattle.filters.specs.NodeCuts.{saved, CutsAnswer}
+use Rattle.filters.specs.Records.{end_bytes}
 use Rattle.filters.specs.ServerAt.{ServerAt, noted}
 use Rattle.filters.specs.ServerCuts.{LivesGoOn}
 use Rattle.filters.specs.ServerLives.{ServerTakes, TakesBody, frame_in}
@@ -22,8 +24,8 @@ use Rattle.filters.specs.ServerOrders.{AreAllGiven}
 use Rattle.filters.specs.ServerTurns.{Turns, Asks}
 use Rattle.law_examples.specs.OneJob.{text}
 use Rattle.law_examples.specs.Packets.{to_server}
-use Rattle.law_examples.specs.ServerCut.{opening, says, first, staged, started, first_order, first_answer, second_answer, records, answers, ServerGoesOn, ServerIsCut}
-use Rattle.law_examples.proofs.CutLemmas.{in_two}
+use Rattle.law_examples.specs.ServerCut.{opening, reads, says, first, staged, started, first_order, first_answer, second_answer, records, answers, ServerGoesOn, ServerIsCut}
+use Rattle.law_examples.proofs.CutLemmas.{in_two, cut_in_second, within_save, behind_save}
 
 -- ---- the two records
 
@@ -77,34 +79,34 @@ pub says_start : Says started.note (noted opening started.list)
 unfolding jobs_for has_open have_ended
 says_start = record { boot_range = omega arith; last_range = omega arith; spelled = inl refl }
 
+pub says_staged : Says staged.note (noted opening staged.list)
+unfolding jobs_for has_open have_ended
+says_staged = record { boot_range = omega arith; last_range = omega arith; spelled = inl refl }
+
+lives_once : FramesAreRead → Lives (ServerTakes opening) first (reads (Jobs 1 text) ∷ []) staged first_answer
+unfolding told_numbered
+lives_once law = record {
+  before = first;
+  earlier = [];
+  answer = first_answer;
+  lived = (refl, refl);
+  takes = (subst (λ r. TakesBody opening first r staged first_answer) (sym (jobs_are_read law)) takes_jobs, says_staged);
+  all = refl;
+}
+
+takes_second : FramesAreRead → ServerTakes opening staged (reads (Start 1)) started second_answer
+unfolding told_numbered
+takes_second law = (subst (λ r. TakesBody opening staged r started second_answer) (sym (start_is_read law)) takes_start, says_start)
+
 lives : FramesAreRead → Lives (ServerTakes opening) first records started answers
-unfolding told_numbered jobs_for has_open have_ended
 lives law = record {
   before = staged;
   earlier = first_answer;
   answer = second_answer;
-  lived = record {
-    before = first;
-    earlier = [];
-    answer = first_answer;
-    lived = (refl, refl);
-    takes = (subst (λ r. TakesBody opening first r staged first_answer) (sym (jobs_are_read law)) takes_jobs, says_boot);
-    all = refl;
-  };
-  takes = (subst (λ r. TakesBody opening staged r started second_answer) (sym (start_is_read law)) takes_start, says_start);
+  lived = lives_once law;
+  takes = takes_second law;
   all = refl;
 }
-
-goes_on : Lives (ServerTakes opening) first records started answers → LivesGoOn → (n : ℕ) → ServerGoesOn n
-goes_on lived law n =
-    let at = length first_answer + n in
-    record {
-      says = says_boot;
-      lives = lived;
-      goes_on =
-          law opening first started records (take at answers) (drop at answers) says_boot
-          (in_two (ServerTakes opening) first records started at answers lived);
-    }
 
 -- ---- where the cuts are
 
@@ -120,13 +122,41 @@ is_in_order : 100 < length (saved started.note ++ (says (Started 1) ++ first_ord
 unfolding bytes_of stamped_sector counting_bytes
 is_in_order = ltb-true 100 (length (saved started.note ++ (says (Started 1) ++ first_order))) refl
 
-pub server_is_cut : FramesAreRead → LivesGoOn → ServerIsCut
-server_is_cut read law =
+is_so_long : 100 ≡ length (saved started.note) + 71
+unfolding bytes_of
+is_so_long = refl
+
+abbrev note : ServerAt → List ℕ
+note at = at.note
+
+-- What stands behind the save.
+abbrev behind : List ℕ
+behind = says (Started 1) ++ (first_order ++ end_bytes (Ok tt))
+
+goes_on : FramesAreRead → LivesGoOn → (n : ℕ) (left : ServerAt) → CutsAnswer note staged started (take n (saved started.note ++ behind)) left
+    → Says left.note (noted opening left.list) → ServerGoesOn n left
+goes_on read law n left within says_left =
     let lived = lives read in
+    let at = length first_answer + n in
     record {
-      is_in_save = is_in_save;
-      in_save = goes_on lived law 20;
-      is_behind_started = is_behind_started;
-      is_in_order = is_in_order;
-      behind_save = goes_on lived law 100;
+      says = says_boot;
+      lives = lived;
+      cuts =
+          cut_in_second (ServerTakes opening) note first staged started left (reads (Jobs 1 text)) (reads (Start 1)) first_answer second_answer n
+          (lives_once read) (takes_second read)
+          (subst (λ l. CutsAnswer note staged started (take n l) left)
+          (sym (append_assoc (saved started.note) (says (Started 1)) (first_order ++ end_bytes (Ok tt)))) within);
+      next = record { past = Cut ∷ left.list; me_is = refl; says = says_left; begins = refl };
+      goes_on =
+          law opening first started records (take at answers) (drop at answers) says_boot
+          (in_two (ServerTakes opening) first records started at answers lived);
     }
+
+pub server_is_cut : FramesAreRead → LivesGoOn → ServerIsCut
+server_is_cut read law = record {
+  is_in_save = is_in_save;
+  in_save = goes_on read law 20 staged (within_save note staged started behind 20 is_in_save) says_staged;
+  is_behind_started = is_behind_started;
+  is_in_order = is_in_order;
+  behind_save = goes_on read law 100 started (behind_save note staged started behind 100 71 is_so_long) says_start;
+}

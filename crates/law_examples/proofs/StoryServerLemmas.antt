@@ -37,7 +37,7 @@ use Rattle.filters.specs.UnderWay.{UnderWay, IsOver, WantsMore}
 use Rattle.law_examples.specs.OneJob.{key, job, text, reading_text}
 use Rattle.law_examples.specs.ServerCut.{opening, hears, first, staged, started, first_answer, second_answer}
 use Rattle.law_examples.specs.Story.{taken, report, tells, asks, brings, sends, ends, writing, triggered, again, wanting, check, checking, checked, tells_done, has_block, second_order, wants_block}
-use Rattle.law_examples.proofs.ServerCutLemmas.{takes_jobs, takes_start, says_start}
+use Rattle.law_examples.proofs.ServerCutLemmas.{takes_jobs, takes_start, says_staged, says_start}
 use Rattle.law_examples.proofs.StoryClientLemmas.{is_taken, saved_is_short}
 
 -- A frame that comes is read as itself.
@@ -50,10 +50,6 @@ takes_frame law f is short at now answer takes says =
     (subst (λ r. TakesBody opening at r now answer) (sym input) takes, says)
 
 -- ---- the run
-
-says_staged : Says staged.note (noted opening staged.list)
-unfolding jobs_for has_open have_ended
-says_staged = record { boot_range = omega arith; last_range = omega arith; spelled = inl refl }
 
 pub stages : FramesAreRead → ServerTakes opening first (brings (asks (Jobs 1 text))) staged first_answer
 stages law =

@@ -17,11 +17,12 @@ use Rattle.filters.specs.declared.beginning.Beginning.TheVariants.{Renewed}
 use Rattle.filters.specs.declared.kinds.Said.TheVariants.{Save, Send, Number}
 use Rattle.filters.specs.declared.kinds.Told.TheVariants as told
 use Rattle.filters.specs.ClientCuts.{GoesOnFrom, IsRenewedFrom}
-use Rattle.filters.specs.ClientLives.{ClientAt, ClientTakes, MayBegin, restarts, opening_bytes}
+use Rattle.filters.specs.ClientLives.{ClientAt, ClientTakes, BeginsBehind, MayBegin, restarts, opening_bytes}
 use Rattle.filters.specs.ClientSteps.{noted}
 use Rattle.filters.specs.Kinds.{told_number, said_number}
 use Rattle.filters.specs.Lives.{RecordParts, Lives}
-use Rattle.filters.specs.NodeCuts.{saved}
+use Rattle.filters.specs.Cuts.{CutsBehind}
+use Rattle.filters.specs.NodeCuts.{saved, CutsAnswer}
 use Rattle.filters.specs.Records.{record_bytes, end_bytes}
 use Rattle.law_examples.specs.OneJob.{text, state}
 use Rattle.law_examples.specs.Packets.{to_server, state_packet}
@@ -79,21 +80,28 @@ records = brings ∷ begins ∷ []
 abbrev pub answers : List ℕ
 answers = first_answer ++ second_answer
 
--- The answers are cut behind so many bytes of the second one. The next life goes on from there.
-pub record ClientGoesOn (n : ℕ) : Type 0 where
+-- The answers are cut behind so many bytes of the second one, which leaves the client so; and over
+-- the note that it leaves the next life begins. That there is such a life is what the law says.
+pub record ClientGoesOn (n : ℕ) (left : ClientAt) : Type 0 where
   pub may : MayBegin (restarts false) first.note
   pub says : Says first.note (noted opening first.list)
   pub lives : Lives (ClientTakes opening) first records kept answers
+  pub cuts :
+      CutsBehind (ClientTakes opening) (CutsAnswer (λ (at : ClientAt). at.note)) first records
+      (take (length first_answer + n) answers) left
+  pub next :
+      BeginsBehind (restarts false) opening.servers left.note opening
+      (record { list = Restart false ∷ (Cut ∷ left.list); note = left.note })
   pub goes_on : GoesOnFrom false opening first records (take (length first_answer + n) answers)
 
--- The next life goes on where the cut is within the save of the state, and where it is behind
--- that, within the StateAck.
+-- A cut within the save of the state leaves the client as if that had not come; one behind the
+-- save, within the StateAck, leaves it with the state.
 pub record ClientIsCut : Type 0 where
   pub is_in_save : 100 < length (saved kept.note)
-  pub in_save : ClientGoesOn 100
+  pub in_save : ClientGoesOn 100 begun
   pub is_behind_save : length (saved kept.note) < 200
   pub is_in_sent : 200 < length (saved kept.note ++ acknowledges)
-  pub behind_save : ClientGoesOn 200
+  pub behind_save : ClientGoesOn 200 kept
 
 -- A client with a mirror has begun in generation 1; it was cut, and its note is lost.
 abbrev pub lost : List FrameEntry

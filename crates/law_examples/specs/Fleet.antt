@@ -1,15 +1,21 @@
 -- A fleet of a client and one server that goes through the story; and fleets that begin, with a
 -- mirror, and over a server that has served others: instances of the laws of `filter_traces`.
-use Rattle.std.specs.Prelude.{◌<◌, ◌≤◌, ℕ, zero, suc, true, List, [], ◌∷◌, ◌++◌, length, take, IsTrue}
+use Rattle.std.specs.Prelude.{◌≡◌, ◌<◌, ◌≤◌, ℕ, zero, suc, true, Some, List, [], ◌∷◌, ◌++◌, length, take, IsTrue}
 use Rattle.fc_base.specs.declared.limits.TheConstants.{MAX_SERVERS}
 use Rattle.messages.specs.declared.body.Body.TheVariants.{Jobs, JobsOk, Start, Trigger, State, Verify, WantState, Saved as Brings, Report}
 use Rattle.messages.specs.declared.refusal.Act.TheVariants.{Cut as CutOff}
 use Rattle.messages.specs.Ranges.{is_generation}
+use Rattle.client_core.specs.Hearing.{packets_heard as client_heard}
+use Rattle.client_core.specs.Life.{life}
+use Rattle.client_core.specs.Reports.{reports}
+use Rattle.client_core.specs.Words.{kept_state, shown_entries}
 use Rattle.client_core.specs.Note.{Says, spelling, new_note}
 use Rattle.mirror_core.specs.History as mirror
 use Rattle.mirror_core.specs.Note.{Says as MirrorSays, blank as mirror_blank}
 use Rattle.net_world.specs.Setup.{Setup, without_mirror}
 use Rattle.server_core.specs.declared.note.ServerNote.{ServerNote}
+use Rattle.server_core.specs.Hearing.{packets_heard as server_heard}
+use Rattle.server_core.specs.Taken.{state_taken}
 use Rattle.filters.specs.ClientLives.{ClientAt}
 use Rattle.filters.specs.ServerAt.{ServerAt}
 use Rattle.filter_traces.specs.Again.{CanBeDrawn, IsOlder, BeginsAgain}
@@ -17,10 +23,10 @@ use Rattle.filter_traces.specs.Begins.{BeginsEmpty, first_note}
 use Rattle.filter_traces.specs.Fleets.{FleetAt, FleetStep, AtClient, AtServer, FleetBegins, Ran}
 use Rattle.filter_traces.specs.Laws.{IsOneTrace}
 use Rattle.filter_traces.specs.Members.{Answers, EndsWithin}
-use Rattle.law_examples.specs.OneJob.{text, reading_text}
+use Rattle.law_examples.specs.OneJob.{key, text, reading_text}
 use Rattle.law_examples.specs.ClientCut as client
 use Rattle.law_examples.specs.ServerCut as server
-use Rattle.law_examples.specs.Story.{taken, report, asks, tells, sent, brings, sends, ends, shown, triggers, verifies, keeping_answer, verifying_answer, checked, tells_done, has_block, second_order, wants_block}
+use Rattle.law_examples.specs.Story.{taken, report, asks, tells, sent, brings, sends, ends, shown, triggered, triggers, verifies, keeping_answer, verifying_answer, checked, tells_done, has_block, second_order, wants_block}
 
 -- A client and one server.
 abbrev pub one : Setup
@@ -84,23 +90,30 @@ gives = AtClient (Answers (brings (tells (WantState 1 1 0))) (sends (asks (Bring
 abbrev pub checks : FleetStep
 checks = AtServer 0 (Answers (brings (asks (Brings 1 taken))) (wants_block ++ ends))
 
-abbrev pub reports : FleetStep
-reports = AtServer 0 (Answers has_block (sends (tells (Report 1 1 0 1 report)) ++ ends))
+abbrev pub tells_report : FleetStep
+tells_report = AtServer 0 (Answers has_block (sends (tells (Report 1 1 0 1 report)) ++ ends))
 
 abbrev pub shows : FleetStep
 shows = AtClient (Answers (brings (tells (Report 1 1 0 1 report))) ends)
 
 -- All that happens, the newest first.
 abbrev pub steps : List FleetStep
-steps = shows ∷ reports ∷ checks ∷ gives ∷ wants ∷ asks_to_verify ∷ keeps ∷ is_cut
+steps = shows ∷ tells_report ∷ checks ∷ gives ∷ wants ∷ asks_to_verify ∷ keeps ∷ is_cut
     ∷ asks_for_states ∷ writes ∷ starts ∷ is_ready ∷ stages ∷ begins ∷ []
 
--- The fleet begins over empty notes, and all that happens. That is one trace, and the fleet holds
--- one state of the job.
+-- The fleet begins over empty notes, and all that happens: the server takes a state, which the
+-- client keeps, and the client holds a report. By the law that is one trace, in which the fleet
+-- holds one state of the job.
 pub record GoesThroughTheStory : Type 0 where
   pub is_within : 50 < length (sends (tells (State 1 taken)))
   pub begins : FleetBegins one (fleet client.first server.first 0)
   pub ran : Ran one (fleet client.first server.first 0) steps (fleet shown checked 11)
+  pub is_taken :
+      state_taken server.opening (server_heard server.opening triggered.list) 0 ≡ Some taken
+  pub is_kept : kept_state client.opening (client_heard client.opening shown.list) key ≡ Some taken
+  pub is_reported :
+      reports (life client.opening (shown_entries (client_heard client.opening shown.list)))
+      ≡ record { run = 1; attempt = 1; server = 0; job = 0; report = report } ∷ []
   pub one_trace : IsOneTrace one (fleet shown checked 11)
 
 -- A fleet of one server with a mirror.

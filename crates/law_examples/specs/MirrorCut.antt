@@ -7,7 +7,7 @@ use Rattle.messages.specs.declared.frame.Frame.{Frame}
 use Rattle.messages.specs.declared.frame.Frame.TheVariants.{Whole}
 use Rattle.messages.specs.declared.node.Node.TheVariants.{Client, Mirror}
 use Rattle.messages.specs.FrameBytes.{frame_spelling}
-use Rattle.mirror_core.specs.History.{Met, Restart}
+use Rattle.mirror_core.specs.History.{Met, Cut, Restart}
 use Rattle.mirror_core.specs.Note.{blank, Says, spelling}
 use Rattle.mirror_core.specs.Words.{words_noted}
 use Rattle.filters.specs.declared.kinds.Said.TheVariants.{Save, Send}
@@ -15,8 +15,9 @@ use Rattle.filters.specs.declared.kinds.Told.TheVariants as told
 use Rattle.filters.specs.Kinds.{told_number, said_number}
 use Rattle.filters.specs.Lives.{RecordParts, Lives}
 use Rattle.filters.specs.MirrorCuts.{GoesOnFrom}
-use Rattle.filters.specs.NodeCuts.{saved}
-use Rattle.filters.specs.MirrorLives.{MirrorAt, MirrorTakes}
+use Rattle.filters.specs.Cuts.{CutsBehind}
+use Rattle.filters.specs.NodeCuts.{saved, CutsAnswer}
+use Rattle.filters.specs.MirrorLives.{MirrorAt, MirrorTakes, BeginsBehind}
 use Rattle.filters.specs.Records.{record_bytes, end_bytes}
 use Rattle.law_examples.specs.OneJob.{state}
 
@@ -69,17 +70,24 @@ records = reads (Copy state) ∷ reads (Fetch 1) ∷ []
 abbrev pub answers : List ℕ
 answers = first_answer ++ second_answer
 
--- The answers are cut behind so many bytes of the second one. The next life goes on from there.
-pub record MirrorGoesOn (n : ℕ) : Type 0 where
+-- The answers are cut behind so many bytes of the second one, which leaves the mirror so; and over
+-- the note that it leaves the next life begins. That there is such a life is what the law says.
+pub record MirrorGoesOn (n : ℕ) (left : MirrorAt) : Type 0 where
   pub says : Says first.note (words_noted blank first.list)
   pub lives : Lives (MirrorTakes blank) first records kept answers
+  pub cuts :
+      CutsBehind (MirrorTakes blank) (CutsAnswer (λ (at : MirrorAt). at.note)) first records
+      (take (length first_answer + n) answers) left
+  pub next :
+      BeginsBehind left.note blank
+      (record { list = Restart ∷ (Cut ∷ left.list); note = left.note })
   pub goes_on : GoesOnFrom blank first records (take (length first_answer + n) answers)
 
--- The next life goes on where the cut is within the save of the state, and where it is behind
--- that, within the CopyOk.
+-- A cut within the save of the state leaves the mirror as if that had not come; one behind the
+-- save, within the CopyOk, leaves it with the state.
 pub record MirrorIsCut : Type 0 where
   pub is_in_save : 100 < length (saved kept.note)
-  pub in_save : MirrorGoesOn 100
+  pub in_save : MirrorGoesOn 100 granted
   pub is_behind_save : length (saved kept.note) < 180
   pub is_in_sent : 180 < length (saved kept.note ++ says (CopyOk 1 0 0))
-  pub behind_save : MirrorGoesOn 180
+  pub behind_save : MirrorGoesOn 180 kept

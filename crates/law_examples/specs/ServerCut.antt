@@ -8,18 +8,19 @@ use Rattle.messages.specs.declared.node.Node.TheVariants.{Server, Client}
 use Rattle.messages.specs.FrameBytes.{frame_spelling}
 use Rattle.write_order.specs.Stamps.{stamped_sector}
 use Rattle.server_core.specs.declared.input.Input.TheVariants.{Deliver, Issue}
-use Rattle.server_core.specs.Hearing.{FrameEntry, Met, Restart}
+use Rattle.server_core.specs.Hearing.{FrameEntry, Met, Cut, Restart}
 use Rattle.server_core.specs.History.{Opening}
 use Rattle.server_core.specs.Note.{Says, spelling}
 use Rattle.filters.specs.declared.kinds.Said.TheVariants.{Save, Send, Order}
 use Rattle.filters.specs.declared.kinds.Told.TheVariants as told
 use Rattle.filters.specs.Kinds.{told_number, said_number}
 use Rattle.filters.specs.Lives.{RecordParts, Lives}
-use Rattle.filters.specs.NodeCuts.{saved}
+use Rattle.filters.specs.Cuts.{CutsBehind}
+use Rattle.filters.specs.NodeCuts.{saved, CutsAnswer}
 use Rattle.filters.specs.Records.{record_bytes, end_bytes}
 use Rattle.filters.specs.ServerAt.{ServerAt, no_checks, noted}
 use Rattle.filters.specs.ServerCuts.{GoesOnFrom}
-use Rattle.filters.specs.ServerLives.{ServerTakes}
+use Rattle.filters.specs.ServerLives.{ServerTakes, BeginsBehind, next_boot}
 use Rattle.filters.specs.ServerTells.{order_name}
 use Rattle.law_examples.specs.OneJob.{key, text}
 use Rattle.law_examples.specs.Packets.{to_server}
@@ -83,17 +84,28 @@ records = reads (Start 1) ∷ reads (Jobs 1 text) ∷ []
 abbrev pub answers : List ℕ
 answers = first_answer ++ second_answer
 
--- The answers are cut behind so many bytes of the second one. The next life goes on from there.
-pub record ServerGoesOn (n : ℕ) : Type 0 where
+-- The answers are cut behind so many bytes of the second one, which leaves the server so; and over
+-- the note that it leaves the next life begins. That there is such a life is what the law says.
+pub record ServerGoesOn (n : ℕ) (left : ServerAt) : Type 0 where
   pub says : Says first.note (noted opening first.list)
   pub lives : Lives (ServerTakes opening) first records started answers
+  pub cuts :
+      CutsBehind (ServerTakes opening) (CutsAnswer (λ (at : ServerAt). at.note)) first records
+      (take (length first_answer + n) answers) left
+  pub next :
+      BeginsBehind opening.me left.note (noted opening left.list) opening
+      (record {
+        list = Restart Saved ∷ (Cut ∷ left.list);
+        note = next_boot (noted opening left.list);
+        checks = no_checks;
+      })
   pub goes_on : GoesOnFrom opening first records (take (length first_answer + n) answers)
 
--- The next life goes on where the cut is within the save of the Start, and where it is within the
--- order.
+-- A cut within the save of the Start leaves the server as if that had not come; one behind the
+-- save, within the order, leaves it with the run started, and the write ordered.
 pub record ServerIsCut : Type 0 where
   pub is_in_save : 20 < length (saved started.note)
-  pub in_save : ServerGoesOn 20
+  pub in_save : ServerGoesOn 20 staged
   pub is_behind_started : length (saved started.note ++ says (Started 1)) < 100
   pub is_in_order : 100 < length (saved started.note ++ (says (Started 1) ++ first_order))
-  pub behind_save : ServerGoesOn 100
+  pub behind_save : ServerGoesOn 100 started
