@@ -1,7 +1,8 @@
 #!/usr/bin/env python3
 """Reads crates/*/specs/*.antt: the comment above each definition, and which definitions each one
 names. tools/make-definitions uses it. Run by itself, it reads a few planted files, in which a
-definition is handed on, and prints `1 passed, 0 failed` where it finds what they are made of."""
+definition is handed on, or has the name of a variable, and prints `1 passed, 0 failed` where it
+finds what they are made of."""
 import re, sys, tempfile
 from collections import namedtuple
 
@@ -12,6 +13,7 @@ USE = re.compile(r"(pub )?use Rattle\.(\w+)\.specs\.(\w+)(?:\.\{(.*)\}| as (\w+)
 WORD = re.compile(r"[A-Za-z_][\w'-]*(?:\.[A-Za-z_][\w'-]*)*")
 DEFINITION = re.compile(r"(abbrev |unfoldable )*(pub )?(record |data )?([^\s:(){}]+)(?= )")
 VARIANT = re.compile(r"  (?:pub )?([^\s:(){}]+) : ")
+BOUND = re.compile(r"(?<![\w'.-])[a-z_][\w'-]*(?![\w'.-])")
 
 
 class Row:
@@ -92,12 +94,28 @@ def words_of(listed):
         yield word, as_word or word
 
 
+def equations_of(name, lines):
+    """The text of a definition, in parts: what stands before its equations, and each of these."""
+    parts = [[]]
+    for line in lines:
+        if line.strip().startswith(f"{name} ") and not line.strip().startswith(f"{name} :"):
+            parts.append([])
+        parts[-1].append(line)
+    return ["\n".join(part) for part in parts]
+
+
+def bound_by(name, equation):
+    """The variables that the left side of an equation binds."""
+    left, equals, _ = equation.partition(" =")
+    return {*BOUND.findall(left)} - {name} if equals and left.strip().startswith(f"{name} ") else set()
+
+
 class Names:
     """What each definition names, over all crates. A definition is its crate, its file and its name."""
 
     def __init__(self, crates):
         self.files = {(crate.name, file): it for crate in crates for file, it in crate.files.items()}
-        self.scopes = {place: self.scope_of(place) for place in self.files}
+        self.scopes, self.named = {place: self.scope_of(place) for place in self.files}, {}
 
     def scope_of(self, place):
         """What the words in a file stand for: definitions, and files under a name of their own."""
@@ -124,15 +142,26 @@ class Names:
         return None
 
     def named_by(self, definition):
+        """The definitions that this one names."""
+        if definition not in self.named:
+            self.named[definition] = [*self.read_named(definition)]
+        return self.named[definition]
+
+    def read_named(self, definition):
+        """Where an equation binds the name of a definition, it's a variable there."""
         crate, file, name = definition
         names, folders = self.scopes[crate, file]
-        for word in WORD.findall("\n".join(self.files[crate, file].texts[name])):
-            first, *more = word.split(".")
-            found = self.found(folders[first], more[0]) if first in folders and more else None
-            if found:
-                yield found
-            elif first in names:
-                yield names[first]
+        for equation in equations_of(name, self.files[crate, file].texts[name]):
+            bound = bound_by(name, equation)
+            for word in WORD.findall(equation):
+                first, *more = word.split(".")
+                found = self.found(folders[first], more[0]) if first in folders and more else None
+                if first in bound:
+                    continue
+                if found:
+                    yield found
+                elif first in names:
+                    yield names[first]
 
     def made_of(self, roots):
         """These definitions, and all that they are made of."""
@@ -164,6 +193,8 @@ PLANTED = {
     "mid": "-- What is handed on.\npub use Rattle.low.specs.it.{low as handed}\n",
     "high": "-- A word.\nuse Rattle.mid.specs.it.{handed as mine}\nabbrev pub high : ℕ\nhigh = mine\n",
     "top": "-- A file.\nuse Rattle.mid.specs.it as mid\nabbrev pub top : ℕ\ntop = mid.handed\n",
+    "own": "-- A variable.\nuse Rattle.low.specs.it.{low}\nabbrev pub own : ℕ → ℕ\nown zero = zero\nown low = low\n",
+    "both": "-- And one beside it.\nuse Rattle.low.specs.it.{low}\nabbrev pub both : ℕ → ℕ\nboth zero = low\nboth low = low\n",
 }
 
 
@@ -177,7 +208,8 @@ def main():
             it.flush()
             crates.append(planted(name, {"it": File(it.name)}))
     names, low = Names(crates), ("low", "it", "low")
-    passed = all(names.made_of([(name, "it", name)]) == {(name, "it", name), low} for name in ("high", "top"))
+    passed = all(names.made_of([(name, "it", name)]) == {(name, "it", name), low} for name in ("high", "top", "both"))
+    passed = passed and names.made_of([("own", "it", "own")]) == {("own", "it", "own")}
     passed = passed and crates[1].files["it"].names() == []
     print("1 passed, 0 failed" if passed else "0 passed, 1 failed")
     return 0 if passed else 1
