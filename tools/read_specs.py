@@ -163,22 +163,19 @@ class Names:
                 elif first in names:
                     yield names[first]
 
-    def made_of(self, roots):
-        """These definitions, and all that they are made of."""
+    def made_of(self, roots, named=frozenset(), met=None):
+        """These definitions, and all that they are made of. What is named isn't unfolded, and is no
+        part of it; `met` gets what there is of that."""
         found, left = set(roots), list(roots)
         while left:
             for each in self.named_by(left.pop()):
-                if each not in found:
+                if each in named:
+                    if met is not None:
+                        met.add(each)
+                elif each not in found:
                     found.add(each)
                     left.append(each)
         return found
-
-    def headline(self):
-        claims = [("net_world", "Headline", name) for name in self.files["net_world", "Headline"].names()]
-        return claims + [("net_world", "Claims", name) for name in ("AtEachMoment", "OfItsTrace", "OfItsFrames")]
-
-    def seen(self):
-        return [("seen", "Claims", name) for name in self.files["seen", "Claims"].names()]
 
     def lines(self, definitions):
         return sum(bool(line.strip()) for crate, file, name in definitions for line in self.files[crate, file].texts[name])
