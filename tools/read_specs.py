@@ -96,9 +96,9 @@ def words_of(listed):
 
 def equations_of(name, lines):
     """The text of a definition, in parts: what stands before its equations, and each of these."""
-    parts = [[]]
+    parts, indent = [[]], " " * (len(lines[0]) - len(lines[0].lstrip()))
     for line in lines:
-        if line.strip().startswith(f"{name} ") and not line.strip().startswith(f"{name} :"):
+        if line.startswith(f"{indent}{name} ") and not line.startswith(f"{indent}{name} :"):
             parts.append([])
         parts[-1].append(line)
     return ["\n".join(part) for part in parts]
@@ -118,28 +118,36 @@ class Names:
         self.scopes, self.named = {place: self.scope_of(place) for place in self.files}, {}
 
     def scope_of(self, place):
-        """What the words in a file stand for: definitions, and files under a name of their own."""
-        names = {word: (*place, name) for word, name in self.files[place].own.items()}
-        folders = {}
+        """What the words in a file stand for: definitions, and files under a name of their own; and
+        which of the words are variants."""
+        names, folders = {word: (*place, name) for word, name in self.files[place].own.items()}, {}
+        variants = {word for word, name in self.files[place].own.items() if word != name}
         for _, crate, file, listed, other in self.files[place].uses:
             if (crate, file) in self.files and listed is None:
                 folders[other or file] = (crate, file)
             for word, as_word in words_of(listed):
-                found = self.found((crate, file), word)
-                if found:
-                    names[as_word] = found
-        return names, folders
+                at, there = self.place_of((crate, file), word)
+                if at:
+                    names[as_word] = self.found(at, there)
+                    variants |= {as_word} if names[as_word][2] != there else set()
+        return names, folders, variants
 
-    def found(self, place, word):
-        """The definition that a word of this file is of: its own, or one that it hands on."""
+    def place_of(self, place, word):
+        """The file where a word of this file stands, its own or one that hands it on, and the word
+        that it is there."""
         file = self.files.get(place)
         if file and word in file.own:
-            return (*place, file.own[word])
+            return place, word
         for shared, crate, other, listed, _ in file.uses if file else []:
             for there, as_word in words_of(listed) if shared else []:
                 if as_word == word:
-                    return self.found((crate, other), there)
-        return None
+                    return self.place_of((crate, other), there)
+        return None, word
+
+    def found(self, place, word):
+        """The definition that a word of this file is of: its own, or one that it hands on."""
+        at, there = self.place_of(place, word)
+        return (*at, self.files[at].own[there]) if at else None
 
     def named_by(self, definition):
         """The definitions that this one names."""
@@ -150,9 +158,9 @@ class Names:
     def read_named(self, definition):
         """Where an equation binds the name of a definition, it's a variable there."""
         crate, file, name = definition
-        names, folders = self.scopes[crate, file]
+        names, folders, variants = self.scopes[crate, file]
         for equation in equations_of(name, self.files[crate, file].texts[name]):
-            bound = bound_by(name, equation)
+            bound = bound_by(name, equation) - variants
             for word in WORD.findall(equation):
                 first, *more = word.split(".")
                 found = self.found(folders[first], more[0]) if first in folders and more else None
@@ -191,6 +199,9 @@ PLANTED = {
     "high": "-- A word.\nuse Rattle.mid.specs.it.{handed as mine}\nabbrev pub high : ℕ\nhigh = mine\n",
     "top": "-- A file.\nuse Rattle.mid.specs.it as mid\nabbrev pub top : ℕ\ntop = mid.handed\n",
     "own": "-- A variable.\nuse Rattle.low.specs.it.{low}\nabbrev pub own : ℕ → ℕ\nown zero = zero\nown low = low\n",
+    "call": "-- A call.\nuse Rattle.low.specs.it.{low}\nabbrev pub call : ℕ → Bool\ncall n =\n    call low == n\n",
+    "sort": "-- A sort.\npub data Sort : Type 0 where\n  one : Sort\n  two : Sort\n",
+    "sorts": "-- By variants.\nuse Rattle.sort.specs.it.{one, two as other}\nabbrev pub sorts : _ → ℕ\nsorts other = 0\nsorts _ = 1\n",
     "both": "-- And one beside it.\nuse Rattle.low.specs.it.{low}\nabbrev pub both : ℕ → ℕ\nboth zero = low\nboth low = low\n",
 }
 
@@ -205,8 +216,9 @@ def main():
             it.flush()
             crates.append(planted(name, {"it": File(it.name)}))
     names, low = Names(crates), ("low", "it", "low")
-    passed = all(names.made_of([(name, "it", name)]) == {(name, "it", name), low} for name in ("high", "top", "both"))
+    passed = all(names.made_of([(name, "it", name)]) == {(name, "it", name), low} for name in ("high", "top", "both", "call"))
     passed = passed and names.made_of([("own", "it", "own")]) == {("own", "it", "own")}
+    passed = passed and names.made_of([("sorts", "it", "sorts")]) == {("sorts", "it", "sorts"), ("sort", "it", "Sort")}
     passed = passed and crates[1].files["it"].names() == []
     print("1 passed, 0 failed" if passed else "0 passed, 1 failed")
     return 0 if passed else 1
