@@ -1,7 +1,8 @@
 #!/usr/bin/env python3
 """Reads crates/*/specs/*.antt: the comment above each definition, and which definitions each one
 names. tools/make-definitions uses it. Run by itself, it reads a few planted files, in which a
-definition is handed on, and prints `1 passed, 0 failed` where it finds what they are made of."""
+definition is handed on, or has the name of a variable, and prints `1 passed, 0 failed` where it
+finds what they are made of."""
 import re, sys, tempfile
 from collections import namedtuple
 
@@ -12,6 +13,7 @@ USE = re.compile(r"(pub )?use Rattle\.(\w+)\.specs\.(\w+)(?:\.\{(.*)\}| as (\w+)
 WORD = re.compile(r"[A-Za-z_][\w'-]*(?:\.[A-Za-z_][\w'-]*)*")
 DEFINITION = re.compile(r"(abbrev |unfoldable )*(pub )?(record |data )?([^\s:(){}]+)(?= )")
 VARIANT = re.compile(r"  (?:pub )?([^\s:(){}]+) : ")
+BOUND = re.compile(r"(?<![\w'.-])[a-z_][\w'-]*(?![\w'.-])")
 
 
 class Row:
@@ -92,64 +94,96 @@ def words_of(listed):
         yield word, as_word or word
 
 
+def equations_of(name, lines):
+    """The text of a definition, in parts: what stands before its equations, and each of these."""
+    parts, indent = [[]], " " * (len(lines[0]) - len(lines[0].lstrip()))
+    for line in lines:
+        if line.startswith(f"{indent}{name} ") and not line.startswith(f"{indent}{name} :"):
+            parts.append([])
+        parts[-1].append(line)
+    return ["\n".join(part) for part in parts]
+
+
+def bound_by(name, equation):
+    """The variables that the left side of an equation binds."""
+    left, equals, _ = equation.partition(" =")
+    return {*BOUND.findall(left)} - {name} if equals and left.strip().startswith(f"{name} ") else set()
+
+
 class Names:
     """What each definition names, over all crates. A definition is its crate, its file and its name."""
 
     def __init__(self, crates):
         self.files = {(crate.name, file): it for crate in crates for file, it in crate.files.items()}
-        self.scopes = {place: self.scope_of(place) for place in self.files}
+        self.scopes, self.named = {place: self.scope_of(place) for place in self.files}, {}
 
     def scope_of(self, place):
-        """What the words in a file stand for: definitions, and files under a name of their own."""
-        names = {word: (*place, name) for word, name in self.files[place].own.items()}
-        folders = {}
+        """What the words in a file stand for: definitions, and files under a name of their own; and
+        which of the words are variants."""
+        names, folders = {word: (*place, name) for word, name in self.files[place].own.items()}, {}
+        variants = {word for word, name in self.files[place].own.items() if word != name}
         for _, crate, file, listed, other in self.files[place].uses:
             if (crate, file) in self.files and listed is None:
                 folders[other or file] = (crate, file)
             for word, as_word in words_of(listed):
-                found = self.found((crate, file), word)
-                if found:
-                    names[as_word] = found
-        return names, folders
+                at, there = self.place_of((crate, file), word)
+                if at:
+                    names[as_word] = self.found(at, there)
+                    variants |= {as_word} if names[as_word][2] != there else set()
+        return names, folders, variants
 
-    def found(self, place, word):
-        """The definition that a word of this file is of: its own, or one that it hands on."""
+    def place_of(self, place, word):
+        """The file where a word of this file stands, its own or one that hands it on, and the word
+        that it is there."""
         file = self.files.get(place)
         if file and word in file.own:
-            return (*place, file.own[word])
+            return place, word
         for shared, crate, other, listed, _ in file.uses if file else []:
             for there, as_word in words_of(listed) if shared else []:
                 if as_word == word:
-                    return self.found((crate, other), there)
-        return None
+                    return self.place_of((crate, other), there)
+        return None, word
+
+    def found(self, place, word):
+        """The definition that a word of this file is of: its own, or one that it hands on."""
+        at, there = self.place_of(place, word)
+        return (*at, self.files[at].own[there]) if at else None
 
     def named_by(self, definition):
-        crate, file, name = definition
-        names, folders = self.scopes[crate, file]
-        for word in WORD.findall("\n".join(self.files[crate, file].texts[name])):
-            first, *more = word.split(".")
-            found = self.found(folders[first], more[0]) if first in folders and more else None
-            if found:
-                yield found
-            elif first in names:
-                yield names[first]
+        """The definitions that this one names."""
+        if definition not in self.named:
+            self.named[definition] = [*self.read_named(definition)]
+        return self.named[definition]
 
-    def made_of(self, roots):
-        """These definitions, and all that they are made of."""
+    def read_named(self, definition):
+        """Where an equation binds the name of a definition, it's a variable there."""
+        crate, file, name = definition
+        names, folders, variants = self.scopes[crate, file]
+        for equation in equations_of(name, self.files[crate, file].texts[name]):
+            bound = bound_by(name, equation) - variants
+            for word in WORD.findall(equation):
+                first, *more = word.split(".")
+                found = self.found(folders[first], more[0]) if first in folders and more else None
+                if first in bound:
+                    continue
+                if found:
+                    yield found
+                elif first in names:
+                    yield names[first]
+
+    def made_of(self, roots, named=frozenset(), met=None):
+        """These definitions, and all that they are made of. What is named isn't unfolded, and is no
+        part of it; `met` gets what there is of that."""
         found, left = set(roots), list(roots)
         while left:
             for each in self.named_by(left.pop()):
-                if each not in found:
+                if each in named:
+                    if met is not None:
+                        met.add(each)
+                elif each not in found:
                     found.add(each)
                     left.append(each)
         return found
-
-    def headline(self):
-        claims = [("net_world", "Headline", name) for name in self.files["net_world", "Headline"].names()]
-        return claims + [("net_world", "Claims", name) for name in ("AtEachMoment", "OfItsTrace", "OfItsFrames")]
-
-    def seen(self):
-        return [("seen", "Claims", name) for name in self.files["seen", "Claims"].names()]
 
     def lines(self, definitions):
         return sum(bool(line.strip()) for crate, file, name in definitions for line in self.files[crate, file].texts[name])
@@ -164,6 +198,11 @@ PLANTED = {
     "mid": "-- What is handed on.\npub use Rattle.low.specs.it.{low as handed}\n",
     "high": "-- A word.\nuse Rattle.mid.specs.it.{handed as mine}\nabbrev pub high : ℕ\nhigh = mine\n",
     "top": "-- A file.\nuse Rattle.mid.specs.it as mid\nabbrev pub top : ℕ\ntop = mid.handed\n",
+    "own": "-- A variable.\nuse Rattle.low.specs.it.{low}\nabbrev pub own : ℕ → ℕ\nown zero = zero\nown low = low\n",
+    "call": "-- A call.\nuse Rattle.low.specs.it.{low}\nabbrev pub call : ℕ → Bool\ncall n =\n    call low == n\n",
+    "sort": "-- A sort.\npub data Sort : Type 0 where\n  one : Sort\n  two : Sort\n",
+    "sorts": "-- By variants.\nuse Rattle.sort.specs.it.{one, two as other}\nabbrev pub sorts : _ → ℕ\nsorts other = 0\nsorts _ = 1\n",
+    "both": "-- And one beside it.\nuse Rattle.low.specs.it.{low}\nabbrev pub both : ℕ → ℕ\nboth zero = low\nboth low = low\n",
 }
 
 
@@ -177,7 +216,9 @@ def main():
             it.flush()
             crates.append(planted(name, {"it": File(it.name)}))
     names, low = Names(crates), ("low", "it", "low")
-    passed = all(names.made_of([(name, "it", name)]) == {(name, "it", name), low} for name in ("high", "top"))
+    passed = all(names.made_of([(name, "it", name)]) == {(name, "it", name), low} for name in ("high", "top", "both", "call"))
+    passed = passed and names.made_of([("own", "it", "own")]) == {("own", "it", "own")}
+    passed = passed and names.made_of([("sorts", "it", "sorts")]) == {("sorts", "it", "sorts"), ("sort", "it", "Sort")}
     passed = passed and crates[1].files["it"].names() == []
     print("1 passed, 0 failed" if passed else "0 passed, 1 failed")
     return 0 if passed else 1

@@ -117,7 +117,7 @@ client_sends laws w ps (Some (OfMirror e)) p from h =
 
 -- ---- it is on then
 
-on_by : (b : Bool) (rest : List Fault) → is_none (slice_get (when (not b) Down ++ rest) 0) ≡ true → b ≡ true
+pub on_by : (b : Bool) (rest : List Fault) → is_none (slice_get (when (not b) Down ++ rest) 0) ≡ true → b ≡ true
 on_by true rest h = refl
 on_by false rest h = absurd cc
 
@@ -135,7 +135,7 @@ sent_if : (b : Bool) (xs : List PacketParts) (p : PacketParts) → Contains (if 
 sent_if true xs p h = refl
 sent_if false xs p h = absurd (none_in p h)
 
-stays_on : (a : Bool) (b : Bool) → a ≡ true → b ≡ false → (a && not b) ≡ true
+pub stays_on : (a : Bool) (b : Bool) → a ≡ true → b ≡ false → (a && not b) ≡ true
 stays_on true false h k = refl
 stays_on true true h k = absurd cc
 stays_on false b h k = absurd cc
@@ -152,7 +152,7 @@ is_on_then o past (Restart mirror) p h = absurd (none_in p h)
 is_on_then o past (Renew g left) p h = absurd (none_in p h)
 is_on_then o past Lose p h = absurd (none_in p h)
 
-shown_if : (b : Bool) (x : Option State) (state : State) → b ≡ true → x ≡ Some state → (if b then x else None) ≡ Some state
+pub shown_if : (b : Bool) (x : Option State) (state : State) → b ≡ true → x ≡ Some state → (if b then x else None) ≡ Some state
 shown_if true x state h k = k
 shown_if false x state h k = absurd cc
 
@@ -176,15 +176,15 @@ one_or_none : (x : State) (list : List State) → list ≡ [] → list ≡ x ∷
 one_or_none x list h k = let both : [] ≡ x ∷ [] = sym h ∙ k in absurd cc
 
 -- Where a server has said that a job has no state, none of it is seen.
-none_is_seen : AckLaws → (w : Setup) (evs : List Happening) (s run job jobs : ℕ) → w.servers ≤ MAX_SERVERS
+pub none_is_seen : Sayings → SeenLaws → (w : Setup) (evs : List Happening) (s run job jobs : ℕ) → w.servers ≤ MAX_SERVERS
     → Contains (sent_packets w (trace w (world w evs))) (from_server s (bodies.NoState run job jobs)) → (other : State) → other.key ≡ key_at run s job
     → IsSeen (observations w evs) other → ⊥
-none_is_seen laws w evs s run job jobs few sent other key seen =
+none_is_seen sayings laws w evs s run job jobs few sent other key seen =
     let q = from_server s (bodies.NoState run job jobs) in
     let t = trace w (world w evs) in
-    let none = (none_says laws.sayings s (of_server s t) q run job jobs (sent_by laws.sayings w s t q refl sent) refl).none in
+    let none = (none_says sayings s (of_server s t) q run job jobs (sent_by sayings w s t q refl sent) refl).none in
     one_or_none other (all_taken w evs (key_at run s job)) none
-    (ap (all_taken w evs) (sym key) ∙ seen_was_taken laws.seen w evs few other seen)
+    (ap (all_taken w evs) (sym key) ∙ seen_was_taken laws w evs few other seen)
 
 ack_here : AckLaws → (w : Setup) (evs : List Happening) (e : Happening) (s run job : ℕ) → w.servers ≤ MAX_SERVERS
     → IsAmong (observation w evs e).frames (to_server s (bodies.StateAck run job)) → IsKeptOrNone (observations w evs) (observation w evs e) s run job
@@ -217,7 +217,7 @@ ack_here laws w evs e s run job few h =
           subst (λ fs. Contains fs (Whole q)) (sym (laws.arriving.frames w (steps past))) (of_whole (sent_packets w (trace w past)) q short sent) in
           inr (
             (none.0, subst (λ fs. IsAmong fs q) (sym (frames_are w evs)) (say_among laws.frames.read w evs few (sent_at w evs) q whole whole)),
-            none_is_seen laws w evs s run job none.0 few sent,
+            none_is_seen laws.sayings laws.seen w evs s run job none.0 few sent,
           )
     ]
 

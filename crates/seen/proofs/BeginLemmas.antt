@@ -43,7 +43,7 @@ is_given pick (x ∷ deeds) d k h is = elim (first_or_behind x deeds d h) [
 ]
 
 -- Where the numbers are distinct, the first deed's is none of the others'.
-is_new : (pick : Deed → List ℕ) (x d : Deed) (deeds : List Deed) (k : ℕ) → is_distinct (flat_map pick (x ∷ deeds)) ≡ true → pick x ≡ k ∷ [] → pick d ≡ k ∷ []
+pub is_new : (pick : Deed → List ℕ) (x d : Deed) (deeds : List Deed) (k : ℕ) → is_distinct (flat_map pick (x ∷ deeds)) ≡ true → pick x ≡ k ∷ [] → pick d ≡ k ∷ []
     → Contains deeds d → ⊥
 is_new pick x d deeds k once here there h =
     let rest = flat_map pick deeds in
@@ -82,7 +82,7 @@ done_before w evs e d calm numbers h =
     ]
 
 -- What is done with one deed more.
-one_done : (w : Setup) (evs : List Happening) (e : Happening) (x : Deed) → deeds_by w (world w evs) (outcome w (world w evs) e) ≡ x ∷ []
+pub one_done : (w : Setup) (evs : List Happening) (e : Happening) (x : Deed) → deeds_by w (world w evs) (outcome w (world w evs) e) ≡ x ∷ []
     → all_done w (e ∷ evs) ≡ x ∷ all_done w evs
 one_done w evs e x is = all_with w evs e ∙ ap (λ l. l ++ all_done w evs) is
 

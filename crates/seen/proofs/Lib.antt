@@ -5,9 +5,11 @@ mod BeginLemmas
 mod CameLemmas
 mod CheckLemmas
 mod ClientLemmas
+mod ComeLemmas
 mod CutLemmas
 mod DoneLemmas
 mod EndLemmas
+mod EndedLemmas
 mod EntryLemmas
 mod ExampleLemmas
 mod FileLemmas
@@ -16,10 +18,13 @@ mod GivenLemmas
 mod HistoryLemmas
 mod HonestLemmas
 mod IssuedLemmas
+mod KeptLemmas
+mod LossLemmas
 mod MakeLemmas
 mod MarkLemmas
 mod NoneLemmas
 mod NumberLemmas
+mod OnceLemmas
 mod OrderLemmas
 mod PlaceLemmas
 mod ProgressLemmas
@@ -32,6 +37,7 @@ mod RunLemmas
 mod SeenLemmas
 mod ServerLemmas
 mod SettingLemmas
+mod StoryLemmas
 mod TakingLemmas
 mod TextLemmas
 mod ToldLemmas

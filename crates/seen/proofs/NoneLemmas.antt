@@ -13,7 +13,6 @@ use Rattle.net_world.specs.Setup.{Setup}
 use Rattle.net_world.specs.Happenings.{Happening}
 use Rattle.net_world.specs.Trace.{AtClient, of_client, client_opening}
 use Rattle.net_world.specs.Barred as barred
-use Rattle.net_world.specs.Frames as frames
 use Rattle.net_world.specs.Frames.{OfClient}
 use Rattle.net_world.specs.Holders.{key_at}
 use Rattle.net_world.specs.Changes.{steps, trace}

@@ -1,20 +1,22 @@
 -- What is claimed of all that is seen of a world, at each moment of it.
-use Rattle.std.specs.Prelude.{◌≡◌, ℕ, List, ◌∷◌, ◌++◌, None, Ok, Err}
+use Rattle.std.specs.Prelude.{◌≡◌, ℕ, true, List, ◌∷◌, ◌++◌, Some, None, Ok, Err}
 use Rattle.fc_base.specs.declared.fault.Fault.{Fault}
 use Rattle.fc_base.specs.declared.report.ReportParts.{ReportParts}
 use Rattle.verify_state.specs.State.{State}
 use Rattle.messages.specs.declared.refusal.Act.TheVariants.{Cut}
-use Rattle.messages.specs.declared.body.Body.TheVariants.{NoSaved, Report, StateAck}
+use Rattle.messages.specs.declared.body.Body.TheVariants.{NoSaved, Report, StateAck, State as StateBody}
 use Rattle.net_world.specs.declared.told.Told.{Told}
 use Rattle.net_world.specs.declared.told.WorldAnswer.TheVariants.{Checked}
 use Rattle.net_world.specs.Happenings.{Check}
 use Rattle.net_world.specs.Holders.{key_at}
 use Rattle.seen.specs.Observations.{Observation}
-use Rattle.seen.specs.Sightings.{IsAmong, IsSeen, from_server, to_server}
+use Rattle.seen.specs.Sightings.{Comes, IsAmong, IsSeen, from_server, to_server}
+use Rattle.seen.specs.Texts.{Asked, text_with, text_of, asked_with, asked_of}
 use Rattle.seen.specs.Refusals.{ChangesNothing}
 use Rattle.seen.specs.Takings.{IsTaken}
 use Rattle.seen.specs.Reports.{IsExact, WasTold}
 use Rattle.seen.specs.Cuts.{IsAcknowledged, IsKeptOrNone}
+use Rattle.seen.specs.Kept.{is_answer, keeps_note, StaysKept, EndedWell}
 
 -- An event that is refused changes nothing of what is seen.
 abbrev pub RefusalsChangeNothing : List Observation → Type 0
@@ -69,3 +71,37 @@ AcksAreOfKept seen =
     (newer older : List Observation) (o : Observation) (s run job : ℕ) →
     seen ≡ newer ++ o ∷ older → IsAmong o.frames (to_server s (StateAck run job))
     → IsKeptOrNone older o s run job
+
+-- A State that has come to the client stays in its note, until this is lost.
+abbrev pub WhatComesIsKept : List Observation → Type 0
+WhatComesIsKept seen =
+    (newer older : List Observation) (came : Observation) (s jobs : ℕ) (state : State) →
+    seen ≡ newer ++ came ∷ older → Comes older came (from_server s (StateBody jobs state))
+    → StaysKept newer came state
+
+-- Where a trigger has ended well at a server, and the client's note wasn't lost since, the note
+-- shows each state that is seen of the run and server.
+abbrev pub EndedIsKept : List Observation → Type 0
+EndedIsKept seen =
+    (newer recent old : List Observation) (o : Observation) (s run : ℕ) (state : State) →
+    seen ≡ newer ++ o ∷ (recent ++ old) → EndedWell recent old s run → keeps_note recent ≡ true
+    → is_answer o ≡ true → IsSeen (recent ++ old) state → state.key.run ≡ run
+    → state.key.server ≡ s → o.saved state.key ≡ Some state
+
+-- No Begin is told a number of a run that one before was told: so a run has one job file.
+abbrev pub RunsAreGivenOnce : List Observation → Type 0
+RunsAreGivenOnce seen =
+    (newer older : List Observation) (o : Observation) (run : ℕ) (text : List ℕ) →
+    seen ≡ newer ++ o ∷ older → text_with run o.event o.told ≡ Some text → text_of run older ≡ None
+
+-- No Verify is told a number of an attempt that one before was told: so an attempt has one run and
+-- job file.
+abbrev pub AttemptsAreGivenOnce : List Observation → Type 0
+AttemptsAreGivenOnce seen =
+    (newer older : List Observation) (o : Observation) (attempt : ℕ) (asked : Asked) →
+    seen ≡ newer ++ o ∷ older → asked_with attempt o.event o.told ≡ Some asked
+    → asked_of attempt older ≡ None
+
+-- Numbers of runs and of attempts are given once.
+abbrev pub NumbersAreGivenOnce : List Observation → Type 0
+NumbersAreGivenOnce seen = RunsAreGivenOnce seen × AttemptsAreGivenOnce seen

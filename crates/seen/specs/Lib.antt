@@ -8,6 +8,7 @@ pub mod Disks
 pub mod Reports
 pub mod Cuts
 pub mod Refusals
+pub mod Kept
 pub mod Claims
 -- The worlds of which it is claimed.
 pub mod Watching

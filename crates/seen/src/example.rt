@@ -1,17 +1,38 @@
-//! A world that can be followed by hand, and what is seen of it. The function has nothing to run.
+//! Worlds that can be followed by hand, and what is seen of them. The function has nothing to run.
 
-ghost use Rattle.seen.specs.Examples.{SeesAState, SeesAReport};
+ghost use Rattle.seen.specs.Examples.{SeesAState, SeesAReport, SeesHonestDisks, SeesACut, SeesAnAck, SeesItKept, SeesNoState, SeesARefusal, SeesTwoRuns};
 
-use crate::law::{each_is_taken, each_report_is_exact};
+use crate::law::{
+    acks_are_of_kept, cuts_are_behind_acks, each_is_taken, each_report_is_exact,
+    each_report_was_told, ended_is_kept, no_saved_is_of_none, numbers_are_given_once,
+    refusals_change_nothing, what_comes_is_kept,
+};
+use net_world::sent_frames_are_read;
 use state_table::found_states;
 
-/// In a world that can be followed by hand a state is seen, and a report, of which the claims are.
+/// In worlds that can be followed by hand there is something of which each claim is.
 pub fn examples()
     ensures state { SeesAState }
     ensures report { SeesAReport }
+    ensures disks { SeesHonestDisks }
+    ensures cut { SeesACut }
+    ensures ack { SeesAnAck }
+    ensures kept { SeesItKept }
+    ensures none { SeesNoState }
+    ensures refusal { SeesARefusal }
+    ensures runs { SeesTwoRuns }
 {
     net_world::examples();
     found_states();
+    sent_frames_are_read();
     each_is_taken();
     each_report_is_exact();
+    each_report_was_told();
+    no_saved_is_of_none();
+    cuts_are_behind_acks();
+    acks_are_of_kept();
+    refusals_change_nothing();
+    what_comes_is_kept();
+    ended_is_kept();
+    numbers_are_given_once();
 }

@@ -1,15 +1,15 @@
 //! What holds of all that is seen of each world. The functions have nothing to run.
 
-ghost use Rattle.seen.specs.Claims.{OneState, EachIsTaken, EachReportIsExact, EachReportWasTold, NoSavedIsOfNone, CutsAreBehindAcks, AcksAreOfKept, RefusalsChangeNothing};
+ghost use Rattle.seen.specs.Claims.{OneState, EachIsTaken, EachReportIsExact, EachReportWasTold, NoSavedIsOfNone, CutsAreBehindAcks, AcksAreOfKept, RefusalsChangeNothing, WhatComesIsKept, EndedIsKept, NumbersAreGivenOnce};
 ghost use Rattle.seen.specs.Watching.{OfAllThatIsSeen};
 
-use client_core::{acks_are_for_kept_states, packets_go_to_peers};
+use client_core::{acks_are_for_kept_states, first_kept_stays, packets_go_to_peers};
 use messages::{lengths_are_bounded, only_sent_comes_together};
 use mirror_core::packets_go_to_the_client;
 use net_world::{
     checks_are_exact, each_world_is_a_trace, frames_are_of_packets, honest_disks,
-    numbers_are_given_once, one_state_of_each_job, sent_are_in_range, sent_frames_are_read,
-    shown_reports_were_made, tags_name_one_body,
+    one_state_of_each_job, sent_are_in_range, sent_frames_are_read, shown_reports_were_made,
+    tags_name_one_body,
 };
 use recheck::reports_fit;
 use server_core::{
@@ -17,6 +17,7 @@ use server_core::{
     open_check_is_last, packets_go_to_client, quiet, starts, the_taken, the_untaken,
     with_was_heard,
 };
+use state_table::{found_after_a_push, found_states};
 
 /// Two states of one key that are seen are the same.
 pub fn one_state()
@@ -55,7 +56,7 @@ pub fn each_is_taken()
     open_check_is_last();
     counts_the_done();
     quiet();
-    numbers_are_given_once();
+    net_world::numbers_are_given_once();
 }
 
 /// The report that a check is told is the one of what its file is seen to hold. Where it is made by a state, it blames
@@ -83,7 +84,7 @@ pub fn each_report_is_exact()
     open_check_is_last();
     counts_the_done();
     quiet();
-    numbers_are_given_once();
+    net_world::numbers_are_given_once();
     checks_are_exact();
     with_was_heard();
     honest_disks();
@@ -113,7 +114,7 @@ pub fn each_report_was_told()
     open_check_is_last();
     counts_the_done();
     quiet();
-    numbers_are_given_once();
+    net_world::numbers_are_given_once();
     checks_are_exact();
     with_was_heard();
     honest_disks();
@@ -191,3 +192,50 @@ pub fn acks_are_of_kept()
 pub fn refusals_change_nothing()
     ensures { OfAllThatIsSeen RefusalsChangeNothing }
 {}
+
+/// A State that has come to the client is shown by its note, at once and behind each later call that the client
+/// answers, until the note is lost.
+pub fn what_comes_is_kept()
+    ensures { OfAllThatIsSeen WhatComesIsKept }
+{
+    sent_frames_are_read();
+    frames_are_of_packets();
+    each_world_is_a_trace();
+    one_state_of_each_job();
+    one_taking();
+    found_states();
+    found_after_a_push();
+    first_kept_stays();
+}
+
+/// Where a trigger has ended well at a server, and the note wasn't lost since, it shows each state that is seen of the
+/// run and server.
+pub fn ended_is_kept()
+    ensures { OfAllThatIsSeen EndedIsKept }
+{
+    sent_frames_are_read();
+    frames_are_of_packets();
+    each_world_is_a_trace();
+    one_state_of_each_job();
+    one_taking();
+    found_states();
+    found_after_a_push();
+    first_kept_stays();
+    numbers_grow();
+    starts();
+    the_taken();
+    the_untaken();
+    packets_go_to_client();
+    packets_go_to_peers();
+    packets_go_to_the_client();
+}
+
+/// No number of a run, and none of an attempt, is told twice, whatever was cut and lost.
+pub fn numbers_are_given_once()
+    ensures { OfAllThatIsSeen NumbersAreGivenOnce }
+{
+    each_world_is_a_trace();
+    packets_go_to_client();
+    packets_go_to_the_client();
+    net_world::numbers_are_given_once();
+}

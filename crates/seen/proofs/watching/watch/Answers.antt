@@ -38,3 +38,15 @@ returns-clause-acks c =
 pub returns-clause-refusals : goal.returns-clause-refusals
 returns-clause-refusals c =
     on_ok c.play.result _ (λ newer older split. c.refusals_change_nothing.ensures (setup_of c.args.config) older c.requires.few)
+
+pub returns-clause-kept : goal.returns-clause-kept
+returns-clause-kept c =
+    on_ok c.play.result _ (λ newer older split. c.what_comes_is_kept.ensures (setup_of c.args.config) older c.requires.few)
+
+pub returns-clause-ended : goal.returns-clause-ended
+returns-clause-ended c =
+    on_ok c.play.result _ (λ newer older split. c.ended_is_kept.ensures (setup_of c.args.config) older c.requires.few)
+
+pub returns-clause-numbers : goal.returns-clause-numbers
+returns-clause-numbers c =
+    on_ok c.play.result _ (λ newer older split. c.numbers_are_given_once.ensures (setup_of c.args.config) older c.requires.few)
