@@ -22,7 +22,7 @@ use Rattle.client_core.specs.Reports.{reports}
 use Rattle.client_core.specs.Words.{kept_state, shown_entries}
 use Rattle.client_core.specs.FrameAnswers.{frames as client_frames}
 use Rattle.client_core.specs.Inputs.{Begin, Trigger as Triggers, Verify as Verifies, Deliver as Hears}
-use Rattle.client_core.specs.Note.{SaysWhatIsWritten, IsNoted, new_note, spelling as client_note}
+use Rattle.client_core.specs.Note.{SaysWhatIsWritten}
 use Rattle.client_core.specs.Refusals.{has_next, is_of_generation, is_free_to_number, is_begun, is_for_client, is_from_server, is_from_mirror}
 use Rattle.server_core.specs.declared.input.Input.TheVariants.{Deliver, Issue, WriteDone, CheckDone}
 use Rattle.server_core.specs.declared.input.WriteEnd.TheVariants.{Done}
@@ -35,9 +35,8 @@ use Rattle.net_world.specs.Frames.{frames_sent, to_of}
 use Rattle.filters.specs.ClientLives.{ClientAt}
 use Rattle.filters.specs.Kinds.{told_numbered}
 use Rattle.filters.specs.ServerAt.{ServerAt}
-use Rattle.filter_traces.specs.Again.{CanBeDrawn, IsOlder}
 use Rattle.filter_traces.specs.Fleets.{AtClient, AtServer, FleetBegins, Ran, Steps, BeginsAtServer}
-use Rattle.filter_traces.specs.Laws.{FleetsAreTraces, FleetsCanBegin, FleetsCanBeginAgain}
+use Rattle.filter_traces.specs.Laws.{FleetsAreTraces}
 use Rattle.filter_traces.specs.Members.{Happening, Answers, EndsWithin, Becomes, WasSentTo, client_member, server_member, frame_bytes_read, sent_since}
 use Rattle.law_examples.specs.OneJob.{key, text, reading_text}
 use Rattle.law_examples.specs.ClientCut as client
@@ -297,33 +296,3 @@ pub goes_through_the_story : LengthsAreBounded → FramesAreRead → SaysWhatIsW
 goes_through_the_story lengths read written law =
     let all = ran lengths read written in
     record { is_within = is_within; begins = begins; ran = all; is_taken = is_taken; is_kept = is_kept; is_reported = is_reported; one_trace = law one (fleet client.first server.first 0) (fleet shown checked 11) steps begins all }
-
--- ---- fleets that begin
-
-is_renewed : IsNoted (new_note 3)
-is_renewed = record { generation = omega arith; runs = omega arith; attempts = omega arith; count = omega arith; states = tt; keys = refl }
-
-pub begins_with_a_mirror : SaysWhatIsWritten → FleetsCanBegin → BeginsWithAMirror
-begins_with_a_mirror written law =
-    let says = written (new_note 3) is_renewed in
-    record {
-      few = omega arith;
-      generation = refl;
-      says = says;
-      blank = says_first;
-      begins = law mirrored 3 (client_note (new_note 3)) [] (omega arith) refl says says_first;
-    }
-
-can_be_drawn : CanBeDrawn 9 2
-can_be_drawn = record { begun = omega arith; runs_fit = omega arith; attempts_fit = omega arith }
-
-are_older : (s : ℕ) → s < 1 → IsOlder 9 (older s)
-are_older s few = record { last = omega arith; booted = λ none. absurd (omega (arith, none)) }
-
-pub begins_over_older : FleetsCanBeginAgain → BeginsOverOlder
-begins_over_older law = record {
-  few = omega arith;
-  drawn = can_be_drawn;
-  are_older = are_older;
-  begins = law 1 9 2 older (omega arith) can_be_drawn are_older;
-}

@@ -14,3 +14,4 @@ mod ServerLossLemmas
 mod StoryClientLemmas
 mod StoryServerLemmas
 mod FleetLemmas
+mod FleetBeginLemmas

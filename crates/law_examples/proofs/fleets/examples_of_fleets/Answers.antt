@@ -1,4 +1,5 @@
 use Rattle.law_examples.proofs.FleetLemmas as lemmas
+use Rattle.law_examples.proofs.FleetBeginLemmas as beginning
 use Rattle.law_examples.proofs.fleets.examples_of_fleets.Goals as goal
 
 pub returns-clause-story : goal.returns-clause-story
@@ -6,7 +7,7 @@ returns-clause-story c =
     lemmas.goes_through_the_story c.lengths_are_bounded.ensures c.frames_are_read_back.ensures c.notes_are_read_back.ensures c.fleet_law.ensures
 
 pub returns-clause-mirror : goal.returns-clause-mirror
-returns-clause-mirror c = lemmas.begins_with_a_mirror c.notes_are_read_back.ensures c.fleets_begin_law.ensures
+returns-clause-mirror c = beginning.begins_with_a_mirror c.notes_are_read_back.ensures c.fleets_begin_law.ensures
 
 pub returns-clause-older : goal.returns-clause-older
-returns-clause-older c = lemmas.begins_over_older c.fleets_begin_again_law.ensures
+returns-clause-older c = beginning.begins_over_older c.fleets_begin_again_law.ensures
