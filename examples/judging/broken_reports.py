@@ -1,0 +1,230 @@
+"""Makes outputs whose reports are wrong, or that give writes too late: each kind is false by one
+claim."""
+
+from judging.checks import Check
+from judging.broken_states import PLACE, flipped, marked
+from judging.draft import Draft, spell, spell_report
+from judging.files import Files
+from judging.frames import Report
+from judging.reports import told_report, ways, what_is_checked
+
+
+def checks(case):
+    """The checks that were told a report: the step, the Report's frame, and the numbers of all
+    frames that say the same of it."""
+    for at in case.steps("check"):
+        sent, job = what_is_checked(case.story, at, told_report(case.story.steps[at].answer))
+        if job:
+            yield at, sent, [number for _, number, frame in case.frames("Report")
+                             if (frame.source, frame.fields) == (sent.source, sent.fields)]
+
+
+def reported(case, at, sent, numbers, report):
+    """A check that is told another report, as are all Reports of it."""
+    draft = Draft(case).answer(at, f"ok report {report}")
+    for number in numbers:
+        draft.frame(number, spell_report(sent, report))
+    return draft
+
+
+def checks_one_more(case):
+    """A report tells of a block more than there is to check."""
+    for at, sent, numbers in checks(case):
+        report = sent.report._replace(checked=sent.report.checked + 1)
+        yield reported(case, at, sent, numbers, report)
+
+
+def checks_one_less(case):
+    """A report tells of a block less than there is to check."""
+    for at, sent, numbers in checks(case):
+        if sent.report.checked:
+            report = sent.report._replace(checked=sent.report.checked - 1)
+            yield reported(case, at, sent, numbers, report)
+
+
+def blames_one_more(case):
+    """A report blames a block that is sound."""
+    for at, sent, numbers in checks(case):
+        first = sent.report.first
+        block = next(it for it in range(40) if it not in first)
+        if sent.report.end == "whole" and len(first) < 32:
+            report = Report(sent.report.checked, sent.report.faults + 1, "whole",
+                            tuple(sorted([*first, block])))
+            yield reported(case, at, sent, numbers, report)
+
+
+def passes_a_fault_over(case):
+    """A report doesn't blame a faulty block."""
+    for at, sent, numbers in checks(case):
+        if sent.report.faults:
+            report = Report(sent.report.checked, sent.report.faults - 1, "whole",
+                            sent.report.first[1:])
+            yield reported(case, at, sent, numbers, report)
+
+
+def ends_otherwise(case):
+    """A report says that its check ended at a fault, or at none."""
+    for at, sent, numbers in checks(case):
+        end = "fault" if sent.report.end == "whole" else "whole"
+        yield reported(case, at, sent, numbers, sent.report._replace(end=end))
+
+
+def of_an_attempt_never_asked(case):
+    """The Report of a check is of an attempt that nobody asked for."""
+    for at, sent, numbers in checks(case):
+        yield Draft(case).frame(numbers[0], spell_report(sent, sent.report, attempt=99))
+
+
+def goes_by_a_state_that_does_not_fit(case):
+    """A check goes by a state with another place of the generator than its job has."""
+    for at, sent, _ in checks(case):
+        key = (sent.fields["run"], int(sent.source), sent.fields["job"])
+        job = what_is_checked(case.story, at, sent.report)[1]
+        if None not in ways(case.story, at, sent.fields, job):
+            spelling = case.story.seen[key][1].state.spelling
+            yield Draft(case).state(key, flipped(spelling, PLACE + 7))
+
+
+def hides_behind_a_run_that_nobody_began(case):
+    """A server says that a run which nobody began has started, and reports a block more."""
+    for at, sent, numbers in checks(case):
+        for step, number, frame in case.frames("JobsOk"):
+            if step < at and frame.source == sent.source:
+                report = sent.report._replace(checked=sent.report.checked + 1)
+                started = spell("Started", sent.source, "client", 99)
+                yield reported(case, at, sent, numbers, report).frame(number, started)
+
+
+def sent_again_otherwise(case):
+    """A Report that is sent again has a fault more."""
+    made = {at for at, _, _ in checks(case)}
+    for at, number, frame in case.frames("Report"):
+        if at not in made:
+            report = frame.report._replace(faults=frame.report.faults + 1)
+            yield Draft(case).frame(number, spell_report(frame, report))
+
+
+def sent_again_of_another_attempt(case):
+    """A Report that is sent again is of another attempt."""
+    made = {at for at, _, _ in checks(case)}
+    for at, number, frame in case.frames("Report"):
+        if at not in made:
+            yield Draft(case).frame(number, spell_report(frame, frame.report, attempt=99))
+
+
+def reports_what_nobody_checked(case):
+    """A Report is sent where no check was made."""
+    for _, number, frame in case.frames("JobsOk", "Stopped"):
+        numbers = (frame.fields["run"], 1, 15, 16, 0, 0, 7, 0, 0)
+        yield Draft(case).frame(number, spell("Report", frame.source, "client", *numbers))
+
+
+def last_report(case, key, at):
+    """The last step with a Report of the run of a key, where that is behind the taking."""
+    steps = case.story.says(str(key[1]), "Report", run=key[0])
+    return steps[-1] if steps and steps[-1] > at else 0
+
+
+def gives_behind_the_taking(case):
+    """A write is given between a taking and a report."""
+    for key, at, _ in case.takings():
+        for issue in case.steps("issue", str(key[1])):
+            if at < issue < last_report(case, key, at) and not case.story.steps[issue].gives():
+                yield Draft(case).answer(issue, "ok write 0 block 0")
+
+
+def reports_behind_a_write(case):
+    """A report of a run is sent behind a write of a later run."""
+    for key, at, _ in case.takings():
+        server = str(key[1])
+        given = [it for it in case.story.writes.by_server[server] if it > at]
+        for step, number, frame in case.frames("JobsOk", "Started", "Stopped", "State", "Refused"):
+            if frame.source == server and given and step > given[0]:
+                numbers = (key[0], 1, key[2], 16, 0, 0, 0, 0, 0)
+                yield Draft(case).frame(number, spell("Report", server, "client", *numbers))
+
+
+def faults_by_a_counted_write(case):
+    """The draft, for each check by a state: the state counts a write in flight that isn't in its
+    block, and so the check blames the block; with whether a write was torn."""
+    files, by_step = Files(case.story), {at: rest for at, *rest in checks(case)}
+    for at in range(len(case.story.steps)):
+        files.follow(at)
+        if at not in by_step:
+            continue
+        sent, numbers = by_step[at]
+        key = (sent.fields["run"], sent.source, str(sent.fields["job"]))
+        job = what_is_checked(case.story, at, sent.report)[1]
+        states = [it for it in ways(case.story, at, sent.fields, job) if it]
+        if key[1:] in files.dishonest or len(states) != 1:
+            continue
+        for write in sorted(set(range(states[0].issued)) - states[0].counted):
+            state = states[0]._replace(counted=states[0].counted | {write})
+            check = Check(files, key, job, state)
+            blocks, in_flight = check.faulty()
+            if any(is_fault and not in_flight[block] for block, is_fault in blocks):
+                draft = reported(case, at, sent, numbers, check.report())
+                yield draft.state(state.key, marked(states[0], write)), key[1:] in files.torn
+
+
+def blames_an_honest_disk(case):
+    """A fault on an honest disk, in a block to which no write was in flight."""
+    for draft, is_torn in list(faults_by_a_counted_write(case))[::-1]:
+        if is_torn:
+            yield draft
+
+
+def blames_where_no_write_is_torn(case):
+    """A fault on an honest disk, where each write landed whole."""
+    for draft, is_torn in faults_by_a_counted_write(case):
+        if not is_torn:
+            yield draft
+
+
+def lies(case, key):
+    """The steps in which a write of a job was told done that a check by its state blames: nothing
+    of it had landed, and no write to its block was in flight at the taking."""
+    words, state = (str(key[1]), str(key[2])), case.story.seen[key][1].state
+    given = {step.answer[2]: step.answer[4] for step in case.story.steps if step.gives(*words)}
+    pending = {block for write, block in given.items() if int(write) not in state.counted}
+    for at in case.steps("done", *words):
+        write = case.story.steps[at].words[3]
+        if int(write) in state.counted and given[write] not in pending and not case.steps(
+                "land", *words, write):
+            yield at, int(given[write])
+
+
+def blames_what_was_never_told(case):
+    """The one write that isn't there was told done, which was refused: the state counts it, and its
+    block is blamed on a disk that is honest by that."""
+    for at, sent, _ in checks(case):
+        key = (sent.fields["run"], int(sent.source), sent.fields["job"])
+        job = what_is_checked(case.story, at, sent.report)[1]
+        told = [] if None in ways(case.story, at, sent.fields, job) else list(lies(case, key))
+        files = Files(case.story)
+        for step in range(at):
+            if [step] != [it for it, _ in told]:
+                files.follow(step)
+        if (len(told) == 1 and told[0][1] in sent.report.first
+                and (sent.source, str(key[2])) not in files.dishonest):
+            yield Draft(case).answer(told[0][0], "refused 83 NoWrite")
+
+
+BROKEN_REPORTS = (
+    ("report", checks_one_more),
+    ("report", checks_one_less),
+    ("report", blames_one_more),
+    ("report", passes_a_fault_over),
+    ("report", ends_otherwise),
+    ("report", of_an_attempt_never_asked),
+    ("report", goes_by_a_state_that_does_not_fit),
+    ("report", hides_behind_a_run_that_nobody_began),
+    ("told", sent_again_otherwise),
+    ("told", sent_again_of_another_attempt),
+    ("told", reports_what_nobody_checked),
+    ("quiet", gives_behind_the_taking),
+    ("quiet", reports_behind_a_write),
+    ("honest", blames_an_honest_disk),
+    ("honest", blames_what_was_never_told),
+    ("whole", blames_where_no_write_is_torn),
+)
