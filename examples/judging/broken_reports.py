@@ -62,6 +62,16 @@ def passes_a_fault_over(case):
             yield reported(case, at, sent, numbers, report)
 
 
+def blames_another(case):
+    """A report blames a block that is sound in place of a faulty one."""
+    for at, sent, numbers in checks(case):
+        first = sent.report.first
+        if first:
+            block = next(it for it in range(40) if it not in first)
+            report = sent.report._replace(first=tuple(sorted([*first[1:], block])))
+            yield reported(case, at, sent, numbers, report)
+
+
 def ends_otherwise(case):
     """A report says that its check ended at a fault, or at none."""
     for at, sent, numbers in checks(case):
@@ -215,6 +225,7 @@ BROKEN_REPORTS = (
     ("report", checks_one_less),
     ("report", blames_one_more),
     ("report", passes_a_fault_over),
+    ("report", blames_another),
     ("report", ends_otherwise),
     ("report", of_an_attempt_never_asked),
     ("report", goes_by_a_state_that_does_not_fit),
