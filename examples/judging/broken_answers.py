@@ -179,7 +179,8 @@ def forgets_by_a_restart(case):
 def takes_and_does_not_keep(case):
     """A State comes to the client, which keeps it later."""
     for key, came in kept_since(case).items():
-        if any(it[:2] == (came, key) for it in case.read.changes):
+        is_last = came + 1 == len(case.story.steps)
+        if not is_last and any(it[:2] == (came, key) for it in case.read.changes):
             spelling = case.story.seen[key][1].state.spelling
             yield Draft(case).hide(came, key).show(came + 1, key, spelling)
 

@@ -2,8 +2,8 @@
 claim."""
 
 from judging.checks import Check
-from judging.broken_states import PLACE, flipped, marked
-from judging.draft import Draft, spell, spell_report
+from judging.broken_states import ISSUED, PLACE, flipped, marked
+from judging.draft import Draft, spell, spell_report, with_number
 from judging.files import Files
 from judging.frames import Report
 from judging.reports import told_report, ways, what_is_checked
@@ -85,6 +85,38 @@ def of_an_attempt_never_asked(case):
         yield Draft(case).frame(numbers[0], spell_report(sent, sent.report, attempt=99))
 
 
+def of_another_run(case):
+    """The Report of a check is of another run than its attempt was asked for."""
+    for at, sent, numbers in checks(case):
+        run = sent.fields["run"] + 1
+        yield Draft(case).frame(numbers[0], spell_report(sent, sent.report, run=run))
+
+
+def of_another_job(case):
+    """The Report of a check is of another job than was checked."""
+    for at, sent, numbers in checks(case):
+        job = (sent.fields["job"] + 1) % 16
+        yield Draft(case).frame(numbers[0], spell_report(sent, sent.report, job=job))
+
+
+def of_another_server(case):
+    """The Report of a check is sent by another server."""
+    for at, sent, numbers in checks(case):
+        other = sent._replace(source=str((int(sent.source) + 1) % 8))
+        yield Draft(case).frame(numbers[0], spell_report(other, sent.report))
+
+
+def goes_by_a_state_of_more_writes(case):
+    """A check goes by a state that tells of more writes than its job has."""
+    for at, sent, numbers in checks(case):
+        key = (sent.fields["run"], int(sent.source), sent.fields["job"])
+        job = what_is_checked(case.story, at, sent.report)[1]
+        states = ways(case.story, at, sent.fields, job)
+        more = job.settings.total + 1
+        if None not in states and more <= states[0].settings.window:
+            yield Draft(case).state(key, with_number(states[0].spelling, ISSUED, more))
+
+
 def goes_by_a_state_that_does_not_fit(case):
     """A check goes by a state with another place of the generator than its job has."""
     for at, sent, _ in checks(case):
@@ -105,21 +137,35 @@ def hides_behind_a_run_that_nobody_began(case):
                 yield reported(case, at, sent, numbers, report).frame(number, started)
 
 
+def reports_again(case):
+    """The Reports that are sent again: the number and the frame of each."""
+    made = {at for at, _, _ in checks(case)}
+    return [(number, frame) for at, number, frame in case.frames("Report") if at not in made]
+
+
 def sent_again_otherwise(case):
     """A Report that is sent again has a fault more."""
-    made = {at for at, _, _ in checks(case)}
-    for at, number, frame in case.frames("Report"):
-        if at not in made:
-            report = frame.report._replace(faults=frame.report.faults + 1)
-            yield Draft(case).frame(number, spell_report(frame, report))
+    for number, frame in reports_again(case):
+        report = frame.report._replace(faults=frame.report.faults + 1)
+        yield Draft(case).frame(number, spell_report(frame, report))
 
 
 def sent_again_of_another_attempt(case):
     """A Report that is sent again is of another attempt."""
-    made = {at for at, _, _ in checks(case)}
-    for at, number, frame in case.frames("Report"):
-        if at not in made:
-            yield Draft(case).frame(number, spell_report(frame, frame.report, attempt=99))
+    for number, frame in reports_again(case):
+        yield Draft(case).frame(number, spell_report(frame, frame.report, attempt=99))
+
+
+def sent_again_of_another_job(case):
+    """A Report that is sent again is of another job."""
+    for number, frame in reports_again(case):
+        yield Draft(case).frame(number, spell_report(frame, frame.report, job=15))
+
+
+def sent_again_by_another_server(case):
+    """A Report that is sent again comes from a server that made no check."""
+    for number, frame in reports_again(case):
+        yield Draft(case).frame(number, spell_report(frame._replace(source="7"), frame.report))
 
 
 def reports_what_nobody_checked(case):
@@ -228,10 +274,16 @@ BROKEN_REPORTS = (
     ("report", blames_another),
     ("report", ends_otherwise),
     ("report", of_an_attempt_never_asked),
+    ("report", of_another_run),
+    ("report", of_another_job),
+    ("report", of_another_server),
+    ("report", goes_by_a_state_of_more_writes),
     ("report", goes_by_a_state_that_does_not_fit),
     ("report", hides_behind_a_run_that_nobody_began),
     ("told", sent_again_otherwise),
     ("told", sent_again_of_another_attempt),
+    ("told", sent_again_of_another_job),
+    ("told", sent_again_by_another_server),
     ("told", reports_what_nobody_checked),
     ("quiet", gives_behind_the_taking),
     ("quiet", reports_behind_a_write),

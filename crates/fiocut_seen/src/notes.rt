@@ -55,13 +55,12 @@ impl Notes {
         for watched in self.watched.iter_mut() {
             let state = world.saved(watched.key);
             if !are_same(watched.state.as_ref(), state) {
-                self.changes
-                    .push(Change {
-                        command,
-                        key: watched.key,
-                        spelling: spelling_of(self.alloc, state)?,
-                    })
-                    .ok()?;
+                let change = Change {
+                    command,
+                    key: watched.key,
+                    spelling: spelling_of(self.alloc, state)?,
+                };
+                self.changes.push(change).ok()?;
                 watched.state = state.copied();
             }
         }
@@ -71,23 +70,25 @@ impl Notes {
     /// Adds the keys of the frames that are new.
     fn look_at_frames(&mut self, frames: &Sent) -> Option<()> {
         for number in self.looked..frames.len() {
-            if let Some(key) = frames
-                .get(number)
-                .and_then(|bytes| key_in(self.alloc, bytes))
-            {
-                self.add(key)?;
+            if let Some(bytes) = frames.get(number) {
+                self.look_at_frame(bytes)?;
             }
         }
         self.looked = frames.len();
         Some(())
     }
 
-    /// Adds a key of which nothing was shown yet, unless it is there.
-    fn add(&mut self, key: Key) -> Option<()> {
-        if self.watched.iter().any(|watched| watched.key == key) {
-            return Some(());
+    /// Adds the key of a frame, unless it has none or is there. Of a new one nothing was shown yet.
+    fn look_at_frame(&mut self, bytes: &[u8]) -> Option<()> {
+        match key_in(self.alloc, bytes) {
+            Some(key) if !self.watches(key) => self.watched.push(Watched { key, state: None }).ok(),
+            _ => Some(()),
         }
-        self.watched.push(Watched { key, state: None }).ok()
+    }
+
+    /// Whether this key is there.
+    fn watches(&self, key: Key) -> bool {
+        self.watched.iter().any(|watched| watched.key == key)
     }
 }
 
