@@ -9,12 +9,13 @@ from collections import Counter
 
 from judging.broken_answers import BROKEN_ANSWERS
 from judging.broken_reports import BROKEN_REPORTS
+from judging.broken_sendings import BROKEN_SENDINGS
 from judging.broken_states import BROKEN_STATES
 from judging.draft import Case
 from judging.judge import judge
 from judging.verdict import CLAIMS
 
-KINDS = BROKEN_STATES + BROKEN_REPORTS + BROKEN_ANSWERS
+KINDS = BROKEN_STATES + BROKEN_REPORTS + BROKEN_SENDINGS + BROKEN_ANSWERS
 MOST = 12  # outputs of one kind
 
 

@@ -38,6 +38,21 @@ def says_none_of_a_kept_state(case):
                                               frame.fields["attempt"], job))
 
 
+def says_none_of_an_acknowledged_state(case):
+    """A NoSaved is sent of a state that was acknowledged, and the note does not show it then."""
+    for at, number, frame in case.frames("Saved"):
+        run, server, job = key = frame.state.key
+        acks = [step for step, _, ack in case.frames("StateAck") if step < at and (
+            ack.target, ack.fields["run"], ack.fields["job"]) == (str(server), run, job)]
+        if acks and key not in [it[1] for it in case.read.changes if it[0] == at] and not [
+                step for step in case.steps("losenote") if acks[0] < step < at]:
+            draft = Draft(case).frame(number, spell("NoSaved", "client", str(server), run,
+                                                    frame.fields["attempt"], job))
+            if at + 1 < len(case.story.steps):
+                draft.show(at + 1, key, frame.state.spelling)
+            yield draft.show(at, key, None)
+
+
 def says_none_and_shows_one(case):
     """A NoSaved is sent where the client's note shows a state."""
     for at, number, frame in case.frames("NoSaved"):
@@ -254,6 +269,7 @@ BROKEN_ANSWERS = (
     ("frames", lines_of_another_length),
     ("frames", lines_of_another_node),
     ("none", says_none_of_a_kept_state),
+    ("none", says_none_of_an_acknowledged_state),
     ("none", says_none_and_shows_one),
     ("cut", cuts_with_the_trigger),
     ("cut", cuts_before_the_last_is_kept),

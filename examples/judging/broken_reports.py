@@ -1,5 +1,4 @@
-"""Makes outputs whose reports are wrong, or that give writes too late: each kind is false by one
-claim."""
+"""Makes outputs in which a check is told a wrong report: each kind is false by one claim."""
 
 from judging.checks import Check
 from judging.broken_states import ISSUED, PLACE, flipped, marked
@@ -137,69 +136,6 @@ def hides_behind_a_run_that_nobody_began(case):
                 yield reported(case, at, sent, numbers, report).frame(number, started)
 
 
-def reports_again(case):
-    """The Reports that are sent again: the number and the frame of each."""
-    made = {at for at, _, _ in checks(case)}
-    return [(number, frame) for at, number, frame in case.frames("Report") if at not in made]
-
-
-def sent_again_otherwise(case):
-    """A Report that is sent again has a fault more."""
-    for number, frame in reports_again(case):
-        report = frame.report._replace(faults=frame.report.faults + 1)
-        yield Draft(case).frame(number, spell_report(frame, report))
-
-
-def sent_again_of_another_attempt(case):
-    """A Report that is sent again is of another attempt."""
-    for number, frame in reports_again(case):
-        yield Draft(case).frame(number, spell_report(frame, frame.report, attempt=99))
-
-
-def sent_again_of_another_job(case):
-    """A Report that is sent again is of another job."""
-    for number, frame in reports_again(case):
-        yield Draft(case).frame(number, spell_report(frame, frame.report, job=15))
-
-
-def sent_again_by_another_server(case):
-    """A Report that is sent again comes from a server that made no check."""
-    for number, frame in reports_again(case):
-        yield Draft(case).frame(number, spell_report(frame._replace(source="7"), frame.report))
-
-
-def reports_what_nobody_checked(case):
-    """A Report is sent where no check was made."""
-    for _, number, frame in case.frames("JobsOk", "Stopped"):
-        numbers = (frame.fields["run"], 1, 15, 16, 0, 0, 7, 0, 0)
-        yield Draft(case).frame(number, spell("Report", frame.source, "client", *numbers))
-
-
-def last_report(case, key, at):
-    """The last step with a Report of the run of a key, where that is behind the taking."""
-    steps = case.story.says(str(key[1]), "Report", run=key[0])
-    return steps[-1] if steps and steps[-1] > at else 0
-
-
-def gives_behind_the_taking(case):
-    """A write is given between a taking and a report."""
-    for key, at, _ in case.takings():
-        for issue in case.steps("issue", str(key[1])):
-            if at < issue < last_report(case, key, at) and not case.story.steps[issue].gives():
-                yield Draft(case).answer(issue, "ok write 0 block 0")
-
-
-def reports_behind_a_write(case):
-    """A report of a run is sent behind a write of a later run."""
-    for key, at, _ in case.takings():
-        server = str(key[1])
-        given = [it for it in case.story.writes.by_server[server] if it > at]
-        for step, number, frame in case.frames("JobsOk", "Started", "Stopped", "State", "Refused"):
-            if frame.source == server and given and step > given[0]:
-                numbers = (key[0], 1, key[2], 16, 0, 0, 0, 0, 0)
-                yield Draft(case).frame(number, spell("Report", server, "client", *numbers))
-
-
 def faults_by_a_counted_write(case):
     """The draft, for each check by a state: the state counts a write in flight that isn't in its
     block, and so the check blames the block; with whether a write was torn."""
@@ -280,13 +216,6 @@ BROKEN_REPORTS = (
     ("report", goes_by_a_state_of_more_writes),
     ("report", goes_by_a_state_that_does_not_fit),
     ("report", hides_behind_a_run_that_nobody_began),
-    ("told", sent_again_otherwise),
-    ("told", sent_again_of_another_attempt),
-    ("told", sent_again_of_another_job),
-    ("told", sent_again_by_another_server),
-    ("told", reports_what_nobody_checked),
-    ("quiet", gives_behind_the_taking),
-    ("quiet", reports_behind_a_write),
     ("honest", blames_an_honest_disk),
     ("honest", blames_what_was_never_told),
     ("whole", blames_where_no_write_is_torn),
