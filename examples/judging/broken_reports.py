@@ -1,9 +1,7 @@
 """Makes outputs in which a check is told a wrong report: each kind is false by one claim."""
 
-from judging.checks import Check
-from judging.broken_states import ISSUED, PLACE, flipped, marked
+from judging.broken_states import ISSUED, PLACE, flipped
 from judging.draft import Draft, spell, spell_report, with_number
-from judging.files import Files
 from judging.frames import Report
 from judging.reports import told_report, ways, what_is_checked
 
@@ -136,72 +134,6 @@ def hides_behind_a_run_that_nobody_began(case):
                 yield reported(case, at, sent, numbers, report).frame(number, started)
 
 
-def faults_by_a_counted_write(case):
-    """The draft, for each check by a state: the state counts a write in flight that isn't in its
-    block, and so the check blames the block; with whether a write was torn."""
-    files, by_step = Files(case.story), {at: rest for at, *rest in checks(case)}
-    for at in range(len(case.story.steps)):
-        files.follow(at)
-        if at not in by_step:
-            continue
-        sent, numbers = by_step[at]
-        key = (sent.fields["run"], sent.source, str(sent.fields["job"]))
-        job = what_is_checked(case.story, at, sent.report)[1]
-        states = [it for it in ways(case.story, at, sent.fields, job) if it]
-        if key[1:] in files.dishonest or len(states) != 1:
-            continue
-        for write in sorted(set(range(states[0].issued)) - states[0].counted):
-            state = states[0]._replace(counted=states[0].counted | {write})
-            check = Check(files, key, job, state)
-            blocks, in_flight = check.faulty()
-            if any(is_fault and not in_flight[block] for block, is_fault in blocks):
-                draft = reported(case, at, sent, numbers, check.report())
-                yield draft.state(state.key, marked(states[0], write)), key[1:] in files.torn
-
-
-def blames_an_honest_disk(case):
-    """A fault on an honest disk, in a block to which no write was in flight."""
-    for draft, is_torn in list(faults_by_a_counted_write(case))[::-1]:
-        if is_torn:
-            yield draft
-
-
-def blames_where_no_write_is_torn(case):
-    """A fault on an honest disk, where each write landed whole."""
-    for draft, is_torn in faults_by_a_counted_write(case):
-        if not is_torn:
-            yield draft
-
-
-def lies(case, key):
-    """The steps in which a write of a job was told done that a check by its state blames: nothing
-    of it had landed, and no write to its block was in flight at the taking."""
-    words, state = (str(key[1]), str(key[2])), case.story.seen[key][1].state
-    given = {step.answer[2]: step.answer[4] for step in case.story.steps if step.gives(*words)}
-    pending = {block for write, block in given.items() if int(write) not in state.counted}
-    for at in case.steps("done", *words):
-        write = case.story.steps[at].words[3]
-        if int(write) in state.counted and given[write] not in pending and not case.steps(
-                "land", *words, write):
-            yield at, int(given[write])
-
-
-def blames_what_was_never_told(case):
-    """The one write that isn't there was told done, which was refused: the state counts it, and its
-    block is blamed on a disk that is honest by that."""
-    for at, sent, _ in checks(case):
-        key = (sent.fields["run"], int(sent.source), sent.fields["job"])
-        job = what_is_checked(case.story, at, sent.report)[1]
-        told = [] if None in ways(case.story, at, sent.fields, job) else list(lies(case, key))
-        files = Files(case.story)
-        for step in range(at):
-            if [step] != [it for it, _ in told]:
-                files.follow(step)
-        if (len(told) == 1 and told[0][1] in sent.report.first
-                and (sent.source, str(key[2])) not in files.dishonest):
-            yield Draft(case).answer(told[0][0], "refused 83 NoWrite")
-
-
 BROKEN_REPORTS = (
     ("report", checks_one_more),
     ("report", checks_one_less),
@@ -216,7 +148,4 @@ BROKEN_REPORTS = (
     ("report", goes_by_a_state_of_more_writes),
     ("report", goes_by_a_state_that_does_not_fit),
     ("report", hides_behind_a_run_that_nobody_began),
-    ("honest", blames_an_honest_disk),
-    ("honest", blames_what_was_never_told),
-    ("whole", blames_where_no_write_is_torn),
 )

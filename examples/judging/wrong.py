@@ -2,9 +2,9 @@
 which its output is to be refused, and what was wrong with the program.
 
 NAME.world is the script, NAME.out what the wrong program printed of it. What the right one prints
-has to be right. Where a row says `changed`, the right output was changed by hand; where it names
-edits, these were planted in the program: those of crates/CRATE/must-fail-more, or an edit that
-stands beside the list.
+has to be right. Where a row says `changed`, the right output was changed by hand. Else it names the
+edits that were planted in the program: CRATE/EDIT is crates/CRATE/must-fail-more/EDIT.edit, and
+EDIT.edit stands beside the list.
 """
 
 import os
