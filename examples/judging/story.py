@@ -64,7 +64,7 @@ class Story:
 
     def take_change(self, at, key, spelling):
         """One more change of what the client's note shows, whose bytes are to be a state."""
-        if at >= len(self.steps):
+        if not 0 <= at < len(self.steps):
             raise Unreadable(f"the note shows something behind command {at}")
         if spelling is not None:
             read_state(spelling)
