@@ -9,6 +9,7 @@ from collections import Counter
 
 from judging.broken_answers import BROKEN_ANSWERS
 from judging.broken_disks import BROKEN_DISKS
+from judging.broken_notes import BROKEN_NOTES
 from judging.broken_reports import BROKEN_REPORTS
 from judging.broken_sendings import BROKEN_SENDINGS
 from judging.broken_states import BROKEN_STATES
@@ -16,7 +17,8 @@ from judging.draft import Case
 from judging.judge import judge
 from judging.verdict import CLAIMS
 
-KINDS = BROKEN_STATES + BROKEN_REPORTS + BROKEN_DISKS + BROKEN_SENDINGS + BROKEN_ANSWERS
+KINDS = (BROKEN_STATES + BROKEN_REPORTS + BROKEN_DISKS + BROKEN_SENDINGS + BROKEN_ANSWERS
+         + BROKEN_NOTES)
 MOST = 12  # outputs of one kind
 
 

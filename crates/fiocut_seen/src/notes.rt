@@ -81,15 +81,20 @@ impl Notes {
     /// Adds the key of a frame, unless it has none or is there. Of a new one nothing was shown yet.
     fn look_at_frame(&mut self, bytes: &[u8]) -> Option<()> {
         match key_in(self.alloc, bytes) {
-            Some(key) if !self.watches(key) => self.watched.push(Watched { key, state: None }).ok(),
+            Some(key) if !has_key(self.watched.as_slice(), &key) => self.add(key),
             _ => Some(()),
         }
     }
 
-    /// Whether this key is there.
-    fn watches(&self, key: Key) -> bool {
-        self.watched.iter().any(|watched| watched.key == key)
+    /// Adds a key of which nothing was shown yet.
+    fn add(&mut self, key: Key) -> Option<()> {
+        self.watched.push(Watched { key, state: None }).ok()
     }
+}
+
+/// Whether this key is one of these.
+fn has_key(watched: &[Watched], key: &Key) -> bool {
+    watched.iter().any(|watched| watched.key == *key)
 }
 
 /// The key of the state that a frame carries, if it carries one.
