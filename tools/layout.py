@@ -12,7 +12,7 @@ HARNESS = ("drive-target", "drive-agent", "drive-witness", "fleet-server")
 SCRIPTS = {"fiocut-draw": "draw", "fiocut-from-fio": "from-fio", "fiocut-every-cut": "every-cut", "fiocut-judge": "seen"}
 LIB, DOC = "lib/fiocut", "share/doc/fiocut"
 # What of the repository these scripts and the programs' wrapper read, and what a reader reads.
-READ = ("VERSION", "release/words.sh", "release/help.sh", "tools/words.py", "harness/fleet", "harness/client/*.py", "examples/judging/*.py", "examples/worlds/*", "examples/scripts/*")
+READ = ("VERSION", "release/words.sh", "release/help.sh", "tools/words.py", "harness/fleet", "harness/client/*.py", "examples/judging/*.py", "examples/judging/wrong/*", "examples/worlds/*", "examples/scripts/*")
 PAGES = ("README.md", "CHANGELOG.md", "SECURITY.md", "LICENSE-MIT", "LICENSE-APACHE", "VERSION", "docs/*.md", "examples/README.md", "harness/first.fio")
 EXAMPLES = ("examples/*.fio", "examples/from/*.fio", "examples/worlds/*.world", "examples/live/*.live")
 

@@ -36,8 +36,9 @@ class Files:
             self.sectors[file][int(step.words[3])] = ("fill", int(step.words[4]))
             self.dishonest.add(file)
         for frame in self.story.sent[at]:
-            if frame.kind == "Started":
-                # The server's run is the newest that it has said to be started.
+            if frame.kind == "Started" and at in self.story.hears(
+                    frame.source, "Start", run=frame.fields["run"]):
+                # The server's run is the newest that it has said to be started, by a Start of it.
                 run = frame.fields["run"]
                 self.running[frame.source] = max(run, self.running.get(frame.source, 0))
 

@@ -1,6 +1,8 @@
 """Judges all that there is to judge of a script and of what is printed of it."""
 
-from judging.cuts import judge_acks, judge_cuts
+from judging.cuts import judge_answers, judge_cuts
+from judging.notes import judge_keeping
+from judging.numbers import judge_numbers
 from judging.reports import judge_reports, judge_told
 from judging.story import Story
 from judging.takings import judge_states
@@ -14,7 +16,9 @@ def judge(script, output):
         story = Story(script, output, verdict)
         judge_states(story, verdict)
         judge_cuts(story, verdict)
-        judge_acks(story, verdict)
+        judge_answers(story, verdict)
+        judge_keeping(story, verdict)
+        judge_numbers(story, verdict)
         judge_reports(story, verdict)
         judge_told(story, verdict)
     except (Unreadable, ValueError, IndexError) as why:

@@ -93,7 +93,7 @@ class Pair:
 
     def frame(self, number):
         """The bytes of a frame."""
-        return read_output(self.output)[1][number]
+        return read_output(self.output).frames[number]
 
     def with_frame(self, number, data):
         """Other bytes of a frame."""
@@ -194,7 +194,7 @@ def run_planted(output):
     how many aren't."""
     good = Pair(GOOD_SCRIPT, output)
     verdict = judge(good.script, good.output)
-    if verdict.wrong or verdict.unjudged or set(verdict.judged) != set(CLAIMS):
+    if not verdict.is_good() or set(verdict.judged) != set(CLAIMS):
         print(f"planted: the good pair isn't one: {verdict.line()}")
         return 0, len(PLANTED)
     passed = 0

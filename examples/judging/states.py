@@ -6,6 +6,7 @@ completions; layout 2 has the first number of the last window, and marks from th
 """
 
 import struct
+from functools import lru_cache
 from typing import NamedTuple
 
 from judging.settings import FILLINGS, ORDERS, Settings, place_after
@@ -31,6 +32,7 @@ class State(NamedTuple):
                 and self.place == place_after(settings, self.issued))
 
 
+@lru_cache(maxsize=None)
 def read_state(data):
     """The state that bytes say."""
     require(len(data) >= 100 and data[:4] in (b"FCV1", b"FCV2"), "no state")

@@ -1,7 +1,8 @@
 """Reads a script, and what is printed of it: each command with its answer.
 
 The lines of both are those that docs/SCRIPTS.md tells of. Behind the answers stands a line
-`frame N HEX` for each frame that was sent.
+`frame N HEX` for each frame that was sent, and a line `saved C RUN SERVER JOB HEX`, or `none` in
+place of HEX, for each change of what the client's note shows, with the number of its command.
 """
 
 from typing import NamedTuple
@@ -26,6 +27,16 @@ class Step(NamedTuple):
     def gives(self, *words):
         """The command is answered by a write, and begins with `issue` and these words."""
         return self.does("issue", *words) and self.answer[1] == "write"
+
+
+class Output(NamedTuple):
+    """What is printed of a script: the answers, each with what stands below it; the bytes of each
+    frame; and each change of what the client's note shows, as its command, the key, and the bytes
+    of the state or None."""
+
+    answers: list
+    frames: list
+    changes: list
 
 
 # The second word of each answer that has one.
@@ -54,27 +65,35 @@ def read_commands(script):
 
 
 def read_output(output):
-    """The answers with what stands below them, and the bytes of the frames."""
-    answers, shown = [], []
+    """The parts of an output."""
+    read = Output([], [], [])
     for line in output.rstrip("\n").split("\n"):
         words = line.split(" ")
         if words[0] == "frame":
-            if words[1] != str(len(shown)):
-                raise Unreadable(f"frame {words[1]} is shown in place of frame {len(shown)}")
-            shown.append(bytes.fromhex(words[2]))
+            if words[1] != str(len(read.frames)):
+                raise Unreadable(f"frame {words[1]} is shown in place of {len(read.frames)}")
+            read.frames.append(bytes.fromhex(words[2]))
+        elif words[0] == "saved":
+            read.changes.append(read_change(words))
         elif words[0] == "sent":
-            answers[-1][1].append(words[1:])
+            read.answers[-1][1].append(words[1:])
         elif words[:2] == ["act", "cut"]:
-            answers[-1][2].append(words[2])
+            read.answers[-1][2].append(words[2])
         else:
-            answers.append((words, [], []))
-    return answers, shown
+            read.answers.append((words, [], []))
+    return read
+
+
+def read_change(words):
+    """A change of what the note shows: `saved C RUN SERVER JOB` and bytes, or `none`."""
+    command, *key = (int(word) for word in words[1:5])
+    return command, tuple(key), None if words[5:] == ["none"] else bytes.fromhex(words[5])
 
 
 def read_steps(script, output):
-    """The commands with their answers, and the bytes of the frames."""
-    answers, shown = read_output(output)
-    commands = read_commands(script)
+    """The commands with their answers, and the output of which these are."""
+    read = read_output(output)
+    answers, commands = read.answers, read_commands(script)
     last = answers[-1][0] if answers else [""]
     is_short = last[0] in ("bad", "too") or last[:2] == ["refused", "35"]
     if len(answers) > len(commands) or (len(answers) < len(commands) and not is_short):
@@ -84,4 +103,4 @@ def read_steps(script, output):
         told = ANSWERS.get(step.words[0], ("",))
         if step.answer[0] == "ok" and (step.answer + [""])[1] not in told:
             raise Unreadable(f"{' '.join(step.words)} is answered by {' '.join(step.answer)}")
-    return steps, shown
+    return steps, read

@@ -1,28 +1,37 @@
 """Judges the verify states: that there is one of each key, and that it was taken as it says.
 
-The first frame with a state is where it was taken. It says which writes were issued and done by
-then; the script tells this, too, from the server's first Started of the run on.
+The first frame with a state is where it was taken, and the client's note shows none that isn't
+seen. It says which writes were issued and done by then; the script tells this, too, from the
+server's first Started of the run on.
 """
 
+from judging.index import between
 from judging.verdict import Unjudged
 
 
 def judge_states(story, verdict):
     """The claims state, taking, count, issued, settings and quiet."""
-    first = {}
-    for at, frame in story.states_before(len(story.steps)):
-        state = frame.state
-        if state.key in first:
-            same = first[state.key].state.spelling == state.spelling
-            verdict.judge("state", same, f"another state of {state.key} in a {frame.kind}")
-        else:
-            verdict.judged["state"] += 1
-            first[state.key] = Taking(story, at, frame)
-    for taking in first.values():
+    for at in range(len(story.steps)):
+        for frame in story.sent[at]:
+            if frame.state:
+                judge_same(story, verdict, frame.state.key, frame.state.spelling, frame.kind)
+        for key, spelling in story.changes[at]:
+            if spelling is not None and story.is_seen_before(at + 1, key):
+                judge_same(story, verdict, key, spelling, "note")
+            elif spelling is not None:
+                verdict.judge("taking", False, f"the note shows a state of {key} that wasn't sent")
+    for at, frame in story.seen.values():
+        taking = Taking(story, at, frame)
         taking.judge_frame(verdict)
         taking.judge_writes(verdict)
         taking.judge_settings(verdict)
         taking.judge_quiet(verdict)
+
+
+def judge_same(story, verdict, key, spelling, where):
+    """The claim state: these are the bytes in which the state of the key is seen first."""
+    same = story.seen[key][1].state.spelling == spelling
+    verdict.judge("state", same, f"another state of {key} in a {where}")
 
 
 class Taking:
@@ -49,12 +58,11 @@ class Taking:
     def judge_writes(self, verdict):
         """Between the two, exactly the counted writes were done, and exactly those below the number
         of issued ones were given."""
-        between = self.story.steps[self.start + 1:self.at]
-        words = (self.server, str(self.job))
-        done = {int(step.words[3]) for step in between if step.does("done", *words)}
+        file, writes = (self.server, str(self.job)), self.story.writes
+        done = between(writes.done[file], self.start, self.at)
         verdict.judge("count", done == self.state.counted, f"{self.name} counts "
                       f"{short(self.state.counted)}, and {short(done)} were done")
-        given = {int(step.answer[2]) for step in between if step.gives(*words)}
+        given = between(writes.given[file], self.start, self.at)
         issued = set(range(self.state.issued))
         verdict.judge("issued", given == issued, f"{self.name} says {short(issued)} were issued, "
                       f"and {short(given)} were given")
@@ -71,11 +79,10 @@ class Taking:
 
     def judge_quiet(self, verdict):
         """The server gives no write up to its last Report of the run."""
-        reported = [at for at in self.story.says(self.server, "Report", run=self.run)
-                    if at > self.at]
-        if reported:
-            behind = self.story.steps[self.at + 1:reported[-1]]
-            verdict.judge("quiet", not any(step.gives(self.server) for step in behind),
+        reported = self.story.says(self.server, "Report", run=self.run)
+        if reported and reported[-1] > self.at:
+            is_given = self.story.writes.gives_between(self.server, self.at, reported[-1])
+            verdict.judge("quiet", not is_given,
                           f"server {self.server} gives a write behind {self.name}")
 
 

@@ -8,7 +8,7 @@ from collections import Counter
 
 # The claims, in the order in which they are told; `seen` says what each is.
 CLAIMS = ("frames", "state", "taking", "count", "issued", "settings", "quiet", "report", "told",
-          "honest", "whole", "none", "cut", "order", "ack", "refused")
+          "honest", "whole", "none", "cut", "order", "ack", "kept", "ended", "numbers", "refused")
 
 
 class Unreadable(Exception):
@@ -40,6 +40,10 @@ class Verdict:
     def leave(self, what, why):
         """Keeps what can't be judged, and why."""
         self.unjudged.append(f"{what}: {why}")
+
+    def is_good(self):
+        """Nothing is wrong, and nothing couldn't be judged."""
+        return not self.wrong and not self.unjudged
 
     def line(self):
         """What is printed."""

@@ -1,7 +1,7 @@
-//! The answer to a script: the lines that come of it, and then its frames.
+//! The answer to a script: the lines that come of it, then its frames, and what the client's note showed.
 
-use crate::frames::write_frames;
 use crate::play::played;
+use crate::shown::{write_changes, write_frames};
 use fc_base::Fault;
 use net_script::{MAX_SCRIPT, ScriptFault, run_script};
 use program_io::{PrintedRefusal, REFUSED, read_input, write_refusal};
@@ -12,8 +12,8 @@ use std::io::{ErrorKind, Read, Write};
 /// The most calls of `read`, as many as `run_script` makes.
 const MAX_READS: u32 = 2_000_000;
 
-/// Reads a script, and writes what `fiocut world` writes for it and a line for each frame that it has
-/// sent. Answers the exit status, that of `fiocut world`: 0; 1 where a report has faults; 2 where a line
+/// Reads a script, and writes what `fiocut world` writes for it, a line for each frame that it has sent,
+/// and one for each change of what the client's note shows. Answers the exit status, that of `fiocut world`: 0; 1 where a report has faults; 2 where a line
 /// is bad, the script is too long or could not be read, or memory runs out.
 ///
 /// An error is that of a write: nothing is written after it.
@@ -40,12 +40,13 @@ fn answer_bytes<W: Write>(alloc: Global, script: &[u8], writer: &mut W) -> io::R
     }
 }
 
-/// Writes the lines of the frames that a script sends, and flushes. One that is too long sends none, and
-/// neither does one that makes no world.
+/// Writes the lines of the frames that a script sends and those of the client's note, and flushes. One
+/// that is too long has none, and neither has one that makes no world.
 fn write_sent<W: Write>(alloc: Global, script: &[u8], writer: &mut W) -> io::Result<()> {
     if script.len() <= MAX_SCRIPT {
-        if let Some(world) = played(alloc, script) {
-            write_frames(writer, world.frames())?;
+        if let Some(outcome) = played(alloc, script) {
+            write_frames(writer, outcome.world.frames())?;
+            write_changes(writer, outcome.notes.changes())?;
         }
     }
     writer.flush()

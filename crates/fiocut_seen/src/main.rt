@@ -1,10 +1,11 @@
 //! The program `fiocut_seen`: it runs a script of events as `fiocut world` does, and shows the bytes of each frame
-//! that was ever sent.
+//! that was ever sent, and what the client's note showed.
 #![tactic(auto)]
 
 mod answer;
-mod frames;
+mod notes;
 mod play;
+mod shown;
 
 use crate::answer::{answer_script, refuse};
 use fc_base::Fault;

@@ -4,10 +4,18 @@
 ghost use Rattle.std.specs.Prelude.{◌≤◌};
 ghost use Rattle.fc_base.specs.declared.limits.TheConstants.{MAX_SERVERS};
 
+use crate::notes::Notes;
 use fc_base::FaultSort;
 use net_script::{Command, Saving, ScriptLine, event_of, line_of};
 use net_world::{Config, World};
 use std::alloc::Global;
+
+/// What came of a script: its world, and what the client's note showed.
+#[derive(Drop)]
+pub struct Outcome {
+    pub world: World,
+    pub notes: Notes,
+}
 
 /// A script that is being played.
 #[derive(Drop)]
@@ -15,6 +23,10 @@ struct Play {
     alloc: Global,
     /// Its world, once it is made.
     world: Option<World>,
+    /// What the client's note showed behind each command.
+    notes: Notes,
+    /// How many commands there were, with the one that makes the world.
+    commands: usize,
     /// The command whose text is being read, if there is one.
     asked: Option<Command>,
     /// What was read of that text.
@@ -22,11 +34,14 @@ struct Play {
 }
 
 /// The world of a script as it is in the end: behind the last line, in front of the first bad one, or of
-/// the command at which memory runs out. `None` where the script makes no world.
-pub fn played(alloc: Global, script: &[u8]) -> Option<World> {
+/// the command at which memory runs out; and what the client's note showed by then. `None` where the
+/// script makes no world.
+pub fn played(alloc: Global, script: &[u8]) -> Option<Outcome> {
     let mut play = Play {
         alloc,
         world: None,
+        notes: Notes::new(alloc),
+        commands: 0,
         asked: None,
         text: Vec::new(alloc),
     };
@@ -35,7 +50,11 @@ pub fn played(alloc: Global, script: &[u8]) -> Option<World> {
             break;
         }
     }
-    play.world
+    let Play { world, notes, .. } = play;
+    match world {
+        Some(world) => Some(Outcome { world, notes }),
+        None => None,
+    }
 }
 
 /// Each of these takes a part of the script. `None` is answered where the script ends there: what it says
@@ -74,6 +93,7 @@ impl Play {
             return None;
         }
         self.world = Some(World::new(self.alloc, config).ok()?);
+        self.commands = 1;
         Some(())
     }
 
@@ -86,17 +106,19 @@ impl Play {
         self.happen(&command, &[])
     }
 
-    /// Makes happen what a command asks for. It is passed over where it is refused.
+    /// Makes happen what a command asks for, and looks at what the client's note shows behind it. It is
+    /// passed over where it is refused.
     fn happen(&mut self, command: &Command, text: &[u8]) -> Option<()> {
         let world = self.world.as_mut()?;
         let event = event_of(self.alloc, command, text).ok()?;
-        match world.apply(&event) {
-            Ok(_) => Some(()),
-            Err(fault) => match fault.sort() {
-                FaultSort::Memory => None,
-                _ => Some(()),
-            },
+        if let Err(fault) = world.apply(&event) {
+            if fault.sort() == FaultSort::Memory {
+                return None;
+            }
         }
+        self.notes.look(self.commands, world)?;
+        self.commands = self.commands.checked_add(1)?;
+        Some(())
     }
 }
 
