@@ -14,7 +14,7 @@ use Rattle.net_world.specs.Honest.{HoldsWrite, HasAllSectors}
 use Rattle.net_world.proofs.GroundLemmas.{Ground}
 use Rattle.net_world.proofs.FileLemmas.{opened, goes_elsewhere, holds_on, holds_whole}
 use Rattle.net_world.proofs.LastWriteLemmas.{issue_more}
-use Rattle.net_world.proofs.NotionLemmas.{Survives}
+use Rattle.net_world.proofs.NotionLemmas.{Survives, Always}
 
 -- The block of write k holds that write, or one in flight to the same block.
 pub record Holding (held : ℕ → List ℕ) (key : Key) (job : JobParts) (n : ℕ) (d : ℕ → Bool) (k : ℕ) : Type 0 where
@@ -68,7 +68,7 @@ not_done : (a b : Bool) → (a ≡ true → b ≡ true) → b ≡ false → a �
 not_done true b f e = absurd (false≢true (sym e ∙ f refl))
 not_done false b f e = refl
 
-pub current_survives : Ground → Survives HasAllSectors CurrentAreThere
+pub current_survives : Ground → Survives Always HasAllSectors CurrentAreThere
 current_survives laws = record {
   begins = λ held key job k d last. absurd cc;
   issues = λ held key job h m p k d last.
@@ -81,7 +81,7 @@ current_survives laws = record {
         let apart = ends_apart laws job h m k x.write legal is_open before (last m (opened laws job h m legal is_open).0 (done_self h m)) x.there in
         holding_on held key job (window.issued h) (window.issued h) (window.is_done h) (window.is_done (window.done m ∷ h)) k x (λ lt. lt)
         (undone_on h m x.write apart))
-    | inr e ↦ now_done held key job (window.issued h) (window.is_done (window.done m ∷ h)) m k now (eqb-true m k e)
+    | inr e ↦ now_done held key job (window.issued h) (window.is_done (window.done m ∷ h)) m k (now tt) (eqb-true m k e)
   ];
   lands = λ held key job h m mask n d legal limits is_open may same stays p k is_done last.
       let o = opened laws job h m legal is_open in

@@ -1,5 +1,5 @@
 -- The examples, by computation.
-use Rattle.std.proofs.Common.{◌≡◌, refl, sym, ◌∙◌, subst, zero, suc, arith, List, ◌∷◌, Some}
+use Rattle.std.proofs.Common.{◌≡◌, refl, sym, ◌∙◌, subst, zero, suc, arith, ℕ, true, List, ◌∷◌, Some}
 use Rattle.fc_base.specs.declared.record.Kind.TheVariants.{Sequential}
 use Rattle.fc_base.specs.declared.record.Verify.TheVariants.{Stamp}
 use Rattle.engine.specs.Running.{Origin}
@@ -102,17 +102,17 @@ unfolding the_origin landed issued_both frames_sent has_next is_of_generation is
     have_ended zeros counting_bytes stamped_sector
 holds = refl
 
-in_file : (origin : Origin) → open_at (trace one (world one landed)) 0 0 0 ≡ Some origin
+in_file : ◌≡◌ {A = ℕ} 0 0 → ◌≡◌ {A = ℕ} 0 0 → (origin : Origin) → open_at (trace one (world one landed)) 0 0 0 ≡ Some origin
     → HoldsWrite (content one (world one landed) 0 0) origin.key origin.job 0
-in_file origin h = subst (λ (x : Origin). HoldsWrite (content one (world one landed) 0 0) x.key x.job 0) (some_is (sym is_open ∙ h)) holds
+in_file s j origin h = subst (λ (x : Origin). HoldsWrite (content one (world one landed) 0 0) x.key x.job 0) (some_is (sym is_open ∙ h)) holds
 
 one_sector : HasAllSectors 1 the_origin.job
 unfolding the_origin
 one_sector zero lt = refl
 one_sector (suc i) lt = absurd (omega (arith, lt))
 
-all_landed : (origin : Origin) → open_at (trace one (world one issued_both)) 0 0 0 ≡ Some origin → HasAllSectors 1 origin.job
-all_landed origin h = subst (λ (x : Origin). HasAllSectors 1 x.job) (some_is (sym was_open ∙ h)) one_sector
+all_landed : true ≡ true → (origin : Origin) → open_at (trace one (world one issued_both)) 0 0 0 ≡ Some origin → HasAllSectors 1 origin.job
+all_landed here origin h = subst (λ (x : Origin). HasAllSectors 1 x.job) (some_is (sym was_open ∙ h)) one_sector
 
 pub is_honestly_made : IsHonestlyMade
 unfolding landed issued_both frames_sent has_next is_of_generation is_free_to_number is_begun is_for_client is_from_server is_from_mirror jobs_for has_open

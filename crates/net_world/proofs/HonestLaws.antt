@@ -1,5 +1,5 @@
 -- What a check faults on honest disks.
-use Rattle.std.proofs.Common.{◌≡◌, sym, ◌∙◌, ap, subst, ℕ, List, [], ◌∷◌, Some}
+use Rattle.std.proofs.Common.{◌≡◌, refl, sym, ◌∙◌, ap, subst, ℕ, List, [], ◌∷◌, Some}
 use Rattle.std.specs.Prelude.{Contains}
 use Rattle.fc_base.specs.declared.numbers.Key.{Key}
 use Rattle.fc_base.specs.declared.record.JobParts.{JobParts}
@@ -24,8 +24,8 @@ use Rattle.net_world.specs.Headline.{FewFaults, NoFaults}
 use Rattle.net_world.proofs.VerdictLemmas.{Passes, held_was_taken}
 use Rattle.net_world.proofs.ExactLemmas.{progress_is}
 use Rattle.net_world.proofs.GroundLemmas.{Ground}
-use Rattle.net_world.proofs.NotionLemmas.{Notion, Survives, OfState}
-use Rattle.net_world.proofs.HonestLemmas.{MayLand, kept}
+use Rattle.net_world.proofs.NotionLemmas.{Notion, Survives, Always, OfState}
+use Rattle.net_world.proofs.HonestLemmas.{MayLand, kept, only_is}
 use Rattle.net_world.proofs.LastWriteLemmas.{Any, last_survives}
 use Rattle.net_world.proofs.CurrentWriteLemmas.{current_survives}
 use Rattle.net_world.proofs.ExpectedLemmas.{WriteTheSame, fits_job}
@@ -41,17 +41,17 @@ pub record Rests : Type 0 where
   pub traces : EachWorldIsATrace
 
 -- Any write may land by any mask.
-any_lands : (w : Setup) (past : List Change) → MayLand Any w past
-any_lands w [] = tt
-any_lands w (Met step ∷ past) = any_lands w past
-any_lands w (Landed s j k mask ∷ past) = (any_lands w past, λ origin is. tt)
-any_lands w (Rotted s j sector bytes ∷ past) = any_lands w past
+any_lands : (w : Setup) (s j : ℕ) (past : List Change) → MayLand Any w s j past
+any_lands w s j [] = tt
+any_lands w s j (Met step ∷ past) = any_lands w s j past
+any_lands w s j (Landed r i k mask ∷ past) = (any_lands w s j past, λ here origin is. tt)
+any_lands w s j (Rotted r i sector bytes ∷ past) = any_lands w s j past
 
-whole_lands : (w : Setup) (past : List Change) → AreWhole w past → MayLand HasAllSectors w past
-whole_lands w [] whole = tt
-whole_lands w (Met step ∷ past) whole = whole_lands w past whole
-whole_lands w (Landed s j k mask ∷ past) whole = (whole_lands w past whole.0, whole.1)
-whole_lands w (Rotted s j sector bytes ∷ past) whole = whole_lands w past whole
+whole_lands : (w : Setup) (s j : ℕ) (past : List Change) → AreWhole w s j past → MayLand HasAllSectors w s j past
+whole_lands w s j [] whole = tt
+whole_lands w s j (Met step ∷ past) whole = whole_lands w s j past whole
+whole_lands w s j (Landed r i k mask ∷ past) whole = (whole_lands w s j past whole.0, whole.1)
+whole_lands w s j (Rotted r i sector bytes ∷ past) whole = whole_lands w s j past whole
 
 abbrev make_key : ℕ → ℕ → ℕ → Key
 make_key r s j = record { run = r; server = s; job = j }
@@ -62,9 +62,9 @@ record Found (P : Notion) (w : Setup) (past : List Change) (s j : ℕ) (c : Chec
   pub same : WriteTheSame job.rec state.job
   pub held : OfState P (content w past s j) state
 
-found : {P : Notion} {May : ℕ → JobParts → Type 0} → Rests → Survives May P → (w : Setup) (past : List Change) (s j : ℕ) (c : Check) (job : Job) (state : State)
-    → IsTrace w (trace w past) → AreHonest w past → MayLand May w past → IsCheckedWith w past s j c job state → Found P w past s j c job state
-found laws v w past s j c job state tr honest may is =
+found : {P : Notion} {May : ℕ → JobParts → Type 0} → Rests → Survives Always May P → (w : Setup) (past : List Change) (s j : ℕ) (c : Check) (job : Job) (state : State)
+    → IsTrace w (trace w past) → AreHonest w s j past → MayLand May w s j past → IsCheckedWith w past s j c job state → Found P w past s j c job state
+found {P} laws v w past s j c job state tr honest may is =
     let o = opening_of s in
     let list = of_server s (trace w past) in
     let run = last_run o list in
@@ -78,17 +78,18 @@ found laws v w past s j c job state tr honest may is =
     record {
       key = key;
       same = subst (λ (x : Job). WriteTheSame x.rec state.job) job_is (fits_job state state.key heard.job.rec heard.fits);
-      held = (kept laws.ground v w s past honest may).states j state taken;
+      held = subst (λ c. OfState P c state) (only_is j j (content w past s j) refl)
+          ((kept laws.ground v w s j past honest may).states j state taken (ap (λ (k : Key). k.job) key));
     }
 
 pub few_faults : Rests → OfEachWorld FewFaults
 few_faults laws w events few_servers s j c job state block honest is faulty =
     let f = found laws (last_survives laws.ground) w (world w events) s j c job state (laws.traces w events few_servers) honest
-    (any_lands w (world w events)) is in
+    (any_lands w s j (world w events)) is in
     few w (world w events) s j c job state block f.key f.same f.held faulty
 
 pub no_faults : Rests → OfEachWorld NoFaults
 no_faults laws w events few_servers s j c job state block honest whole is faulty =
     let f = found laws (current_survives laws.ground) w (world w events) s j c job state (laws.traces w events few_servers) honest
-    (whole_lands w (world w events) whole) is in
+    (whole_lands w s j (world w events) whole) is in
     none w (world w events) s j c job state block f.key f.same f.held faulty

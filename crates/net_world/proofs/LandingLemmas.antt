@@ -37,7 +37,7 @@ pub data Lands (May : ℕ → JobParts → Type 0) (o : Opening) (list : List En
   One : LandsOne May o list j old new → Lands May o list j old new
 
 -- The present run after an open write of it has landed.
-run_lands : {P : Notion} {May : ℕ → JobParts → Type 0} → Ground → Survives May P → (o : Opening) (list : List Entry) (j : ℕ) (old new : ℕ → List ℕ)
+run_lands : {P : Notion} {May : ℕ → JobParts → Type 0} {On : ℕ → Type 0} → Ground → Survives On May P → (o : Opening) (list : List Entry) (j : ℕ) (old new : ℕ → List ℕ)
     → (l : LandsOne May o list j old new)
     → Of P old (origin_of l.now j l.job) (history (origin_of l.now j l.job) l.now.since)
     → Of P new (origin_of l.now j l.job) (history (origin_of l.now j l.job) l.now.since)
@@ -48,7 +48,7 @@ run_lands {P} laws s o list j old new l p =
     (s.lands old origin.key l.job.rec h l.write l.mask (window.issued h) (window.is_done h) (job_legal laws o list l.now l.works j l.job l.has_job)
     (job_within laws o list l.now l.works j l.job l.has_job) l.is_open l.may refl (λ k d. d) p)
 
-works_landed : {P : Notion} {May : ℕ → JobParts → Type 0} → Ground → Survives May P → (o : Opening) (list : List Entry) (j : ℕ) (old new : ℕ → List ℕ)
+works_landed : {P : Notion} {May : ℕ → JobParts → Type 0} {On : ℕ → Type 0} → Ground → Survives On May P → (o : Opening) (list : List Entry) (j : ℕ) (old new : ℕ → List ℕ)
     → Lands May o list j old new → (w : Work) → work o list ≡ Some w → (job : Job) → slice_get w.jobs j ≡ Some job
     → Of P old (origin_of w j job) (history (origin_of w j job) w.since) → Of P new (origin_of w j job) (history (origin_of w j job) w.since)
 works_landed {P} laws s o list j old new (Same e) w is job has_job p =
@@ -63,7 +63,7 @@ works_landed {P} laws s o list j old new (One l) w is job has_job p =
     (subst (λ (u : Work). Of P old (origin_of u j job) (history (origin_of u j job) u.since)) (sym same_w) p))))
 
 -- A state that is linked to the present run, likewise.
-state_lands : {P : Notion} {May : ℕ → JobParts → Type 0} → Ground → Survives May P
+state_lands : {P : Notion} {May : ℕ → JobParts → Type 0} {On : ℕ → Type 0} → Ground → Survives On May P
     → (o : Opening) (list : List Entry) (j : ℕ) (old new : ℕ → List ℕ) (state : State) → (l : LandsOne May o list j old new) → (k : LinkOf l.now j state)
     → k.job ≡ l.job
     → OfState P old state → OfState P new state
@@ -90,7 +90,7 @@ linked_at : Ground → (o : Opening) (list : List Entry) (w : Work) → work o l
     → LinkOf w j state
 linked_at laws o list w is = subst (λ x. Linked o list x) is (linked laws o list)
 
-states_landed : {P : Notion} {May : ℕ → JobParts → Type 0} → Ground → Survives May P
+states_landed : {P : Notion} {May : ℕ → JobParts → Type 0} {On : ℕ → Type 0} → Ground → Survives On May P
     → (o : Opening) (list : List Entry) (j : ℕ) (old new : ℕ → List ℕ) (state : State) → Lands May o list j old new
     → Contains (takings o (last_run o list) j list) state → OfState P old state → OfState P new state
 states_landed {P} laws s o list j old new state (Same e) t p = subst (λ held. OfState P held state) (sym e) p
@@ -98,7 +98,7 @@ states_landed laws s o list j old new state (One l) t p =
     let k = linked_at laws o list l.now l.works j state (subst (λ r. Contains (takings o r j list) state) (sym (laws.present o list l.now l.works).run) t) in
     state_lands laws s o list j old new state l k (some_is (sym k.has_job ∙ l.has_job)) p
 
-pub kept_landed : {P : Notion} {May : ℕ → JobParts → Type 0} → Ground → Survives May P → (o : Opening) (old new : ℕ → ℕ → List ℕ) (list : List Entry)
+pub kept_landed : {P : Notion} {May : ℕ → JobParts → Type 0} {On : ℕ → Type 0} → Ground → Survives On May P → (o : Opening) (old new : ℕ → ℕ → List ℕ) (list : List Entry)
     → ((j : ℕ) → Lands May o list j (old j) (new j)) → Kept P o old list → Kept P o new list
 kept_landed laws s o old new list lands k = record {
   works = λ w is j job has_job. works_landed laws s o list j (old j) (new j) (lands j) w is job has_job (k.works w is j job has_job);

@@ -10,7 +10,7 @@ use Rattle.window.specs.History as window
 use Rattle.net_world.specs.Honest.{HoldsWrite}
 use Rattle.net_world.proofs.GroundLemmas.{Ground}
 use Rattle.net_world.proofs.FileLemmas.{opened, goes_elsewhere, holds_on}
-use Rattle.net_world.proofs.NotionLemmas.{Survives}
+use Rattle.net_world.proofs.NotionLemmas.{Survives, Always}
 
 -- A write that is done, and to whose block no later one was issued, is in the file.
 abbrev pub LastAreThere : (ℕ → List ℕ) → Key → JobParts → ℕ → (ℕ → Bool) → Type 0
@@ -24,13 +24,13 @@ Any mask job = Unit {0}
 pub issue_more : (h : List window.Event) (k i : ℕ) → i < window.issued h → i < window.issued (window.issue k ∷ h)
 issue_more h k i lt = omega (arith, lt, length_push (window.issues h) k)
 
-pub last_survives : Ground → Survives Any LastAreThere
+pub last_survives : Ground → Survives Always Any LastAreThere
 last_survives laws = record {
   begins = λ held key job k d last. absurd cc;
   issues = λ held key job h m p k d last. p k d (λ i lt same. last i (issue_more h m i lt) same);
   ends = λ held key job h m legal is_open now p k d last. elim (or_cases (window.is_done h k) (m == k) (sym (has_push (window.completions h) m k) ∙ d)) [
     | inl before ↦ p k before last
-    | inr e ↦ subst (λ i. HoldsWrite held key job i) (eqb-true m k e) now
+    | inr e ↦ subst (λ i. HoldsWrite held key job i) (eqb-true m k e) (now tt)
   ];
   lands = λ held key job h m mask n d legal limits is_open may same stays p k is_done last.
       let below = (opened laws job h m legal is_open).0 in

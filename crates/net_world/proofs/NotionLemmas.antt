@@ -45,19 +45,38 @@ abbrev pub Notion : Type 1
 Notion = (ℕ → List ℕ) → Key → JobParts → ℕ → (ℕ → Bool) → Type 0
 
 -- It holds at first, stays when a write is issued, when one that is in the file is done, and when an
--- open write lands by a mask that it may land by.
-pub record Survives (May : ℕ → JobParts → Type 0) (P : Notion) : Type 0 where
+-- open write lands by a mask that it may land by. Which jobs are told truly of, On says.
+pub record Survives (On : ℕ → Type 0) (May : ℕ → JobParts → Type 0) (P : Notion) : Type 0 where
   pub begins : (held : ℕ → List ℕ) (key : Key) (job : JobParts) → P held key job (window.issued []) (window.is_done [])
   pub issues : (held : ℕ → List ℕ) (key : Key) (job : JobParts) (h : List window.Event) (k : ℕ) → P held key job (window.issued h) (window.is_done h)
       → P held key job (window.issued (window.issue k ∷ h)) (window.is_done (window.issue k ∷ h))
   pub ends : (held : ℕ → List ℕ) (key : Key) (job : JobParts) (h : List window.Event) (m : ℕ) → IsLegal job h → has (window.open_writes h) m ≡ true
-      → HoldsWrite held key job m
+      → (On key.job → HoldsWrite held key job m)
       → P held key job (window.issued h) (window.is_done h) → P held key job (window.issued h) (window.is_done (window.done m ∷ h))
   pub lands : (held : ℕ → List ℕ) (key : Key) (job : JobParts) (h : List window.Event) (m mask n : ℕ) (d : ℕ → Bool) → IsLegal job h
       → IsTrue (is_within_limits job) → has (window.open_writes h) m ≡ true → May mask job
       → n ≡ window.issued h → ((k : ℕ) → d k ≡ true → window.is_done h k ≡ true) → P held key job n d
       → P (with_block mask (block_of job m) (bytes_of key job m) held) key job n d
   pub alike : (held : ℕ → List ℕ) (key : Key) (job : JobParts) (n : ℕ) (d e : ℕ → Bool) → ((i : ℕ) → d i ≡ e i) → P held key job n d → P held key job n e
+
+-- Each job.
+abbrev pub Always : ℕ → Type 0
+Always j = Unit {0}
+
+-- What it says of one job alone.
+abbrev pub At : ℕ → Notion → Notion
+At j P held key job n d = key.job ≡ j → P held key job n d
+
+-- So it survives where that job alone is told truly of.
+pub at_job : {P : Notion} {May : ℕ → JobParts → Type 0} → Survives Always May P → (j : ℕ) → Survives (λ i. i ≡ j) May (At j P)
+at_job v j = record {
+  begins = λ held key job own. v.begins held key job;
+  issues = λ held key job h k p own. v.issues held key job h k (p own);
+  ends = λ held key job h m legal is_open now p own. v.ends held key job h m legal is_open (λ u. now own) (p own);
+  lands = λ held key job h m mask n d legal limits is_open may same stays p own.
+      v.lands held key job h m mask n d legal limits is_open may same stays (p own);
+  alike = λ held key job n d e agree p own. v.alike held key job n d e agree (p own);
+}
 
 -- By the history of a job, and by a state.
 abbrev pub Of : Notion → (ℕ → List ℕ) → Origin → List window.Event → Type 0
@@ -93,12 +112,12 @@ accepted origin writes ticket u h =
 
 -- ---- a request
 
--- A write that the request tells as done is in the file.
-abbrev pub Tells : (ℕ → List ℕ) → Origin → List window.Event → Request → Type 0
-Tells held origin h x = (ticket : Ticket) → x ≡ ToEnd ticket Done → ticket.key ≡ origin.key → has (window.open_writes h) ticket.seq ≡ true
-    → HoldsWrite held origin.key origin.job ticket.seq
+-- A write that the request tells as done is in the file, where the job is told truly of.
+abbrev pub Tells : (ℕ → Type 0) → (ℕ → List ℕ) → Origin → List window.Event → Request → Type 0
+Tells On held origin h x = (ticket : Ticket) → x ≡ ToEnd ticket Done → ticket.key ≡ origin.key → has (window.open_writes h) ticket.seq ≡ true
+    → On origin.key.job → HoldsWrite held origin.key origin.job ticket.seq
 
-by_issue : {P : Notion} {May : ℕ → JobParts → Type 0} → Survives May P → (held : ℕ → List ℕ) (origin : Origin) (h : List window.Event) (answer : Issue)
+by_issue : {P : Notion} {May : ℕ → JobParts → Type 0} {On : ℕ → Type 0} → Survives On May P → (held : ℕ → List ℕ) (origin : Origin) (h : List window.Event) (answer : Issue)
     → Of P held origin h → Of P held origin (with_issue answer h)
 by_issue s held origin h (issues.Write ticket) p = s.issues held origin.key origin.job h ticket.seq p
 by_issue s held origin h issues.Full p = p
@@ -112,18 +131,18 @@ by_if : (P : Notion) (held : ℕ → List ℕ) (origin : Origin) (t : Bool) (new
 by_if P held origin true new old a b = a
 by_if P held origin false new old a b = b
 
-by_end : {P : Notion} {May : ℕ → JobParts → Type 0} → Survives May P
+by_end : {P : Notion} {May : ℕ → JobParts → Type 0} {On : ℕ → Type 0} → Survives On May P
     → (held : ℕ → List ℕ) (origin : Origin) (h : List window.Event) (ticket : Ticket) (end : WriteEnd) (answer : Result (Unit {0}) Fault)
     → ticket_answer origin (window.open_writes h) ticket ≡ answer
-    → IsLegal origin.job h → Tells held origin h (ToEnd ticket end) → Of P held origin h → Of P held origin (with_ticket answer end ticket.seq h)
+    → IsLegal origin.job h → Tells On held origin h (ToEnd ticket end) → Of P held origin h → Of P held origin (with_ticket answer end ticket.seq h)
 by_end s held origin h ticket Done (Ok u) is legal tells p =
     let a = accepted origin (window.open_writes h) ticket u is in
     s.ends held origin.key origin.job h ticket.seq legal a.1 (tells ticket refl a.0 a.1) p
 by_end s held origin h ticket Failed (Ok u) is legal tells p = p
 by_end s held origin h ticket end (Err fault) is legal tells p = p
 
-by_request : {P : Notion} {May : ℕ → JobParts → Type 0} → Survives May P
-    → (held : ℕ → List ℕ) (origin : Origin) (stopped : Bool) (x : Request) (h : List window.Event) → IsLegal origin.job h → Tells held origin h x
+by_request : {P : Notion} {May : ℕ → JobParts → Type 0} {On : ℕ → Type 0} → Survives On May P
+    → (held : ℕ → List ℕ) (origin : Origin) (stopped : Bool) (x : Request) (h : List window.Event) → IsLegal origin.job h → Tells On held origin h x
     → Of P held origin h → Of P held origin (with_request origin stopped x h)
 by_request {P} s held origin stopped (ToIssue i) h legal tells p =
     by_if P held origin (i == origin.key.job) (with_issue (answer_to origin stopped h) h) h (by_issue s held origin h (answer_to origin stopped h) p) p
@@ -143,16 +162,16 @@ by_request s held origin stopped ToNobody h legal tells p = p
 -- ---- the present run
 
 -- Each job of the present run is told truly.
-abbrev pub TellsAt : Opening → (ℕ → ℕ → List ℕ) → List Entry → PacketInput → Type 0
-TellsAt o held past e = (w : Work) → work o past ≡ Some w → (j : ℕ) (job : Job) → slice_get w.jobs j ≡ Some job
-    → Tells (held j) (origin_of w j job) (history (origin_of w j job) w.since) (request_of o.me e)
+abbrev pub TellsAt : (ℕ → Type 0) → Opening → (ℕ → ℕ → List ℕ) → List Entry → PacketInput → Type 0
+TellsAt On o held past e = (w : Work) → work o past ≡ Some w → (j : ℕ) (job : Job) → slice_get w.jobs j ≡ Some job
+    → Tells On (held j) (origin_of w j job) (history (origin_of w j job) w.since) (request_of o.me e)
 
 abbrev WorksOf : Notion → (ℕ → ℕ → List ℕ) → Option Work → Type 0
 WorksOf P held x =
     (w : Work) → x ≡ Some w → (j : ℕ) (job : Job) → slice_get w.jobs j ≡ Some job → Of P (held j) (origin_of w j job) (history (origin_of w j job) w.since)
 
-works_on : {P : Notion} {May : ℕ → JobParts → Type 0} → Ground → Survives May P
-    → (o : Opening) (held : ℕ → ℕ → List ℕ) (past : List Entry) (e : PacketInput) (x : Option Work) → work o past ≡ x → TellsAt o held past e → WorksOf P held x
+works_on : {P : Notion} {May : ℕ → JobParts → Type 0} {On : ℕ → Type 0} → Ground → Survives On May P
+    → (o : Opening) (held : ℕ → ℕ → List ℕ) (past : List Entry) (e : PacketInput) (x : Option Work) → work o past ≡ x → TellsAt On o held past e → WorksOf P held x
     → WorksOf P held (goes_on (request_of o.me e) x)
 works_on laws s o held past e None is tells k = λ w h. absurd cc
 works_on {P} laws s o held past e (Some v) is tells k = λ w h j job has_job.
@@ -160,14 +179,14 @@ works_on {P} laws s o held past e (Some v) is tells k = λ w h j job has_job.
     (λ i job has_job. by_request s (held i) (origin_of v i job) (is_some (halt_of v.run v.since)) (request_of o.me e) (history (origin_of v i job) v.since)
     (job_legal laws o past v is i job has_job) (tells v is i job has_job) (k v refl i job has_job)) j job has_job
 
-works_new : {P : Notion} {May : ℕ → JobParts → Type 0} → Survives May P → (held : ℕ → ℕ → List ℕ) (me now_boot : ℕ) (d : Staged)
+works_new : {P : Notion} {May : ℕ → JobParts → Type 0} {On : ℕ → Type 0} → Survives On May P → (held : ℕ → ℕ → List ℕ) (me now_boot : ℕ) (d : Staged)
     → WorksOf P held (Some (record { server = me; boot = now_boot; run = d.run; jobs = d.jobs; since = [] }))
 works_new {P} s held me now_boot d = λ w h j job has_job.
     subst (λ u. (i : ℕ) (job : Job) → Of P (held i) (origin_of u i job) (history (origin_of u i job) u.since)) (some_is h)
     (λ i job. s.begins (held i) (record { run = d.run; server = me; job = i }) job.rec) j job
 
-works_after : {P : Notion} {May : ℕ → JobParts → Type 0} → Ground → Survives May P
-    → (o : Opening) (held : ℕ → ℕ → List ℕ) (past : List Entry) (e : PacketInput) (left : Left) (d : Option Staged) → TellsAt o held past e
+works_after : {P : Notion} {May : ℕ → JobParts → Type 0} {On : ℕ → Type 0} → Ground → Survives On May P
+    → (o : Opening) (held : ℕ → ℕ → List ℕ) (past : List Entry) (e : PacketInput) (left : Left) (d : Option Staged) → TellsAt On o held past e
     → WorksOf P held (work o past) → WorksOf P held (work_after left d o.me (boot o past) (request_of o.me e) (work o past))
 works_after laws s o held past e NoSave d tells k = works_on laws s o held past e (work o past) refl tells k
 works_after laws s o held past e Saved None tells k = works_on laws s o held past e (work o past) refl tells k
@@ -177,7 +196,7 @@ works_after laws s o held past e LostOld d tells k = λ w h. absurd cc
 
 -- ---- the states that are taken
 
-of_state : {P : Notion} {May : ℕ → JobParts → Type 0} → Survives May P → (held : ℕ → List ℕ) (origin : Origin) (h : List window.Event) (state : State)
+of_state : {P : Notion} {May : ℕ → JobParts → Type 0} {On : ℕ → Type 0} → Survives On May P → (held : ℕ → List ℕ) (origin : Origin) (h : List window.Event) (state : State)
     → IsStateOf origin h state → Of P held origin h → OfState P held state
 of_state {P} s held origin h state k p =
     s.alike held state.key state.job state.issued (window.is_done h) (has state.counted) (λ i. sym (k.counts i))
@@ -185,7 +204,7 @@ of_state {P} s held origin h state k p =
     (subst (λ (job : JobParts). P held state.key job (window.issued h) (window.is_done h)) (sym k.job_is)
     (subst (λ (key : Key). P held key origin.job (window.issued h) (window.is_done h)) (sym k.key) p)))
 
-state_now : {P : Notion} {May : ℕ → JobParts → Type 0} → Ground → Survives May P
+state_now : {P : Notion} {May : ℕ → JobParts → Type 0} {On : ℕ → Type 0} → Ground → Survives On May P
     → (o : Opening) (held : ℕ → ℕ → List ℕ) (past : List Entry) (run j : ℕ) (e : PacketInput) (state : State) (x : Option Work) → work o past ≡ x → WorksOf P held x
     → takes run j (request_of o.me e) x ≡ Some state → OfState P (held j) state
 state_now laws s o held past run j e state None is k h = absurd cc
@@ -195,7 +214,7 @@ state_now laws s o held past run j e state (Some w) is k h =
     of_state s (held j) origin (history origin w.since) state
     (state_is_of laws.counts origin w.since state (job_legal laws o past w is j t.job t.has_job) t.state_is) (k w refl j t.job t.has_job)
 
-states_on : {P : Notion} {May : ℕ → JobParts → Type 0} → Ground → Survives May P
+states_on : {P : Notion} {May : ℕ → JobParts → Type 0} {On : ℕ → Type 0} → Ground → Survives On May P
     → (o : Opening) (held : ℕ → ℕ → List ℕ) (past : List Entry) (e : PacketInput) (left : Left) → Kept P o held past → (j : ℕ) (state : State)
     → Contains (takings o (last_run o past) j (Met e left ∷ past)) state → OfState P (held j) state
 states_on laws s o held past e left k j state c =
@@ -204,14 +223,14 @@ states_on laws s o held past e left k j state c =
       | inr before ↦ k.states j state before
     ]
 
-states_new : {P : Notion} {May : ℕ → JobParts → Type 0} → Ground → Survives May P
+states_new : {P : Notion} {May : ℕ → JobParts → Type 0} {On : ℕ → Type 0} → Ground → Survives On May P
     → (o : Opening) (held : ℕ → ℕ → List ℕ) (past : List Entry) (e : PacketInput) (left : Left) (d : Staged) (new : Bool) → due o past e ≡ Some d → Kept P o held past
     → (j : ℕ) (state : State)
     → Contains (takings o (if new then d.run else last_run o past) j (Met e left ∷ past)) state → OfState P (held j) state
 states_new laws s o held past e left d true is k j state c = absurd (none_taken_yet laws o j e left past d state is c)
 states_new laws s o held past e left d false is k j state c = states_on laws s o held past e left k j state c
 
-states_after : {P : Notion} {May : ℕ → JobParts → Type 0} → Ground → Survives May P
+states_after : {P : Notion} {May : ℕ → JobParts → Type 0} {On : ℕ → Type 0} → Ground → Survives On May P
     → (o : Opening) (held : ℕ → ℕ → List ℕ) (past : List Entry) (e : PacketInput) (left : Left) (d : Option Staged) → due o past e ≡ d → Kept P o held past
     → (j : ℕ) (state : State)
     → Contains (takings o (last_run_after left d (last_run o past)) j (Met e left ∷ past)) state → OfState P (held j) state
@@ -220,8 +239,8 @@ states_after laws s o held past e left (Some d) is k j state c = states_new laws
 
 -- ---- an entry of the server
 
-pub kept_met : {P : Notion} {May : ℕ → JobParts → Type 0} → Ground → Survives May P
-    → (o : Opening) (held : ℕ → ℕ → List ℕ) (past : List Entry) (e : PacketInput) (left : Left) → TellsAt o held past e → Kept P o held past
+pub kept_met : {P : Notion} {May : ℕ → JobParts → Type 0} {On : ℕ → Type 0} → Ground → Survives On May P
+    → (o : Opening) (held : ℕ → ℕ → List ℕ) (past : List Entry) (e : PacketInput) (left : Left) → TellsAt On o held past e → Kept P o held past
     → Kept P o held (Met e left ∷ past)
 kept_met laws s o held past e left tells k = record {
   works = works_after laws s o held past e left (due o past e) tells k.works;

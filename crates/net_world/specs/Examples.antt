@@ -163,10 +163,10 @@ pub record ChecksByItsState : Type 0 where
       ≡ first_frames ++ (trigger_frames ++ asks kinds.Verify 79 ∷ replies kinds.WantState 36
       ∷ asks kinds.Saved 160 ∷ replies kinds.Report 57 ∷ [])
 
--- The disks of that world were honest, and its writes whole.
+-- The disk of that world was honest, and the writes to it whole.
 pub record IsHonestlyMade : Type 0 where
-  pub honest : AreHonest one (world one after_verify)
-  pub whole : AreWhole one (world one after_verify)
+  pub honest : AreHonest one 0 0 (world one after_verify)
+  pub whole : AreWhole one 0 0 (world one after_verify)
 
 -- Behind a cut and a restart the Start of the run is old, and nothing is written any more.
 pub record StartsOnceAfterACut : Type 0 where

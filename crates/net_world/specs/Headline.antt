@@ -73,19 +73,19 @@ ExactReports w past =
     (s j : ℕ) (t : Told) → told_of_happening w past (happenings.Check s j) ≡ Ok t →
     (r : ReportParts) × (t.answer ≡ Checked r) × IsExact w past s j r
 
--- On honest disks a check with a state faults only blocks to which a write was in flight at the
--- taking.
+-- On an honest disk a check with a state faults only blocks to which a write was in flight at the
+-- taking: whatever other disks have done.
 abbrev pub FewFaults : Setup → List Change → Type 0
 FewFaults w past =
     (s j : ℕ) (c : Check) (job : Job) (state : State) (block : ℕ) →
-    AreHonest w past → IsCheckedWith w past s j c job state
+    AreHonest w s j past → IsCheckedWith w past s j c job state
     → IsFaulty w past s j c job state block → WasInFlight state block
 
--- Where writes are whole besides, it faults none.
+-- Where writes to it are whole besides, it faults none.
 abbrev pub NoFaults : Setup → List Change → Type 0
 NoFaults w past =
     (s j : ℕ) (c : Check) (job : Job) (state : State) (block : ℕ) →
-    AreHonest w past → AreWhole w past → IsCheckedWith w past s j c job state
+    AreHonest w s j past → AreWhole w s j past → IsCheckedWith w past s j c job state
     → IsFaulty w past s j c job state block → ⊥
 
 -- Nothing that happens is refused as another state of a kept key.

@@ -1,4 +1,4 @@
--- Honest disks: what is told as done is in the file, and no sector changes by itself.
+-- An honest disk: what is told as done is in the file, and no sector changes by itself.
 use Rattle.std.specs.Prelude.{◌≡◌, ℕ, ◌<◌, ◌/◌, true, false, List, [], ◌∷◌, Some, slice_get}
 use Rattle.fc_base.specs.Counted.{has}
 use Rattle.fc_base.specs.declared.numbers.Key.{Key}
@@ -21,41 +21,44 @@ use Rattle.net_world.specs.Trace.{opening_of, of_server}
 use Rattle.net_world.specs.Frames.{FrameStep, OfServer}
 use Rattle.net_world.specs.Changes.{Change, Met, Landed, Rotted, trace}
 use Rattle.net_world.specs.Writes.{open_at}
-use Rattle.net_world.specs.Contents.{content}
+use Rattle.net_world.specs.Contents.{is_file, content}
 use Rattle.net_world.specs.Checks.{key_of}
 
 -- The block of write k holds all its bytes.
 abbrev pub HoldsWrite : (ℕ → List ℕ) → Key → JobParts → ℕ → Type 0
 HoldsWrite held key job k = block_bytes held job.bs (block_of job k) ≡ bytes_of key job k
 
--- A write that is told as done is in its file.
-abbrev pub IsInFile : Setup → List Change → FrameStep → Type 0
-IsInFile w past (OfServer s (Happens (server.Met (WriteDone ticket Done) left))) =
-    (origin : Origin) → open_at (trace w past) s ticket.key.job ticket.seq ≡ Some origin →
-    HoldsWrite (content w past s ticket.key.job) origin.key origin.job ticket.seq
-IsInFile w past _ = Unit {0}
+-- A write that is told as done by the worker of job j at server s is in its file.
+abbrev pub IsInFile : Setup → ℕ → ℕ → List Change → FrameStep → Type 0
+IsInFile w s j past (OfServer r (Happens (server.Met (WriteDone ticket Done) left))) =
+    r ≡ s → ticket.key.job ≡ j →
+    (origin : Origin) → open_at (trace w past) s j ticket.seq ≡ Some origin →
+    HoldsWrite (content w past s j) origin.key origin.job ticket.seq
+IsInFile w s j past _ = Unit {0}
 
--- The disks were honest: no sector has rotted, and each write that was told as done was in its file
--- by then.
-abbrev pub AreHonest : Setup → List Change → Type 0
-AreHonest w [] = Unit {0}
-AreHonest w (Met step ∷ past) = AreHonest w past × IsInFile w past step
-AreHonest w (Landed s j k mask ∷ past) = AreHonest w past
-AreHonest w (Rotted s j sector bytes ∷ past) = ⊥
+-- The disk was honest that has file j of server s: no sector of the file has rotted, and each write
+-- that was told as done was in it by then. Nothing is asked of other files.
+abbrev pub AreHonest : Setup → ℕ → ℕ → List Change → Type 0
+AreHonest w s j [] = Unit {0}
+AreHonest w s j (Met step ∷ past) = AreHonest w s j past × IsInFile w s j past step
+AreHonest w s j (Landed r i k mask ∷ past) = AreHonest w s j past
+AreHonest w s j (Rotted r i sector bytes ∷ past) =
+    AreHonest w s j past × (is_file r i s j ≡ false)
 
 -- The mask has each sector of the job's blocks.
 abbrev pub HasAllSectors : ℕ → JobParts → Type 0
 HasAllSectors mask job = (i : ℕ) → i < job.bs / 512 → has_bit mask i ≡ true
 
--- Writes were whole: each that landed has landed with all its sectors.
-abbrev pub AreWhole : Setup → List Change → Type 0
-AreWhole w [] = Unit {0}
-AreWhole w (Met step ∷ past) = AreWhole w past
-AreWhole w (Landed s j k mask ∷ past) =
-    AreWhole w past
-    × ((origin : Origin) → open_at (trace w past) s j k ≡ Some origin
+-- Writes were whole: each that landed in this file has landed with all its sectors.
+abbrev pub AreWhole : Setup → ℕ → ℕ → List Change → Type 0
+AreWhole w s j [] = Unit {0}
+AreWhole w s j (Met step ∷ past) = AreWhole w s j past
+AreWhole w s j (Landed r i k mask ∷ past) =
+    AreWhole w s j past
+    × (is_file r i s j ≡ true
+    → (origin : Origin) → open_at (trace w past) r i k ≡ Some origin
     → HasAllSectors mask origin.job)
-AreWhole w (Rotted s j sector bytes ∷ past) = AreWhole w past
+AreWhole w s j (Rotted r i sector bytes ∷ past) = AreWhole w s j past
 
 -- A write to this block was in flight when the state was taken.
 pub record WasInFlight (state : State) (block : ℕ) : Type 0 where

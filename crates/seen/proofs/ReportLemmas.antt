@@ -184,10 +184,10 @@ exact_here laws w evs s j t r few told answer =
         report = sym same ∙ k.report ∙ ap (λ m. report_of (make_key c.run m j) k.job k.state (content w past s j)) of.server
             ∙ ap (report_of (make_key c.run s j) k.job k.state) (sym files);
         few_faults = λ state block is honest_seen bad.
-            laws.few w evs few s j c k.job state block (are_honest laws.files w evs few honest_seen)
+            laws.few w evs few s j c k.job state block (are_honest laws.files w evs s j few honest_seen)
             (checked_with w s evs j c k.job k.state state k.is_open k.has_job k.made is) (faulty laws w s evs j c k.job state block few k.is_open bad);
         no_faults = λ state block is honest_seen whole bad.
-            laws.none w evs few s j c k.job state block (are_honest laws.files w evs few honest_seen) (are_whole laws.files w evs few whole)
+            laws.none w evs few s j c k.job state block (are_honest laws.files w evs s j few honest_seen) (are_whole laws.files w evs s j few whole)
             (checked_with w s evs j c k.job k.state state k.is_open k.has_job k.made is) (faulty laws w s evs j c k.job state block few k.is_open bad);
       };
     }

@@ -114,10 +114,10 @@ unfolding the_ticket the_job landed issued_both frames_sent has_next is_of_gener
     has_open have_ended zeros counting_bytes stamped_sector bytes_of
 block_is = refl
 
-in_file : (ticket : Ticket) (job : Job) → given_write 0 0 0 (observations one landed) ≡ Some ticket → job_of ticket.key (observations one landed) ≡ Some job
+in_file : ◌≡◌ {A = ℕ} 0 0 → ◌≡◌ {A = ℕ} 0 0 → (ticket : Ticket) (job : Job) → given_write 0 0 0 (observations one landed) ≡ Some ticket → job_of ticket.key (observations one landed) ≡ Some job
     → block_bytes (held (observations one landed) 0 0) job.rec.bs ticket.block ≡ stamps.bytes_of ticket.key job.rec ticket.seq
 unfolding the_ticket
-in_file ticket job given is =
+in_file server file ticket job given is =
     let t : the_ticket ≡ ticket = some_is (sym ticket_then ∙ given) in
     let j : job_of key (observations one landed) ≡ Some job = ap (λ (x : Ticket). job_of x.key (observations one landed)) t ∙ is in
     let r : the_job ≡ job.rec = some_is (sym job_then ∙ ap (option_map (λ (x : Job). x.rec)) j) in
@@ -129,10 +129,10 @@ unfolding the_job
 one_sector zero lt = refl
 one_sector (suc i) lt = absurd (omega (arith, lt))
 
-all_landed : (ticket : Ticket) (job : Job) → given_write 0 0 0 (observations one issued_both) ≡ Some ticket
+all_landed : true ≡ true → (ticket : Ticket) (job : Job) → given_write 0 0 0 (observations one issued_both) ≡ Some ticket
     → job_of ticket.key (observations one issued_both) ≡ Some job → HasAllSectors 1 job.rec
 unfolding the_ticket
-all_landed ticket job given is =
+all_landed here ticket job given is =
     let t : the_ticket ≡ ticket = some_is (sym ticket_before ∙ given) in
     let j : job_of key (observations one issued_both) ≡ Some job = ap (λ (x : Ticket). job_of x.key (observations one issued_both)) t ∙ is in
     subst (HasAllSectors 1) (some_is (sym job_before ∙ ap (option_map (λ (x : Job). x.rec)) j)) one_sector

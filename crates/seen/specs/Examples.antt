@@ -40,10 +40,10 @@ pub record SeesAReport : Type 0 where
   pub told :
       WasTold (observations one (Check 0 0 ∷ after_verify)) 0 exact.run exact.attempt 0 one_sound
 
--- Up to then its disks were honest, and its writes whole.
+-- Up to then its disk was honest, and the writes to it whole.
 pub record SeesHonestDisks : Type 0 where
-  pub honest : AreHonest (observations one after_verify)
-  pub whole : AreWhole (observations one after_verify)
+  pub honest : AreHonest (observations one after_verify) 0 0
+  pub whole : AreWhole (observations one after_verify) 0 0
 
 -- The acknowledgement of the state came to the server, and this asked for its cut.
 abbrev pub SeesACut : Type 0

@@ -38,8 +38,9 @@ IsMadeWith seen s run attempt j job None =
 
 -- A report that server s makes of job j, behind these: it is sent, of the run and by the job file
 -- that its attempt was asked for; and it is that of what the file holds, by the state that the job
--- is checked with, or in a full pass. By a state, honest disks have faulty blocks only where a
--- write was in flight at the taking, and none where writes land whole besides.
+-- is checked with, or in a full pass. By a state, an honest disk has faulty blocks only where a
+-- write was in flight at the taking, and none where writes land whole besides; other disks may have
+-- done anything.
 pub record IsExact (seen : List Observation) (o : Observation) (s j : ℕ) (r : ReportParts)
     : Type 0 where
   pub run : ℕ
@@ -54,10 +55,11 @@ pub record IsExact (seen : List Observation) (o : Observation) (s j : ℕ) (r : 
   pub made : IsMadeWith seen s run attempt j job state
   pub report : r ≡ report_of (key_at run s j) job state (held seen s j)
   pub few_faults :
-      (with_it : State) (block : ℕ) → state ≡ Some with_it → AreHonest seen
+      (with_it : State) (block : ℕ) → state ≡ Some with_it → AreHonest seen s j
       → IsFaulty (key_at run s j) job with_it (held seen s j) block → WasInFlight with_it block
   pub no_faults :
-      (with_it : State) (block : ℕ) → state ≡ Some with_it → AreHonest seen → AreWhole seen
+      (with_it : State) (block : ℕ) → state ≡ Some with_it → AreHonest seen s j
+      → AreWhole seen s j
       → IsFaulty (key_at run s j) job with_it (held seen s j) block → ⊥
 
 -- A check at this server was told this report, of this run's attempt and this job; and it was the
