@@ -11,9 +11,9 @@ use server_core::{counts_the_done, legal_histories, open_check_is_last, starts, 
 use window::sets_law;
 use write_order::{writes_fill_their_blocks, writes_stay_in_the_region};
 
-/// Where no sector rots, and each write that is told as done is in its file by then, a check with a
-/// state faults only blocks to which a write was in flight at the taking; where each write that lands
-/// has landed with all its sectors, it faults none.
+/// Where no sector of a file rots, and each write to it that is told as done is in it by then, a check
+/// of it with a state faults only blocks to which a write was in flight at the taking; where each write
+/// that lands in it has landed with all its sectors, it faults none. Nothing is asked of other files.
 pub fn honest_disks()
     ensures few { OfEachWorld FewFaults }
     ensures none { OfEachWorld NoFaults }

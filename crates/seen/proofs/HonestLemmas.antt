@@ -131,8 +131,8 @@ in_file : FileLaws → (w : Setup) (evs : List Happening) (e : Happening) (s j :
     → honest.IsInFile w s j (world w evs) step
 in_file laws w evs e s j (OfServer r (Happens (server.Met (inputs.WriteDone ticket ends.Done) left))) few is h =
     λ server_is job_is.
-        held_at laws w evs e r s j ticket left few
-            (ap (entry_by r (steps (world w evs))) is ∙ own r (Some (server.Met (inputs.WriteDone ticket ends.Done) left))) server_is job_is h
+    held_at laws w evs e r s j ticket left few
+    (ap (entry_by r (steps (world w evs))) is ∙ own r (Some (server.Met (inputs.WriteDone ticket ends.Done) left))) server_is job_is h
 in_file laws w evs e s j (OfServer r (Happens (server.Met (inputs.WriteDone ticket ends.Failed) left))) few is h = tt
 in_file laws w evs e s j (OfServer r (Happens (server.Met (inputs.Deliver p) left))) few is h = tt
 in_file laws w evs e s j (OfServer r (Happens (server.Met (inputs.Issue i) left))) few is h = tt
