@@ -7,8 +7,9 @@ import functools, re
 from read_contracts import Contract, is_answer
 from read_specs import places
 
-# A function and its clause, the definitions that lead from there to the word, and what the word is.
-NAMED = re.compile(r"([\w, ']+): ((?:\w+::)+\w+), (?:its clause|clause (\w+))(?:, by ([\w., ']+))?: (.+)")
+# A function and its clause, the definitions that lead from there to the word, what the word is, and
+# how it can be tried.
+NAMED = re.compile(r"([\w, ']+): ((?:\w+::)+\w+), (?:its clause|clause (\w+))(?:, by ([\w., ']+))?: (.+); try (.+)")
 
 
 @functools.lru_cache(None)
@@ -17,12 +18,12 @@ def contract_of(function):
 
 
 class Named:
-    """A word that a contract ties to what a public function answers. Where it is `shown`, it is
-    named in the claims of what is shown alone."""
+    """A word that a contract ties to what a public function answers, and how it can be tried. Where
+    it is `shown`, it is named in the claims of what is shown alone."""
 
-    def __init__(self, word, function, clause, chain, text, is_shown):
+    def __init__(self, word, function, clause, chain, text, trial, is_shown):
         self.word, self.function, self.clause = word, function, clause
-        self.chain, self.text, self.is_shown = chain, text, is_shown
+        self.chain, self.text, self.trial, self.is_shown = chain, text, trial, is_shown
 
     def promised_by(self):
         return f"{self.word[0]}::{self.function}"
@@ -115,9 +116,9 @@ def named_in(line, crate, file, is_shown):
     found = NAMED.fullmatch(line)
     if not found:
         return None
-    words, function, clause, chain, text = found.groups()
+    words, function, clause, chain, text, trial = found.groups()
     chain = [word_at(crate, file, each) for each in chain.split(", ")] if chain else []
-    return [Named((crate, file, word), function, clause or "", chain, text, is_shown) for word in words.split(", ")]
+    return [Named((crate, file, word), function, clause or "", chain, text, trial, is_shown) for word in words.split(", ")]
 
 
 def faults_of(claims, words, names):
@@ -137,16 +138,23 @@ def numbers(names, definitions):
     return f"{len(definitions):,} / {names.lines(definitions):,} / {len(places(definitions))}"
 
 
+def way_to(met, left, words):
+    """The definitions that lead from the clauses to the words that are met, but for those that are
+    left."""
+    return {step for each in words if each.word in met for step in each.chain} - left
+
+
 def functions_of(claim):
     return ", ".join(f"`{function.rpartition('::')[2]}`" for function in claim.of)
 
 
 def table_of(claims, words, names):
     """The table of what each claim rests on, for docs/VERDICT.md."""
-    made = "| Claim | In the words of its contract | Contract | Definitions / lines / files | Down to named words |\n|---|---|---|---|---|\n"
+    made = "| Claim | In the words of its contract | Contract | Definitions / lines / files | Down to named words | These words, and the way to them |\n|---|---|---|---|---|---|\n"
     for claim in claims:
         left, met = claim.left(names, words)
         crate = claim.of[0].partition("::")[0]
-        cells = [claim.title, claim.says, f"{functions_of(claim)} of `{crate}`", numbers(names, claim.whole(names)), f"{numbers(names, left)}, and {len(met)} words"]
+        cells = [claim.title, claim.says, f"{functions_of(claim)} of `{crate}`", numbers(names, claim.whole(names)), numbers(names, left)]
+        cells.append(f"{len(met)}, by {numbers(names, way_to(met, left, words))}" if met else "none")
         made += "| " + " | ".join(cell.replace("|", "\\|") for cell in cells) + " |\n"
     return made
