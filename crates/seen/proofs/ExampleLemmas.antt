@@ -36,13 +36,14 @@ use Rattle.net_world.specs.Trace.{client_opening, of_client}
 use Rattle.net_world.specs.World.{world, saved_state, told_of_happening}
 use Rattle.net_world.specs.WorldLaws.{SentFramesAreRead}
 use Rattle.net_world.proofs.ListLemmas.{same_some}
+use Rattle.seen.specs.Observations.{frames_in}
 use Rattle.seen.specs.Sightings.{InNote, from_server, to_server}
 use Rattle.seen.specs.Texts.{text_with}
 use Rattle.seen.specs.Kept.{CameAmong, TellsOf, EndedWell}
 use Rattle.seen.specs.Claims.{EachIsTaken, EachReportIsExact, EachReportWasTold, NoSavedIsOfNone, CutsAreBehindAcks, AcksAreOfKept, RefusalsChangeNothing}
-use Rattle.seen.specs.Claims.{WhatComesIsKept, EndedIsKept, NumbersAreGivenOnce}
+use Rattle.seen.specs.Claims.{UnknownIsRefused, WhatComesIsKept, EndedIsKept, NumbersAreGivenOnce}
 use Rattle.seen.specs.Watching.{observation, observations, OfAllThatIsSeen}
-use Rattle.seen.specs.Examples.{SeesAState, SeesAReport, SeesACut, SeesAnAck, SeesItKept, SeesNoState, SeesARefusal, SeesTwoRuns, one_sound, after_want}
+use Rattle.seen.specs.Examples.{SeesAState, SeesAReport, SeesACut, SeesAnAck, SeesItKept, SeesNoState, SeesARefusal, SeesNoFrame, SeesTwoRuns, one_sound, after_want}
 use Rattle.seen.proofs.FrameLemmas.{frames_by_step, step_now, sent_at}
 use Rattle.seen.proofs.StoryLemmas.{comes_from, among_now}
 
@@ -213,6 +214,16 @@ pub sees_a_refusal : OfAllThatIsSeen RefusalsChangeNothing → SeesARefusal
 sees_a_refusal law =
     let o = observation one after_keep (Restart Client) in
     record { refused = on_already; nothing = law one (Restart Client ∷ after_keep) few [] (observations one after_keep) o NodeOn refl on_already }
+
+nothing_there : slice_get (frames_in (observations one after_keep)) 7 ≡ None
+unfolding frames_sent has_next is_of_generation is_free_to_number is_begun is_for_client is_from_server is_from_mirror jobs_for has_open have_ended job_state
+    is_same bytes_of spelled_state states.spelling key_bytes job_bytes word state_after u32_at stream_of word_bytes fill_bytes
+nothing_there = refl
+
+pub sees_no_frame : OfAllThatIsSeen UnknownIsRefused → SeesNoFrame
+sees_no_frame law =
+    let o = observation one after_keep (Deliver 7) in
+    record { of_none = nothing_there; refused = law one (Deliver 7 ∷ after_keep) few [] (observations one after_keep) o refl nothing_there }
 
 second_run : text_with 2 (Begin writing_text) (observation one (Begin writing_text ∷ []) (Begin writing_text)).told ≡ Some writing_text
 unfolding frames_sent has_next is_of_generation is_free_to_number is_begun

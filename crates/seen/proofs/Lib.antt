@@ -41,4 +41,5 @@ mod StoryLemmas
 mod TakingLemmas
 mod TextLemmas
 mod ToldLemmas
+mod UnknownLemmas
 mod WorkLemmas

@@ -12,7 +12,7 @@ use Rattle.net_world.specs.Holders.{key_at}
 use Rattle.seen.specs.Observations.{Observation}
 use Rattle.seen.specs.Sightings.{Comes, IsAmong, IsSeen, from_server, to_server}
 use Rattle.seen.specs.Texts.{Asked, text_with, text_of, asked_with, asked_of}
-use Rattle.seen.specs.Refusals.{ChangesNothing}
+use Rattle.seen.specs.Refusals.{ChangesNothing, IsOfNone}
 use Rattle.seen.specs.Takings.{IsTaken}
 use Rattle.seen.specs.Reports.{IsExact, WasTold}
 use Rattle.seen.specs.Cuts.{IsAcknowledged, IsKeptOrNone}
@@ -23,6 +23,12 @@ abbrev pub RefusalsChangeNothing : List Observation → Type 0
 RefusalsChangeNothing seen =
     (newer older : List Observation) (o : Observation) (fault : Fault) →
     seen ≡ newer ++ o ∷ older → o.told ≡ Err fault → ChangesNothing older o
+
+-- An event is refused that is of a frame which wasn't sent, or of a write which wasn't given.
+abbrev pub UnknownIsRefused : List Observation → Type 0
+UnknownIsRefused seen =
+    (newer older : List Observation) (o : Observation) →
+    seen ≡ newer ++ o ∷ older → IsOfNone older o.event → (fault : Fault) × (o.told ≡ Err fault)
 
 -- Two states of one key that are seen, wherever and whenever, are the same.
 abbrev pub OneState : List Observation → Type 0

@@ -1,5 +1,6 @@
 -- A world that can be followed by hand, in which each claim is of something.
 use Rattle.std.specs.Prelude.{◌≡◌, [], ◌∷◌, List, Some, None, Err}
+use Rattle.fc_base.specs.declared.fault.Fault.{Fault}
 use Rattle.fc_base.specs.declared.fault.Fault.TheVariants.{NodeOn}
 use Rattle.fc_base.specs.declared.report.ReportParts.{ReportParts}
 use Rattle.fc_base.specs.declared.report.ReportEnd.TheVariants.{Whole}
@@ -14,7 +15,7 @@ use Rattle.seen.specs.Takings.{IsTaken}
 use Rattle.seen.specs.Reports.{IsExact, WasTold}
 use Rattle.seen.specs.Disks.{AreHonest, AreWhole}
 use Rattle.seen.specs.Cuts.{IsAcknowledged, IsKeptOrNone}
-use Rattle.seen.specs.Refusals.{ChangesNothing}
+use Rattle.seen.specs.Refusals.{ChangesNothing, IsOfNone}
 use Rattle.seen.specs.Kept.{StaysKept, EndedWell}
 use Rattle.seen.specs.Watching.{observation, observations}
 
@@ -85,6 +86,11 @@ pub record SeesARefusal : Type 0 where
   pub refused : (observation one after_keep (Restart Client)).told ≡ Err NodeOn
   pub nothing :
       ChangesNothing (observations one after_keep) (observation one after_keep (Restart Client))
+
+-- A frame that wasn't sent doesn't come.
+pub record SeesNoFrame : Type 0 where
+  pub of_none : IsOfNone (observations one after_keep) (Deliver 7)
+  pub refused : (fault : Fault) × ((observation one after_keep (Deliver 7)).told ≡ Err fault)
 
 -- A second Begin is told another number than the first.
 pub record SeesTwoRuns : Type 0 where

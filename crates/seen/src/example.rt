@@ -1,11 +1,11 @@
 //! Worlds that can be followed by hand, and what is seen of them. The function has nothing to run.
 
-ghost use Rattle.seen.specs.Examples.{SeesAState, SeesAReport, SeesHonestDisks, SeesACut, SeesAnAck, SeesItKept, SeesNoState, SeesARefusal, SeesTwoRuns};
+ghost use Rattle.seen.specs.Examples.{SeesAState, SeesAReport, SeesHonestDisks, SeesACut, SeesAnAck, SeesItKept, SeesNoState, SeesARefusal, SeesNoFrame, SeesTwoRuns};
 
 use crate::law::{
     acks_are_of_kept, cuts_are_behind_acks, each_is_taken, each_report_is_exact,
     each_report_was_told, ended_is_kept, no_saved_is_of_none, numbers_are_given_once,
-    refusals_change_nothing, what_comes_is_kept,
+    refusals_change_nothing, unknown_is_refused, what_comes_is_kept,
 };
 use net_world::sent_frames_are_read;
 use state_table::found_states;
@@ -20,6 +20,7 @@ pub fn examples()
     ensures kept { SeesItKept }
     ensures none { SeesNoState }
     ensures refusal { SeesARefusal }
+    ensures frame { SeesNoFrame }
     ensures runs { SeesTwoRuns }
 {
     net_world::examples();
@@ -32,6 +33,7 @@ pub fn examples()
     cuts_are_behind_acks();
     acks_are_of_kept();
     refusals_change_nothing();
+    unknown_is_refused();
     what_comes_is_kept();
     ended_is_kept();
     numbers_are_given_once();

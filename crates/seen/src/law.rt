@@ -1,6 +1,6 @@
 //! What holds of all that is seen of each world. The functions have nothing to run.
 
-ghost use Rattle.seen.specs.Claims.{OneState, EachIsTaken, EachReportIsExact, EachReportWasTold, NoSavedIsOfNone, CutsAreBehindAcks, AcksAreOfKept, RefusalsChangeNothing, WhatComesIsKept, EndedIsKept, NumbersAreGivenOnce};
+ghost use Rattle.seen.specs.Claims.{OneState, EachIsTaken, EachReportIsExact, EachReportWasTold, NoSavedIsOfNone, CutsAreBehindAcks, AcksAreOfKept, RefusalsChangeNothing, UnknownIsRefused, WhatComesIsKept, EndedIsKept, NumbersAreGivenOnce};
 ghost use Rattle.seen.specs.Watching.{OfAllThatIsSeen};
 
 use client_core::{acks_are_for_kept_states, first_kept_stays, packets_go_to_peers};
@@ -191,6 +191,11 @@ pub fn acks_are_of_kept()
 /// showed before.
 pub fn refusals_change_nothing()
     ensures { OfAllThatIsSeen RefusalsChangeNothing }
+{}
+
+/// A frame that wasn't sent, and a write that wasn't given, are refused, whatever happens to them.
+pub fn unknown_is_refused()
+    ensures { OfAllThatIsSeen UnknownIsRefused }
 {}
 
 /// A State that has come to the client is shown by its note, at once and behind each later call that the client

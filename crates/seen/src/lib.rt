@@ -16,6 +16,6 @@ pub use example::examples;
 pub use law::{
     acks_are_of_kept, cuts_are_behind_acks, each_is_taken, each_report_is_exact,
     each_report_was_told, ended_is_kept, no_saved_is_of_none, numbers_are_given_once, one_state,
-    refusals_change_nothing, what_comes_is_kept,
+    refusals_change_nothing, unknown_is_refused, what_comes_is_kept,
 };
 pub use watching::watch;

@@ -5,13 +5,13 @@ ghost use Rattle.fc_base.specs.declared.limits.TheConstants.{MAX_SERVERS};
 ghost use Rattle.net_world.specs.Setup.{setup_of};
 ghost use Rattle.net_world.specs.Stands.{StandsFor};
 ghost use Rattle.net_world.specs.Claims.{world_of};
-ghost use Rattle.seen.specs.Claims.{OneState, EachIsTaken, EachReportIsExact, EachReportWasTold, NoSavedIsOfNone, CutsAreBehindAcks, AcksAreOfKept, RefusalsChangeNothing, WhatComesIsKept, EndedIsKept, NumbersAreGivenOnce};
+ghost use Rattle.seen.specs.Claims.{OneState, EachIsTaken, EachReportIsExact, EachReportWasTold, NoSavedIsOfNone, CutsAreBehindAcks, AcksAreOfKept, RefusalsChangeNothing, UnknownIsRefused, WhatComesIsKept, EndedIsKept, NumbersAreGivenOnce};
 ghost use Rattle.seen.specs.Watching.{WhenSeen};
 
 use crate::law::{
     acks_are_of_kept, cuts_are_behind_acks, each_is_taken, each_report_is_exact,
     each_report_was_told, ended_is_kept, no_saved_is_of_none, numbers_are_given_once, one_state,
-    refusals_change_nothing, what_comes_is_kept,
+    refusals_change_nothing, unknown_is_refused, what_comes_is_kept,
 };
 use net_world::{Config, World, WorldEvent, play};
 use std::alloc::{AllocError, Global};
@@ -31,6 +31,7 @@ pub fn watch(alloc: Global, config: Config, events: &[WorldEvent]) -> Result<Wor
     ensures cuts { OnOk result (WhenSeen CutsAreBehindAcks config events.now) }
     ensures acks { OnOk result (WhenSeen AcksAreOfKept config events.now) }
     ensures refusals { OnOk result (WhenSeen RefusalsChangeNothing config events.now) }
+    ensures unknown { OnOk result (WhenSeen UnknownIsRefused config events.now) }
     ensures kept { OnOk result (WhenSeen WhatComesIsKept config events.now) }
     ensures ended { OnOk result (WhenSeen EndedIsKept config events.now) }
     ensures numbers { OnOk result (WhenSeen NumbersAreGivenOnce config events.now) }
@@ -43,6 +44,7 @@ pub fn watch(alloc: Global, config: Config, events: &[WorldEvent]) -> Result<Wor
     cuts_are_behind_acks();
     acks_are_of_kept();
     refusals_change_nothing();
+    unknown_is_refused();
     what_comes_is_kept();
     ended_is_kept();
     numbers_are_given_once();

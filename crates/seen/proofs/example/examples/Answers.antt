@@ -29,3 +29,6 @@ returns-clause-refusal c = lemmas.sees_a_refusal c.refusals_change_nothing.ensur
 
 pub returns-clause-runs : goal.returns-clause-runs
 returns-clause-runs c = lemmas.sees_two_runs c.numbers_are_given_once.ensures
+
+pub returns-clause-frame : goal.returns-clause-frame
+returns-clause-frame c = lemmas.sees_no_frame c.unknown_is_refused.ensures

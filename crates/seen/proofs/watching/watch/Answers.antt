@@ -50,3 +50,7 @@ returns-clause-ended c =
 pub returns-clause-numbers : goal.returns-clause-numbers
 returns-clause-numbers c =
     on_ok c.play.result _ (λ newer older split. c.numbers_are_given_once.ensures (setup_of c.args.config) older c.requires.few)
+
+pub returns-clause-unknown : goal.returns-clause-unknown
+returns-clause-unknown c =
+    on_ok c.play.result _ (λ newer older split. c.unknown_is_refused.ensures (setup_of c.args.config) older c.requires.few)
