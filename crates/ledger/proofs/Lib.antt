@@ -1,0 +1,7 @@
+mod CheckLemmas
+pub mod EntryLemmas
+mod PlaceLemmas
+mod SizeLemmas
+pub mod StoryLemmas
+mod TallyLemmas
+mod TouchedLemmas

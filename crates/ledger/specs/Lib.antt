@@ -1,0 +1,9 @@
+-- What a place has to hold, over many runs and checks.
+pub mod Entries
+pub mod Places
+pub mod Checks
+pub mod Reports
+pub mod Tally
+-- What holds of it.
+pub mod Stories
+pub mod Laws

@@ -1,0 +1,124 @@
+//! A ledger: what each block of a place has to hold.
+
+ghost use Rattle.std.specs.Prelude.{◌≡◌, ◌<◌, ◌≤◌, length, IfOk};
+ghost use Rattle.fc_base.specs.declared.limits.TheConstants.{MAX_BLOCKS};
+ghost use Rattle.ledger.specs.Places.{empty, entry_of, after_run, after_lost_run, is_checked, verdict_at, with_block_checked};
+
+use crate::entry::Entry;
+use crate::touched::blocks_touched;
+use fc_base::{JobRecord, MAX_BLOCKS};
+use recheck::{Expected, Verdict};
+use std::alloc::{AllocError, Global};
+use std::marker::Model;
+
+/// What each block of a place has to hold, by the runs that were ordered there and the checks that were made of it. All
+/// blocks have one size. It is linear in the blocks, whatever the number of runs.
+#[derive(Drop)]
+pub struct Ledger {
+    block_size: u32,
+    entries: Vec<Entry>,
+}
+
+impl Model for Ledger {
+    ghost use Rattle.std.specs.Prelude.{◌≤◌, length};
+    ghost use Rattle.fc_base.specs.declared.limits.TheConstants.{MAX_BLOCKS};
+    ghost use Rattle.ledger.specs.Places.{Place};
+
+    ghost Value = { Place };
+
+    ghost view = { λ l. record { bs = l.block_size; entries = l.entries.items } };
+
+    ghost invariant = { λ l. length l.entries.items ≤ MAX_BLOCKS };
+}
+
+impl Ledger {
+    /// A ledger of so many blocks of this size, which asks for nothing.
+    pub fn new(alloc: Global, block_size: u32, blocks: u32) -> Result<Ledger, AllocError>
+        requires { blocks ≤ MAX_BLOCKS }
+        ensures { IfOk result (λ l. l ≡ empty block_size blocks) }
+    {
+        let mut entries = Vec::with_capacity(alloc, blocks as usize)?;
+        for _ in 0..blocks {
+            entries.push(Entry::new(alloc))?;
+        }
+        Ok(Ledger {
+            block_size,
+            entries,
+        })
+    }
+
+    /// How many blocks the place has.
+    pub fn blocks(&self) -> u32
+        ensures value { result ≡ length self.now.entries }
+        ensures range { result ≤ MAX_BLOCKS }
+    {
+        self.entries.len() as u32
+    }
+
+    /// Bytes of a block.
+    pub fn block_size(&self) -> u32
+        ensures { result ≡ self.now.bs }
+    {
+        self.block_size
+    }
+
+    /// Whether the block is checked: its entry asks for something. Another need not be read.
+    pub fn wants(&self, block: u32) -> bool
+        ensures { result ≡ is_checked self.now block }
+    {
+        match self.entries.get(block as usize) {
+            None => false,
+            Some(entry) => entry.asks(),
+        }
+    }
+
+    /// The entry of a block.
+    pub fn entry(&self, block: u32) -> &Entry
+        requires { block < length self.now.entries }
+        ensures { result.now ≡ entry_of self.now block }
+    {
+        &self.entries[block as usize]
+    }
+
+    /// The ledger behind the run that a check would go by. An error is that memory ran out.
+    pub fn after_run(&self, alloc: Global, e: &Expected) -> Result<Ledger, AllocError>
+        ensures { IfOk result (λ l. l ≡ after_run e.now self.now) }
+    {
+        let mut entries = Vec::with_capacity(alloc, self.entries.len())?;
+        for block in 0..self.blocks() {
+            entries.push(self.entry(block).behind_run(alloc, e, block)?)?;
+        }
+        Ok(Ledger {
+            block_size: self.block_size,
+            entries,
+        })
+    }
+
+    /// The ledger behind a run of this job whose state was lost. An error is that memory ran out.
+    pub fn after_lost_run(&self, alloc: Global, rec: &JobRecord) -> Result<Ledger, AllocError>
+        ensures { IfOk result (λ l. l ≡ after_lost_run rec.now self.now) }
+    {
+        let marks = blocks_touched(alloc, rec, self.blocks())?;
+        let touched = marks.as_slice();
+        let mut entries = Vec::with_capacity(alloc, self.entries.len())?;
+        for block in 0..self.blocks() {
+            let lost = touched[block as usize];
+            entries.push(self.entry(block).behind_lost_run(alloc, lost)?)?;
+        }
+        Ok(Ledger {
+            block_size: self.block_size,
+            entries,
+        })
+    }
+
+    /// Checks a block by its bytes: what it was found to hold it has to hold from now on; at a fault nothing more is
+    /// asked of it, so that a loss is told once. It takes no memory.
+    pub fn check(&mut self, block: u32, bytes: &[u8]) -> Verdict
+        requires { block < length self.old.entries }
+        ensures verdict { result ≡ verdict_at self.old block bytes.now }
+        ensures left { self.new ≡ with_block_checked self.old block bytes.now }
+        ensures range { block < MAX_BLOCKS }
+    {
+        self.entries[block as usize].check(block, bytes)
+    }
+}

@@ -1,0 +1,24 @@
+//! A ledger of a place: what each of its blocks has to hold, over any runs and checks.
+//!
+//! ```text
+//! let mut ledger = Ledger::new(alloc, 4096, blocks)?;
+//! let ledger = ledger.after_run(alloc, &expected)?;        // behind each run
+//! let mut check = LedgerCheck::new(ledger);                // behind each cut
+//! if check.wants(block) { verdict = check.feed(block, bytes); }
+//! let (report, ledger) = check.finish();
+//! ```
+//!
+//! Begin with `specs/Entries.antt`.
+#![tactic(auto)]
+
+mod check;
+mod entry;
+mod law;
+mod ledger;
+mod tally;
+mod touched;
+
+pub use check::LedgerCheck;
+pub use entry::{Entry, RunWrite};
+pub use law::{holders, one_run, one_run_reports, rest_law, stays};
+pub use ledger::Ledger;
