@@ -5,3 +5,6 @@ mod SizeLemmas
 pub mod StoryLemmas
 mod TallyLemmas
 mod TouchedLemmas
+mod ReadingLemmas
+mod TableLemmas
+mod WritingLemmas

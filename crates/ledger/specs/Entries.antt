@@ -1,5 +1,5 @@
--- What a block has to hold, by the runs that were ordered at its place and the checks that were made
--- of it. An entry is the writes of which the block has to hold one; an empty one asks for nothing.
+-- What a block has to hold, by the runs that were ordered at its place and the checks of it. An
+-- entry is the writes of which the block has to hold one; an empty one asks for nothing.
 use Rattle.std.specs.Prelude.{ℕ, Bool, true, false, not, ◌==◌, List, [], ◌∷◌, ◌++◌, filter, map, Option, Some, None, if◌then◌else◌}
 use Rattle.std.specs.List.{list_any}
 use Rattle.std.specs.Str.{bytes_eq}
@@ -49,8 +49,8 @@ may_write job block = list_any (λ k. block_of job k == block) (numbers_below jo
 abbrev pub behind_lost_run : JobParts → ℕ → List RunWrite → List RunWrite
 behind_lost_run job block entry = if may_write job block then [] else entry
 
--- The entry behind a check that came behind a cut or a flush: those of its writes that the block was
--- found to hold. At a fault there is none, so that a loss is told once.
+-- The entry behind a check that came behind a cut or a flush: those of its writes that the block
+-- was found to hold. At a fault there is none, so that a loss is told once.
 abbrev pub behind_check : (ℕ → List ℕ) → ℕ → List RunWrite → List RunWrite
 behind_check held block entry = filter (is_held block (held block)) entry
 

@@ -35,8 +35,8 @@ NothingIsTold =
     (first : ℕ → List ℕ) (steps : List Step) (block : ℕ) → NothingLost first steps block →
     is_fault (content_after first steps) block (entry_after steps block) ≡ false
 
--- Where a check has found a write of its entry in a block, a later run has no write to it, completed
--- or in flight, and the block then holds other bytes, it is a fault.
+-- Where a check has found a write of its entry in a block, a later run has no write to it,
+-- completed or in flight, and the block then holds other bytes, it is a fault.
 abbrev pub LossAtRestIsTold : Type 0
 LossAtRestIsTold =
     (seen later : ℕ → List ℕ) (e : Expected) (entry : List RunWrite) (block : ℕ) →

@@ -4,6 +4,9 @@ pub mod Places
 pub mod Checks
 pub mod Reports
 pub mod Tally
+pub mod Spelling
+pub mod Ranges
+pub mod Reading
 -- What holds of it.
 pub mod Stories
 pub mod Laws

@@ -6,8 +6,8 @@ use Rattle.recheck.specs.Faults.{last_write, writes_to, is_write}
 use Rattle.ledger.specs.declared.entry.RunWrite.{RunWrite}
 use Rattle.ledger.specs.Entries.{behind_run, behind_check}
 
--- What happened at a place: a run that ended in a cut, by what a check of it goes by; or, where there
--- is none, a check. And what the blocks hold behind it.
+-- What happened at a place: a run that ended in a cut, by what a check of it goes by; or, where
+-- there is none, a check. And what the blocks hold behind it.
 pub record Step : Type 0 where
   pub run : Option Expected
   pub content : ℕ → List ℕ

@@ -57,6 +57,14 @@ impl Entry {
         }
     }
 
+    /// Adds a write.
+    pub(crate) fn push(&mut self, write: RunWrite) -> Result<(), AllocError>
+        ensures { OnOk result (self.new ≡ self.old ++ write ∷ []) }
+    {
+        self.writes.push(write)?;
+        Ok(())
+    }
+
     /// The writes, the last completed one first.
     pub fn as_slice(&self) -> &[RunWrite]
         ensures { result.now ≡ self.now }

@@ -2,12 +2,20 @@
 
 ghost use Rattle.std.specs.Prelude.{◌≡◌, ◌<◌, ◌≤◌, length, IfOk};
 ghost use Rattle.fc_base.specs.declared.limits.TheConstants.{MAX_BLOCKS};
+ghost use Rattle.ledger.specs.Ranges.{IsRangedPlace};
+ghost use Rattle.ledger.specs.Reading.{IsRead};
+ghost use Rattle.ledger.specs.Spelling.{spelling};
+ghost use Rattle.ledger.specs.Places.{Place};
 ghost use Rattle.ledger.specs.Places.{empty, entry_of, after_run, after_lost_run, is_checked, verdict_at, with_block_checked};
 
 use crate::entry::Entry;
+use crate::fault::LedgerFault;
+use crate::reading::{body_of, ledger_in, words_of};
+use crate::spelling::{MAGIC, put_entries, put_table, put_words, table_of};
 use crate::touched::blocks_touched;
 use fc_base::{JobRecord, MAX_BLOCKS};
 use recheck::{Expected, Verdict};
+use sha1::Sha1;
 use std::alloc::{AllocError, Global};
 use std::marker::Model;
 
@@ -22,6 +30,10 @@ pub struct Ledger {
 impl Model for Ledger {
     ghost use Rattle.std.specs.Prelude.{◌≤◌, length};
     ghost use Rattle.fc_base.specs.declared.limits.TheConstants.{MAX_BLOCKS};
+    ghost use Rattle.ledger.specs.Ranges.{IsRangedPlace};
+    ghost use Rattle.ledger.specs.Reading.{IsRead};
+    ghost use Rattle.ledger.specs.Spelling.{spelling};
+    ghost use Rattle.ledger.specs.Places.{Place};
     ghost use Rattle.ledger.specs.Places.{Place};
 
     ghost Value = { Place };
@@ -109,6 +121,56 @@ impl Ledger {
             block_size: self.block_size,
             entries,
         })
+    }
+
+    /// The bytes of the ledger: it has one spelling. An error is that memory ran out.
+    pub fn encode(&self, alloc: Global) -> Result<Vec<u8>, AllocError>
+        ensures spelling { IfOk result (λ bytes. bytes.items ≡ spelling self.now) }
+        ensures ranged { IfOk result (λ _. IsRangedPlace self.now) }
+    {
+        let table = table_of(alloc, &self.entries)?;
+        let mut bytes = Vec::new(alloc);
+        let blocks = u64::from(self.blocks());
+        let head = [
+            MAGIC,
+            u64::from(self.block_size),
+            blocks,
+            table.len() as u64,
+        ];
+        put_words(&mut bytes, &head)?;
+        put_table(&mut bytes, &table)?;
+        put_entries(&mut bytes, &table, &self.entries)?;
+        let digest = Sha1::digest(&bytes);
+        bytes.extend_from_slice(&digest)?;
+        Ok(bytes)
+    }
+
+    /// The ledger that these bytes spell. Bytes that spell none are refused, and nothing is left of them; any number in
+    /// them is held against the bytes that are there before memory is asked for.
+    pub fn decode(alloc: Global, bytes: &[u8]) -> Result<Ledger, LedgerFault>
+        ensures spelled { IfOk result (λ l. bytes.now ≡ spelling l) }
+        ensures read { (place : Place) → IsRangedPlace place → bytes.now ≡ spelling place
+            → IsRead result place }
+    {
+        let body = body_of(bytes)?;
+        let words = words_of(alloc, body)?;
+        let ledger = ledger_in(alloc, &words)?;
+        let again = ledger.encode(alloc)?;
+        if again.as_slice() != bytes {
+            return Err(LedgerFault::OtherSpelling);
+        }
+        Ok(ledger)
+    }
+
+    /// A ledger of these entries.
+    pub(crate) fn with_entries(block_size: u32, entries: Vec<Entry>) -> Ledger
+        requires { length entries.items ≤ MAX_BLOCKS }
+        ensures { result ≡ record { bs = block_size; entries = entries.items } }
+    {
+        Ledger {
+            block_size,
+            entries,
+        }
     }
 
     /// Checks a block by its bytes: what it was found to hold it has to hold from now on; at a fault nothing more is

@@ -13,12 +13,16 @@
 
 mod check;
 mod entry;
+mod fault;
 mod law;
 mod ledger;
+mod reading;
+mod spelling;
 mod tally;
 mod touched;
 
 pub use check::LedgerCheck;
 pub use entry::{Entry, RunWrite};
+pub use fault::LedgerFault;
 pub use law::{holders, one_run, one_run_reports, rest_law, stays};
 pub use ledger::Ledger;
