@@ -8,3 +8,4 @@ mod TouchedLemmas
 mod ReadingLemmas
 mod TableLemmas
 mod WritingLemmas
+mod PossibleLemmas

@@ -178,7 +178,7 @@ rows_are place r = record {
 pub record IsHead (head rest : List ℕ) (a b c d : ℕ) (more : List ℕ) : Type 0 where
   pub magic : get_or head 0 0 ≡ a
   pub bs : get_or head 1 0 ≡ b
-  pub blocks : get_or head 2 0 ≡ c
+  pub count : get_or head 2 0 ≡ c
   pub runs : get_or head 3 0 ≡ d
   pub rest_is : rest ≡ more
 
@@ -187,7 +187,7 @@ pub four_of : (words head rest : List ℕ) (a b c d : ℕ) (more : List ℕ) →
 four_of words head rest a b c d more head_is rest_is is = record {
   magic = ap (λ h. get_or h 0 0) (head_is ∙ ap (take 4) is);
   bs = ap (λ h. get_or h 1 0) (head_is ∙ ap (take 4) is);
-  blocks = ap (λ h. get_or h 2 0) (head_is ∙ ap (take 4) is);
+  count = ap (λ h. get_or h 2 0) (head_is ∙ ap (take 4) is);
   runs = ap (λ h. get_or h 3 0) (head_is ∙ ap (take 4) is);
   rest_is = rest_is ∙ ap (drop 4) is;
 }

@@ -7,6 +7,7 @@ pub mod Tally
 pub mod Spelling
 pub mod Ranges
 pub mod Reading
+pub mod Possible
 -- What holds of it.
 pub mod Stories
 pub mod Laws

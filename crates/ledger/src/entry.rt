@@ -1,8 +1,9 @@
 //! What a block has to hold.
 
 ghost use Rattle.std.specs.Prelude.{◌≡◌, [], ◌∷◌, ◌++◌, length, filter, map, if◌then◌else◌, IfOk, OnOk};
-ghost use Rattle.std.specs.List.{list_any};
+ghost use Rattle.std.specs.List.{list_all, list_any};
 ghost use Rattle.recheck.specs.Faults.{writes_to};
+ghost use Rattle.ledger.specs.Possible.{can_be};
 ghost use Rattle.ledger.specs.Entries.{is_held, asks, behind_run, verdict, write_of};
 
 use fc_base::{JobRecord, Key, Seq};
@@ -20,6 +21,14 @@ pub struct RunWrite {
 }
 
 impl RunWrite {
+    /// Whether it is one of its job, whose blocks have this size.
+    fn can_be(&self, block_size: u32) -> bool
+        ensures { result ≡ can_be block_size self.now }
+    {
+        let job = self.job.parts();
+        self.seq.0 < job.total && job.bs == u64::from(block_size)
+    }
+
     /// Whether a block that holds these bytes holds this write. Bytes of another size are none.
     pub fn is_held(&self, block: u32, bytes: &[u8]) -> bool
         ensures { result ≡ is_held block bytes.now self.now }
@@ -77,6 +86,13 @@ impl Entry {
         ensures { result ≡ asks self.now }
     {
         !self.writes.is_empty()
+    }
+
+    /// Whether each write is one of its job, whose blocks have this size.
+    pub(crate) fn can_be(&self, block_size: u32) -> bool
+        ensures { result ≡ list_all (can_be block_size) self.now }
+    {
+        self.writes.iter().all(|write| write.can_be(block_size))
     }
 
     /// Whether a block that holds these bytes holds one of the writes.

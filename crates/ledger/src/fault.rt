@@ -21,6 +21,8 @@ pub enum LedgerFault {
     BadBlockSize,
     #[error("the ledger has a run that no run can be")]
     BadRun,
+    #[error("the ledger has a write that no run has")]
+    Impossible,
     #[error("the ledger isn't spelled as one")]
     OtherSpelling,
     #[error("memory ran out")]

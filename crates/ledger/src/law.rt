@@ -1,5 +1,6 @@
 //! What holds of every ledger, over any runs and checks. The functions have nothing to run.
 
+ghost use Rattle.ledger.specs.Possible.{StaysPossible};
 ghost use Rattle.ledger.specs.Laws.{OneRunIsTheCheck, OneRunReports, HoldersAreNoFaults, WhatStaysIsNoFault, NothingIsTold, LossAtRestIsTold};
 
 /// One run over an empty ledger is the check of that run by its state.
@@ -10,6 +11,11 @@ pub fn one_run()
 /// The report of one run over an empty ledger is that of the check of that run.
 pub fn one_run_reports()
     ensures { OneRunReports }
+{}
+
+/// What is known behind runs of jobs of the blocks' size is possible.
+pub fn stays_possible()
+    ensures { StaysPossible }
 {}
 
 /// A block that holds a write of its entry is no fault.

@@ -1,7 +1,9 @@
 //! A ledger: what each block of a place has to hold.
 
-ghost use Rattle.std.specs.Prelude.{◌≡◌, ◌<◌, ◌≤◌, length, IfOk};
+ghost use Rattle.std.specs.Prelude.{◌≡◌, ◌<◌, ◌≤◌, length, IfOk, IsTrue};
+ghost use Rattle.std.specs.List.{list_all};
 ghost use Rattle.fc_base.specs.declared.limits.TheConstants.{MAX_BLOCKS};
+ghost use Rattle.ledger.specs.Possible.{is_possible, is_block_size, can_be};
 ghost use Rattle.ledger.specs.Ranges.{IsRangedPlace};
 ghost use Rattle.ledger.specs.Reading.{IsRead};
 ghost use Rattle.ledger.specs.Spelling.{spelling};
@@ -13,7 +15,7 @@ use crate::fault::LedgerFault;
 use crate::reading::{body_of, ledger_in, words_of};
 use crate::spelling::{MAGIC, put_entries, put_table, put_words, table_of};
 use crate::touched::blocks_touched;
-use fc_base::{JobRecord, MAX_BLOCKS};
+use fc_base::{JobRecord, MAX_BLOCK_SIZE, MAX_BLOCKS};
 use recheck::{Expected, Verdict};
 use sha1::Sha1;
 use std::alloc::{AllocError, Global};
@@ -30,6 +32,7 @@ pub struct Ledger {
 impl Model for Ledger {
     ghost use Rattle.std.specs.Prelude.{◌≤◌, length};
     ghost use Rattle.fc_base.specs.declared.limits.TheConstants.{MAX_BLOCKS};
+    ghost use Rattle.ledger.specs.Possible.{is_possible, is_block_size, can_be};
     ghost use Rattle.ledger.specs.Ranges.{IsRangedPlace};
     ghost use Rattle.ledger.specs.Reading.{IsRead};
     ghost use Rattle.ledger.specs.Spelling.{spelling};
@@ -149,17 +152,29 @@ impl Ledger {
     /// them is held against the bytes that are there before memory is asked for.
     pub fn decode(alloc: Global, bytes: &[u8]) -> Result<Ledger, LedgerFault>
         ensures spelled { IfOk result (λ l. bytes.now ≡ spelling l) }
-        ensures read { (place : Place) → IsRangedPlace place → bytes.now ≡ spelling place
-            → IsRead result place }
+        ensures possible { IfOk result (λ l. IsTrue (is_possible l)) }
+        ensures read { (place : Place) → IsRangedPlace place → IsTrue (is_possible place)
+            → bytes.now ≡ spelling place → IsRead result place }
     {
         let body = body_of(bytes)?;
         let words = words_of(alloc, body)?;
         let ledger = ledger_in(alloc, &words)?;
+        if !ledger.is_possible() {
+            return Err(LedgerFault::Impossible);
+        }
         let again = ledger.encode(alloc)?;
         if again.as_slice() != bytes {
             return Err(LedgerFault::OtherSpelling);
         }
         Ok(ledger)
+    }
+
+    /// Whether its blocks have a size that a job may have, and its writes are of jobs of that size. What is known behind
+    /// runs of such jobs is (`stays_possible`), and only such a ledger is decoded.
+    pub fn is_possible(&self) -> bool
+        ensures { result ≡ is_possible self.now }
+    {
+        is_block_size(self.block_size) && all_can_be(&self.entries, self.block_size)
     }
 
     /// A ledger of these entries.
@@ -183,4 +198,18 @@ impl Ledger {
     {
         self.entries[block as usize].check(block, bytes)
     }
+}
+
+/// Whether a job may have blocks of this size.
+fn is_block_size(bs: u32) -> bool
+    ensures { result ≡ is_block_size bs }
+{
+    512 <= bs && bs <= MAX_BLOCK_SIZE && bs % 512 == 0
+}
+
+/// Whether each write of these entries is one of its job, whose blocks have this size.
+fn all_can_be(entries: &[Entry], block_size: u32) -> bool
+    ensures { result ≡ list_all (list_all (can_be block_size)) entries.now }
+{
+    entries.iter().all(|entry| entry.can_be(block_size))
 }

@@ -19,7 +19,7 @@ returns-in_err-entries c place ranged is =
     let cut = cut_of place c.split_at.result.1.now c.split_at-2.result.0.now c.split_at-2.result.1.now _ ranged head.rest_is (ap (λ n. 12 * n) head.runs)
     c.split_at-2.ensures.front c.split_at-2.ensures.back in
     let told = err_from_is_err_and c.from_residual.result c.from_residual.ensures.1 in
-    rw (told.1, told.2) (c.in_err-entries.ensures.read (table_of place.entries) place.entries (rows_by place c.split_at-2.result.0.now ranged cut.0) (sym head.blocks)
+    rw (told.1, told.2) (c.in_err-entries.ensures.read (table_of place.entries) place.entries (rows_by place c.split_at-2.result.0.now ranged cut.0) (sym head.count)
     (readable place.entries ranged.entries) cut.1)
 
 pub returns : goal.returns
@@ -28,7 +28,7 @@ returns c place ranged is =
     (behind_head place) c.split_at.ensures.front c.split_at.ensures.back is in
     let cut = cut_of place c.split_at.result.1.now c.split_at-2.result.0.now c.split_at-2.result.1.now _ ranged head.rest_is (ap (λ n. 12 * n) head.runs)
     c.split_at-2.ensures.front c.split_at-2.ensures.back in
-    let read = c.in_ok-entries.ensures.read (table_of place.entries) place.entries (rows_by place c.split_at-2.result.0.now ranged cut.0) (sym head.blocks)
+    let read = c.in_ok-entries.ensures.read (table_of place.entries) place.entries (rows_by place c.split_at-2.result.0.now ranged cut.0) (sym head.count)
     (readable place.entries ranged.entries) cut.1 in
     let made : record { bs = place.bs; entries = place.entries } ≡ place = refl in
     c.with_entries.ensures ∙ (rw (head.bs, read) made)
