@@ -16,7 +16,7 @@ use Rattle.recheck.specs.Faults.{last_write, writes_to}
 use Rattle.ledger.specs.declared.entry.RunWrite.{RunWrite}
 use Rattle.ledger.specs.Entries.{write_of, last_of, entry_behind, behind_run, behind_lost_run, behind_check}
 use Rattle.ledger.specs.Places.{Place, entry_of, with_each}
-use Rattle.ledger.specs.Possible.{is_block_size, can_be, is_possible, StaysPossible}
+use Rattle.ledger.specs.Possible.{is_block_size, is_within_job, is_possible, StaysPossible}
 
 both : (a b : Bool) → a ≡ true → b ≡ true → (a && b) ≡ true
 both a b s t = rw (s, t) refl
@@ -46,13 +46,13 @@ all_none p (suc n) none = both (p []) (list_all p (replicate n [])) none (all_no
 
 -- A place with each entry changed.
 each_possible : (change : ℕ → List RunWrite → List RunWrite) (place : Place)
-    → ((b : ℕ) (entry : List RunWrite) → list_all (can_be place.bs) entry ≡ true → list_all (can_be place.bs) (change b entry) ≡ true)
+    → ((b : ℕ) (entry : List RunWrite) → list_all (is_within_job place.bs) entry ≡ true → list_all (is_within_job place.bs) (change b entry) ≡ true)
     → is_possible place ≡ true → is_possible (with_each change place) ≡ true
 each_possible change place keeps possible =
-    let parts = and_parts (is_block_size place.bs) (list_all (list_all (can_be place.bs)) place.entries) possible in
-    both (is_block_size place.bs) (list_all (list_all (can_be place.bs)) (map (λ b. change b (entry_of place b)) (range_with_len 0 (length place.entries)))) parts.0
-    (all_each (list_all (can_be place.bs)) (λ b. change b (entry_of place b)) 0 (length place.entries)
-    (λ b. keeps b (entry_of place b) (all_at (list_all (can_be place.bs)) place.entries b refl parts.1)))
+    let parts = and_parts (is_block_size place.bs) (list_all (list_all (is_within_job place.bs)) place.entries) possible in
+    both (is_block_size place.bs) (list_all (list_all (is_within_job place.bs)) (map (λ b. change b (entry_of place b)) (range_with_len 0 (length place.entries)))) parts.0
+    (all_each (list_all (is_within_job place.bs)) (λ b. change b (entry_of place b)) 0 (length place.entries)
+    (λ b. keeps b (entry_of place b) (all_at (list_all (is_within_job place.bs)) place.entries b refl parts.1)))
 
 -- ---- the writes of a run
 
@@ -83,43 +83,43 @@ below (suc n) total le =
     ∙ both (list_all (λ k. nat_lt k total) (numbers_below n)) (list_all (λ k. nat_lt k total) (n ∷ [])) (below n total (omega arith))
     (both (nat_lt n total) true (lt-ltb n total (omega arith)) refl)
 
-one_can_be : (e : Expected) (bs k : ℕ) → k < e.job.total → e.job.bs ≡ bs → can_be bs (write_of e k) ≡ true
-one_can_be e bs k lt size = both (nat_lt k e.job.total) (eqb e.job.bs bs) (lt-ltb k e.job.total lt) (eq-eqb e.job.bs bs size)
+one_is_within_job : (e : Expected) (bs k : ℕ) → k < e.job.total → e.job.bs ≡ bs → is_within_job bs (write_of e k) ≡ true
+one_is_within_job e bs k lt size = both (nat_lt k e.job.total) (eqb e.job.bs bs) (lt-ltb k e.job.total lt) (eq-eqb e.job.bs bs size)
 
-flying_can_be : (e : Expected) (bs block : ℕ) (ks : List ℕ) → e.job.bs ≡ bs → list_all (λ k. nat_lt k e.job.total) ks ≡ true
-    → list_all (can_be bs) (map (write_of e) (writes_to block (map (placed_write e.job) ks))) ≡ true
-flying_can_be e bs block [] size all = refl
-flying_can_be e bs block (k ∷ ks) size all =
+flying_is_within_job : (e : Expected) (bs block : ℕ) (ks : List ℕ) → e.job.bs ≡ bs → list_all (λ k. nat_lt k e.job.total) ks ≡ true
+    → list_all (is_within_job bs) (map (write_of e) (writes_to block (map (placed_write e.job) ks))) ≡ true
+flying_is_within_job e bs block [] size all = refl
+flying_is_within_job e bs block (k ∷ ks) size all =
     let parts = and_parts (nat_lt k e.job.total) (list_all (λ j. nat_lt j e.job.total) ks) all in
-    by (eqb (block_of e.job k) block) refl (ltb-true k e.job.total parts.0) (flying_can_be e bs block ks size parts.1)
+    by (eqb (block_of e.job k) block) refl (ltb-true k e.job.total parts.0) (flying_is_within_job e bs block ks size parts.1)
   where
     by : (b : Bool) → eqb (block_of e.job k) block ≡ b → k < e.job.total
-        → list_all (can_be bs) (map (write_of e) (writes_to block (map (placed_write e.job) ks))) ≡ true
-        → list_all (can_be bs) (map (write_of e) (writes_to block (map (placed_write e.job) (k ∷ ks)))) ≡ true
-    by true is lt ih = rw is (both (can_be bs (write_of e k)) (list_all (can_be bs) (map (write_of e) (writes_to block (map (placed_write e.job) ks))))
-        (one_can_be e bs k lt size) ih)
+        → list_all (is_within_job bs) (map (write_of e) (writes_to block (map (placed_write e.job) ks))) ≡ true
+        → list_all (is_within_job bs) (map (write_of e) (writes_to block (map (placed_write e.job) (k ∷ ks)))) ≡ true
+    by true is lt ih = rw is (both (is_within_job bs (write_of e k)) (list_all (is_within_job bs) (map (write_of e) (writes_to block (map (placed_write e.job) ks))))
+        (one_is_within_job e bs k lt size) ih)
     by false is lt ih = rw is ih
 
-entry_can_be : (e : Expected) (bs : ℕ) (o : Option ℕ) (flying entry : List RunWrite) → ((k : ℕ) → o ≡ Some k → can_be bs (write_of e k) ≡ true)
-    → list_all (can_be bs) flying ≡ true → list_all (can_be bs) entry ≡ true → list_all (can_be bs) (entry_behind (last_of e o) flying entry) ≡ true
-entry_can_be e bs (Some k) flying entry last fly all = both (can_be bs (write_of e k)) (list_all (can_be bs) flying) (last k refl) fly
-entry_can_be e bs None flying [] last fly all = refl
-entry_can_be e bs None flying (w ∷ ws) last fly all =
-    list_all-append (can_be bs) (w ∷ ws) flying ∙ both (list_all (can_be bs) (w ∷ ws)) (list_all (can_be bs) flying) all fly
+entry_is_within_job : (e : Expected) (bs : ℕ) (o : Option ℕ) (flying entry : List RunWrite) → ((k : ℕ) → o ≡ Some k → is_within_job bs (write_of e k) ≡ true)
+    → list_all (is_within_job bs) flying ≡ true → list_all (is_within_job bs) entry ≡ true → list_all (is_within_job bs) (entry_behind (last_of e o) flying entry) ≡ true
+entry_is_within_job e bs (Some k) flying entry last fly all = both (is_within_job bs (write_of e k)) (list_all (is_within_job bs) flying) (last k refl) fly
+entry_is_within_job e bs None flying [] last fly all = refl
+entry_is_within_job e bs None flying (w ∷ ws) last fly all =
+    list_all-append (is_within_job bs) (w ∷ ws) flying ∙ both (list_all (is_within_job bs) (w ∷ ws)) (list_all (is_within_job bs) flying) all fly
 
-lost_can_be : (bs : ℕ) (b : Bool) (entry : List RunWrite) → list_all (can_be bs) entry ≡ true → list_all (can_be bs) (if b then [] else entry) ≡ true
-lost_can_be bs true entry all = refl
-lost_can_be bs false entry all = all
+lost_is_within_job : (bs : ℕ) (b : Bool) (entry : List RunWrite) → list_all (is_within_job bs) entry ≡ true → list_all (is_within_job bs) (if b then [] else entry) ≡ true
+lost_is_within_job bs true entry all = refl
+lost_is_within_job bs false entry all = all
 
 pub stays_possible : StaysPossible
 stays_possible = record {
-  first = λ bs blocks sized. both (is_block_size bs) (list_all (list_all (can_be bs)) (replicate blocks [])) sized (all_none (list_all (can_be bs)) blocks refl);
+  first = λ bs blocks sized. both (is_block_size bs) (list_all (list_all (is_within_job bs)) (replicate blocks [])) sized (all_none (list_all (is_within_job bs)) blocks refl);
   run = λ key job state place few size possible.
       let e = expected_by key job state in
       each_possible (behind_run e) place (λ b entry all.
-      entry_can_be e place.bs (last_write e b) (map (write_of e) (writes_to b e.in_flight)) entry
-      (λ k is. one_can_be e place.bs k (omega (arith, last_lt key job state b k is)) size)
-      (flying_can_be e place.bs b _ size (all_filter (λ k. nat_lt k job.total) _ (numbers_below (issued_in job state)) (below (issued_in job state) job.total few))) all) possible;
-  lost_run = λ job place possible. each_possible (behind_lost_run job) place (λ b entry all. lost_can_be place.bs _ entry all) possible;
-  check = λ held place possible. each_possible (behind_check held) place (λ b entry all. all_filter (can_be place.bs) _ entry all) possible;
+      entry_is_within_job e place.bs (last_write e b) (map (write_of e) (writes_to b e.in_flight)) entry
+      (λ k is. one_is_within_job e place.bs k (omega (arith, last_lt key job state b k is)) size)
+      (flying_is_within_job e place.bs b _ size (all_filter (λ k. nat_lt k job.total) _ (numbers_below (issued_in job state)) (below (issued_in job state) job.total few))) all) possible;
+  lost_run = λ job place possible. each_possible (behind_lost_run job) place (λ b entry all. lost_is_within_job place.bs _ entry all) possible;
+  check = λ held place possible. each_possible (behind_check held) place (λ b entry all. all_filter (is_within_job place.bs) _ entry all) possible;
 }

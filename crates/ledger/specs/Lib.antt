@@ -11,3 +11,4 @@ pub mod Possible
 -- What holds of it.
 pub mod Stories
 pub mod Laws
+pub mod Examples

@@ -14,13 +14,13 @@ abbrev pub is_block_size : ℕ → Bool
 is_block_size bs = nat_le 512 bs && nat_le bs MAX_BLOCK_SIZE && (bs % 512 == 0)
 
 -- A write is one of its job, whose blocks have this size.
-abbrev pub can_be : ℕ → RunWrite → Bool
-can_be bs w = nat_lt w.seq w.job.total && (w.job.bs == bs)
+abbrev pub is_within_job : ℕ → RunWrite → Bool
+is_within_job bs w = nat_lt w.seq w.job.total && (w.job.bs == bs)
 
 -- A ledger has blocks of a size that a job may have, and writes of jobs of that size.
 abbrev pub is_possible : Place → Bool
 is_possible place =
-    is_block_size place.bs && list_all (list_all (can_be place.bs)) place.entries
+    is_block_size place.bs && list_all (list_all (is_within_job place.bs)) place.entries
 
 -- What was possible stays so behind a run of a job of that size that has issued no more writes than
 -- it has, behind a lost run, and behind a check; and at first a ledger is.

@@ -3,7 +3,7 @@
 ghost use Rattle.std.specs.Prelude.{◌≡◌, [], ◌∷◌, ◌++◌, length, filter, map, if◌then◌else◌, IfOk, OnOk};
 ghost use Rattle.std.specs.List.{list_all, list_any};
 ghost use Rattle.recheck.specs.Faults.{writes_to};
-ghost use Rattle.ledger.specs.Possible.{can_be};
+ghost use Rattle.ledger.specs.Possible.{is_within_job};
 ghost use Rattle.ledger.specs.Entries.{is_held, asks, behind_run, verdict, write_of};
 
 use fc_base::{JobRecord, Key, Seq};
@@ -22,8 +22,8 @@ pub struct RunWrite {
 
 impl RunWrite {
     /// Whether it is one of its job, whose blocks have this size.
-    fn can_be(&self, block_size: u32) -> bool
-        ensures { result ≡ can_be block_size self.now }
+    fn is_within_job(&self, block_size: u32) -> bool
+        ensures { result ≡ is_within_job block_size self.now }
     {
         let job = self.job.parts();
         self.seq.0 < job.total && job.bs == u64::from(block_size)
@@ -89,10 +89,12 @@ impl Entry {
     }
 
     /// Whether each write is one of its job, whose blocks have this size.
-    pub(crate) fn can_be(&self, block_size: u32) -> bool
-        ensures { result ≡ list_all (can_be block_size) self.now }
+    pub(crate) fn is_within_job(&self, block_size: u32) -> bool
+        ensures { result ≡ list_all (is_within_job block_size) self.now }
     {
-        self.writes.iter().all(|write| write.can_be(block_size))
+        self.writes
+            .iter()
+            .all(|write| write.is_within_job(block_size))
     }
 
     /// Whether a block that holds these bytes holds one of the writes.

@@ -1,7 +1,13 @@
 //! What holds of every ledger, over any runs and checks. The functions have nothing to run.
 
+ghost use Rattle.std.specs.Prelude.{◌≡◌, [], ◌∷◌};
+ghost use Rattle.ledger.specs.Examples.{sevens, eights_and_zeros, two_runs};
+ghost use Rattle.ledger.specs.Places.{after_check};
+ghost use Rattle.ledger.specs.Reports.{report};
 ghost use Rattle.ledger.specs.Possible.{StaysPossible};
 ghost use Rattle.ledger.specs.Laws.{OneRunIsTheCheck, OneRunReports, HoldersAreNoFaults, WhatStaysIsNoFault, NothingIsTold, LossAtRestIsTold};
+
+use fc_base::ReportEnd;
 
 /// One run over an empty ledger is the check of that run by its state.
 pub fn one_run()
@@ -33,4 +39,15 @@ pub fn stays()
 pub fn rest_law()
     ensures kept { NothingIsTold }
     ensures lost { LossAtRestIsTold }
+{}
+
+/// Behind two runs and a check between them, block 1, to which the second run has no write, holds zeros: it is lost, and
+/// told once. Where both blocks hold what the first run left, it is block 0 that is lost.
+pub fn examples()
+    ensures at_rest { report two_runs eights_and_zeros
+        ≡ record { checked = 2; faults = 1; first = 1 ∷ []; end = ReportEnd.Whole } }
+    ensures once { report (after_check eights_and_zeros two_runs) eights_and_zeros
+        ≡ record { checked = 1; faults = 0; first = []; end = ReportEnd.Whole } }
+    ensures in_flight { report two_runs sevens
+        ≡ record { checked = 2; faults = 1; first = 0 ∷ []; end = ReportEnd.Whole } }
 {}

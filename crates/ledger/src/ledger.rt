@@ -3,7 +3,7 @@
 ghost use Rattle.std.specs.Prelude.{◌≡◌, ◌<◌, ◌≤◌, length, IfOk, IsTrue};
 ghost use Rattle.std.specs.List.{list_all};
 ghost use Rattle.fc_base.specs.declared.limits.TheConstants.{MAX_BLOCKS};
-ghost use Rattle.ledger.specs.Possible.{is_possible, is_block_size, can_be};
+ghost use Rattle.ledger.specs.Possible.{is_possible, is_block_size, is_within_job};
 ghost use Rattle.ledger.specs.Ranges.{IsRangedPlace};
 ghost use Rattle.ledger.specs.Reading.{IsRead};
 ghost use Rattle.ledger.specs.Spelling.{spelling};
@@ -32,7 +32,7 @@ pub struct Ledger {
 impl Model for Ledger {
     ghost use Rattle.std.specs.Prelude.{◌≤◌, length};
     ghost use Rattle.fc_base.specs.declared.limits.TheConstants.{MAX_BLOCKS};
-    ghost use Rattle.ledger.specs.Possible.{is_possible, is_block_size, can_be};
+    ghost use Rattle.ledger.specs.Possible.{is_possible, is_block_size, is_within_job};
     ghost use Rattle.ledger.specs.Ranges.{IsRangedPlace};
     ghost use Rattle.ledger.specs.Reading.{IsRead};
     ghost use Rattle.ledger.specs.Spelling.{spelling};
@@ -174,7 +174,7 @@ impl Ledger {
     pub fn is_possible(&self) -> bool
         ensures { result ≡ is_possible self.now }
     {
-        is_block_size(self.block_size) && all_can_be(&self.entries, self.block_size)
+        is_block_size(self.block_size) && all_is_within_job(&self.entries, self.block_size)
     }
 
     /// A ledger of these entries.
@@ -208,8 +208,8 @@ fn is_block_size(bs: u32) -> bool
 }
 
 /// Whether each write of these entries is one of its job, whose blocks have this size.
-fn all_can_be(entries: &[Entry], block_size: u32) -> bool
-    ensures { result ≡ list_all (list_all (can_be block_size)) entries.now }
+fn all_is_within_job(entries: &[Entry], block_size: u32) -> bool
+    ensures { result ≡ list_all (list_all (is_within_job block_size)) entries.now }
 {
-    entries.iter().all(|entry| entry.can_be(block_size))
+    entries.iter().all(|entry| entry.is_within_job(block_size))
 }
