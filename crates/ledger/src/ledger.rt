@@ -95,7 +95,8 @@ impl Ledger {
         &self.entries[block as usize]
     }
 
-    /// The ledger behind the run that a check would go by. An error is that memory ran out.
+    /// The ledger behind the run that a check would go by. Its blocks are to have the ledger's size: a block of another
+    /// size holds none of its writes. An error is that memory ran out.
     pub fn after_run(&self, alloc: Global, e: &Expected) -> Result<Ledger, AllocError>
         ensures { IfOk result (λ l. l ≡ after_run e.now self.now) }
     {

@@ -65,16 +65,22 @@ fn job_of(run: Run) -> Option<JobRecord> {
     })
 }
 
-/// The check of a run, which has what a ledger goes by.
-fn check_of(alloc: Global, run: Run) -> Option<Recheck> {
+/// The state of a run.
+fn state_of(alloc: Global, run: Run) -> Option<VerifyState> {
     let job = job_of(run)?;
-    let key = key_of(run.number);
     let mut completed = Vec::new(alloc);
     for seq in run.completed {
         completed.push(Seq(*seq)).ok()?;
     }
     let place = place_of(&job, run.total);
-    let state = VerifyState::make(key, &job, run.total, place, completed).ok()?;
+    VerifyState::make(key_of(run.number), &job, run.total, place, completed).ok()
+}
+
+/// The check of a run, which has what a ledger goes by.
+fn check_of(alloc: Global, run: Run) -> Option<Recheck> {
+    let job = job_of(run)?;
+    let state = state_of(alloc, run)?;
+    let key = key_of(run.number);
     Recheck::new(alloc, &job, key, Some(&state), false).ok()
 }
 
