@@ -1,10 +1,11 @@
 -- Two runs with a check between them, and a loss at rest, which can be followed by hand.
-use Rattle.std.specs.Prelude.{ℕ, ◌==◌, List, replicate, None, if◌then◌else◌}
+use Rattle.std.specs.Prelude.{ℕ, ◌==◌, List, [], ◌∷◌, replicate, None, if◌then◌else◌}
 use Rattle.fc_base.specs.declared.numbers.Key.{Key}
 use Rattle.fc_base.specs.declared.record.JobParts.{JobParts}
-use Rattle.recheck.specs.Expected.{expected_by}
+use Rattle.recheck.specs.Expected.{Expected, expected_by}
 use Rattle.recheck.specs.Examples.{first_key, two_writes}
 use Rattle.ledger.specs.Places.{Place, empty, after_run, after_check}
+use Rattle.ledger.specs.Stories.{Step, ran, checked}
 
 -- Job 0 of run 2.
 abbrev pub second_key : Key
@@ -22,9 +23,24 @@ sevens block = replicate 512 7
 abbrev pub eights_and_zeros : ℕ → List ℕ
 eights_and_zeros block = replicate 512 (if block == 0 then 8 else 0)
 
--- A run whose two writes have completed, a check that finds sevens, and a run whose one write has
--- completed.
+-- Block 0 holds eights, and block 1 sevens.
+abbrev pub eights_and_sevens : ℕ → List ℕ
+eights_and_sevens block = replicate 512 (if block == 0 then 8 else 7)
+
+-- The run of two writes, and that of one: all have completed.
+abbrev pub first_run : Expected
+first_run = expected_by first_key two_writes None
+
+abbrev pub second_run : Expected
+second_run = expected_by second_key one_write None
+
+-- A run, a check that finds sevens, and another run.
 abbrev pub two_runs : Place
-two_runs =
-    after_run (expected_by second_key one_write None)
-    (after_check sevens (after_run (expected_by first_key two_writes None) (empty 512 2)))
+two_runs = after_run second_run (after_check sevens (after_run first_run (empty 512 2)))
+
+-- The same as a story, newest first, in which nothing is lost.
+abbrev pub story : List Step
+story =
+    record { what = ran second_run; content = eights_and_sevens }
+    ∷ record { what = checked; content = sevens }
+    ∷ record { what = ran first_run; content = sevens } ∷ []

@@ -1,6 +1,6 @@
 -- What holds of entries, over any list of runs and checks.
-use Rattle.std.specs.Prelude.{◌≡◌, ℕ, true, false, List, [], None, IsTrue}
-use Rattle.std.specs.List.{list_any, range_with_len}
+use Rattle.std.specs.Prelude.{◌≡◌, ℕ, true, false, List, [], ◌∷◌, ◌++◌, None, IsTrue}
+use Rattle.std.specs.List.{list_any, range_with_len, AllByRecursion}
 use Rattle.recheck.specs.Expected.{Expected}
 use Rattle.recheck.specs.Faults as checks
 use Rattle.recheck.specs.Report as reports
@@ -9,7 +9,7 @@ use Rattle.ledger.specs.declared.entry.RunWrite.{RunWrite}
 use Rattle.ledger.specs.Entries.{behind_run, behind_check, is_held, is_fault}
 use Rattle.ledger.specs.Places.{after_run, empty}
 use Rattle.ledger.specs.Reports.{report}
-use Rattle.ledger.specs.Stories.{Step, content_after, entry_after, NothingLost}
+use Rattle.ledger.specs.Stories.{Step, checked, content_after, entry_after, NothingLost, LeavesAlone}
 
 -- One run over an empty ledger is the check of that run.
 abbrev pub OneRunIsTheCheck : Type 0
@@ -29,7 +29,8 @@ WhatStaysIsNoFault =
     (held : ℕ → List ℕ) (block : ℕ) (entry : List RunWrite) →
     is_fault held block (behind_check held block entry) ≡ false
 
--- Where no step has lost anything of a block, it is no fault, over any list of runs and checks.
+-- Where no step has lost anything of a block, it is no fault, over any list of runs, lost runs and
+-- checks.
 abbrev pub NothingIsTold : Type 0
 NothingIsTold =
     (first : ℕ → List ℕ) (steps : List Step) (block : ℕ) → NothingLost first steps block →
@@ -44,6 +45,19 @@ LossAtRestIsTold =
     → last_write e block ≡ None → writes_to block e.in_flight ≡ []
     → (later block ≡ seen block → ⊥)
     → is_fault later block (behind_run e block (behind_check seen block entry)) ≡ true
+
+-- A check that found this in the blocks.
+abbrev pub check_of : (ℕ → List ℕ) → Step
+check_of seen = record { what = checked; content = seen }
+
+-- So it is however many steps came behind that check, none of which had to do with the block.
+abbrev pub OldLossIsTold : Type 0
+OldLossIsTold =
+    (older newer : List Step) (seen later : ℕ → List ℕ) (block : ℕ) →
+    IsTrue (list_any (is_held block (seen block)) (entry_after older block))
+    → AllByRecursion (λ s. LeavesAlone block s.what) newer
+    → (later block ≡ seen block → ⊥)
+    → is_fault later block (entry_after (newer ++ check_of seen ∷ older) block) ≡ true
 
 -- The report of one run over a place of which nothing was asked is that of the check of that run.
 abbrev pub OneRunReports : Type 0
