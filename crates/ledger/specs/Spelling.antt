@@ -1,5 +1,5 @@
 -- The bytes of a ledger: numbers of eight bytes, the high byte first, and behind them their digest.
-use Rattle.std.specs.Prelude.{ℕ, suc, List, [], ◌∷◌, ◌++◌, length, bytes_eq, if◌then◌else◌}
+use Rattle.std.specs.Prelude.{ℕ, suc, ◌-◌, Bool, not, ◌&&◌, nat_le, List, [], ◌∷◌, ◌++◌, length, take, drop, bytes_eq, if◌then◌else◌}
 use Rattle.std.specs.List.{flat_map, list_any}
 use Rattle.sha1.specs.Sha1.{sha1}
 use Rattle.verify_state.specs.Spelling.{words}
@@ -61,3 +61,9 @@ body_of place = words (numbers_of place (table_of place.entries))
 -- The bytes of a ledger.
 abbrev pub spelling : Place → List ℕ
 spelling place = body_of place ++ sha1 (body_of place)
+
+-- The bytes have a digest at their end, and it is another than that of those before it.
+abbrev pub is_damaged : List ℕ → Bool
+is_damaged bytes =
+    nat_le 20 (length bytes)
+    && not (bytes_eq (sha1 (take (length bytes - 20) bytes)) (drop (length bytes - 20) bytes))

@@ -1,12 +1,12 @@
 //! A ledger: what each block of a place has to hold.
 
-ghost use Rattle.std.specs.Prelude.{◌≡◌, ◌<◌, ◌≤◌, length, IfOk, IsTrue};
+ghost use Rattle.std.specs.Prelude.{◌≡◌, ◌<◌, ◌≤◌, length, IfOk, IsTrue, MatchResult};
 ghost use Rattle.std.specs.List.{list_all};
 ghost use Rattle.fc_base.specs.declared.limits.TheConstants.{MAX_BLOCKS};
 ghost use Rattle.ledger.specs.Possible.{is_possible, is_block_size, is_within_job};
 ghost use Rattle.ledger.specs.Ranges.{IsRangedPlace};
 ghost use Rattle.ledger.specs.Reading.{IsRead};
-ghost use Rattle.ledger.specs.Spelling.{spelling};
+ghost use Rattle.ledger.specs.Spelling.{is_damaged, spelling};
 ghost use Rattle.ledger.specs.Places.{Place};
 ghost use Rattle.ledger.specs.Places.{empty, entry_of, after_run, after_lost_run, is_checked, verdict_at, with_block_checked};
 
@@ -35,7 +35,7 @@ impl Model for Ledger {
     ghost use Rattle.ledger.specs.Possible.{is_possible, is_block_size, is_within_job};
     ghost use Rattle.ledger.specs.Ranges.{IsRangedPlace};
     ghost use Rattle.ledger.specs.Reading.{IsRead};
-    ghost use Rattle.ledger.specs.Spelling.{spelling};
+    ghost use Rattle.ledger.specs.Spelling.{is_damaged, spelling};
     ghost use Rattle.ledger.specs.Places.{Place};
     ghost use Rattle.ledger.specs.Places.{Place};
 
@@ -154,6 +154,8 @@ impl Ledger {
     pub fn decode(alloc: Global, bytes: &[u8]) -> Result<Ledger, LedgerFault>
         ensures spelled { IfOk result (λ l. bytes.now ≡ spelling l) }
         ensures possible { IfOk result (λ l. IsTrue (is_possible l)) }
+        ensures damaged { IsTrue (is_damaged bytes.now)
+            → MatchResult result (λ _. ⊥) (λ fault. fault ≡ LedgerFault.Damaged) }
         ensures read { (place : Place) → IsRangedPlace place → IsTrue (is_possible place)
             → bytes.now ≡ spelling place → IsRead result place }
     {

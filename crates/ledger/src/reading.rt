@@ -1,6 +1,6 @@
 //! Reading a ledger.
 
-ghost use Rattle.std.specs.Prelude.{◌≡◌, ℕ, ◌+◌, ◌*◌, ◌<◌, ◌≤◌, ◌^◌, ◌++◌, List, length, take, drop, Some, IfOk, OnOk, MatchResult};
+ghost use Rattle.std.specs.Prelude.{◌≡◌, ℕ, ◌+◌, ◌*◌, ◌<◌, ◌≤◌, ◌^◌, ◌++◌, List, length, take, drop, Some, IfOk, IsTrue, OnOk, MatchResult};
 ghost use Rattle.std.specs.List.{AllByRecursion, flat_map};
 ghost use Rattle.sha1.specs.Sha1.{sha1};
 ghost use Rattle.fc_base.specs.declared.record.Kind.{Kind};
@@ -11,7 +11,7 @@ ghost use Rattle.ledger.specs.declared.entry.RunWrite.{RunWrite};
 ghost use Rattle.ledger.specs.Places.{Place};
 ghost use Rattle.ledger.specs.Ranges.{IsRanged, IsRangedPlace};
 ghost use Rattle.ledger.specs.Reading.{Reads, IsRead, IsRows, IsReadable, IsReadableEntry};
-ghost use Rattle.ledger.specs.Spelling.{run_numbers, index_in, write_numbers, entry_numbers, numbers_of, table_of};
+ghost use Rattle.ledger.specs.Spelling.{is_damaged, run_numbers, index_in, write_numbers, entry_numbers, numbers_of, table_of};
 
 use crate::entry::{Entry, RunWrite};
 use crate::fault::LedgerFault;
@@ -28,8 +28,10 @@ const ROW: usize = 12;
 
 /// The bytes before the digest, where it is theirs.
 pub(crate) fn body_of(bytes: &[u8]) -> Result<&[u8], LedgerFault>
-    ensures { (body : List ℕ) → bytes.now ≡ body ++ sha1 body
+    ensures read { (body : List ℕ) → bytes.now ≡ body ++ sha1 body
         → MatchResult result (λ b. b.now ≡ body) (λ _. ⊥) }
+    ensures damaged { IsTrue (is_damaged bytes.now)
+        → MatchResult result (λ _. ⊥) (λ fault. fault ≡ LedgerFault.Damaged) }
 {
     if bytes.len() < DIGEST_LEN {
         return Err(LedgerFault::Short);

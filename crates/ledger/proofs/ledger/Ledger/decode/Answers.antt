@@ -9,13 +9,13 @@ use Rattle.ledger.proofs.ledger.Ledger.decode.Goals as goal
 
 pub returns-in_err-ledger-clause-read : goal.returns-in_err-ledger-clause-read
 returns-in_err-ledger-clause-read c place ranged possible is =
-    let words = c.in_ok-words.ensures (numbers_of place (table_of place.entries)) (numbers_fit place ranged) (c.in_ok-body.ensures (body_of place) is) in
+    let words = c.in_ok-words.ensures (numbers_of place (table_of place.entries)) (numbers_fit place ranged) (c.in_ok-body.ensures.read (body_of place) is) in
     let told = err_from_is_err_and c.from_residual-in_err-ledger.result c.from_residual-in_err-ledger.ensures.1 in
     rw (told.1, told.2) (c.in_err-ledger.ensures place ranged (c.deref.ensures.value ∙ words))
 
 pub returns-then-ne-clause-read : goal.returns-then-ne-clause-read
 returns-then-ne-clause-read c place ranged possible is =
-    let words = c.in_ok-words.ensures (numbers_of place (table_of place.entries)) (numbers_fit place ranged) (c.in_ok-body.ensures (body_of place) is) in
+    let words = c.in_ok-words.ensures (numbers_of place (table_of place.entries)) (numbers_fit place ranged) (c.in_ok-body.ensures.read (body_of place) is) in
     let read = c.in_ok-ledger.ensures place ranged (c.deref.ensures.value ∙ words) in
     let same : c.as_slice.result.now ≡ c.args.bytes.now =
     c.as_slice.ensures.value ∙ c.in_ok-again.ensures.spelling ∙ ap spelling read ∙ sym is in
@@ -25,12 +25,12 @@ returns-then-ne-clause-read c place ranged possible is =
 
 pub returns-clause-read : goal.returns-clause-read
 returns-clause-read c place ranged possible is =
-    let words = c.in_ok-words.ensures (numbers_of place (table_of place.entries)) (numbers_fit place ranged) (c.in_ok-body.ensures (body_of place) is) in
+    let words = c.in_ok-words.ensures (numbers_of place (table_of place.entries)) (numbers_fit place ranged) (c.in_ok-body.ensures.read (body_of place) is) in
     c.in_ok-ledger.ensures place ranged (c.deref.ensures.value ∙ words)
 
 pub returns-then-not-is_possible-clause-read : goal.returns-then-not-is_possible-clause-read
 returns-then-not-is_possible-clause-read c place ranged possible is =
-    let words = c.in_ok-words.ensures (numbers_of place (table_of place.entries)) (numbers_fit place ranged) (c.in_ok-body.ensures (body_of place) is) in
+    let words = c.in_ok-words.ensures (numbers_of place (table_of place.entries)) (numbers_fit place ranged) (c.in_ok-body.ensures.read (body_of place) is) in
     let read = c.in_ok-ledger.ensures place ranged (c.deref.ensures.value ∙ words) in
     let bad : false ≡ true = c.if-not-is_possible.ensures ∙ ap is_possible read ∙ possible in
     absurd cc
