@@ -9,3 +9,4 @@ mod ReadingLemmas
 mod TableLemmas
 mod WritingLemmas
 mod PossibleLemmas
+mod ReportStoryLemmas

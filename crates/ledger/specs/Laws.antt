@@ -1,5 +1,5 @@
 -- What holds of entries, over any list of runs and checks.
-use Rattle.std.specs.Prelude.{◌≡◌, ℕ, true, false, List, [], ◌∷◌, ◌++◌, None, IsTrue}
+use Rattle.std.specs.Prelude.{◌≡◌, ◌<◌, ℕ, true, false, List, [], ◌∷◌, ◌++◌, None, IsTrue}
 use Rattle.std.specs.List.{list_any, range_with_len, AllByRecursion}
 use Rattle.recheck.specs.Expected.{Expected}
 use Rattle.recheck.specs.Faults as checks
@@ -7,9 +7,9 @@ use Rattle.recheck.specs.Report as reports
 use Rattle.recheck.specs.Faults.{last_write, writes_to}
 use Rattle.ledger.specs.declared.entry.RunWrite.{RunWrite}
 use Rattle.ledger.specs.Entries.{behind_run, behind_check, is_held, is_fault}
-use Rattle.ledger.specs.Places.{after_run, empty}
+use Rattle.ledger.specs.Places.{after_run, empty, entry_of}
 use Rattle.ledger.specs.Reports.{report}
-use Rattle.ledger.specs.Stories.{Step, checked, content_after, entry_after, NothingLost, LeavesAlone}
+use Rattle.ledger.specs.Stories.{Step, checked, content_after, entry_after, place_after, NothingLost, LeavesAlone}
 
 -- One run over an empty ledger is the check of that run.
 abbrev pub OneRunIsTheCheck : Type 0
@@ -58,6 +58,19 @@ OldLossIsTold =
     → AllByRecursion (λ s. LeavesAlone block s.what) newer
     → (later block ≡ seen block → ⊥)
     → is_fault later block (entry_after (newer ++ check_of seen ∷ older) block) ≡ true
+
+-- What is known of a place behind all steps is the entry of each block behind them.
+abbrev pub PlacesHaveTheirEntries : Type 0
+PlacesHaveTheirEntries =
+    (bs blocks : ℕ) (steps : List Step) (block : ℕ) → block < blocks →
+    entry_of (place_after bs blocks steps) block ≡ entry_after steps block
+
+-- So where no step has lost anything, no report tells a fault.
+abbrev pub NoReportTellsAFault : Type 0
+NoReportTellsAFault =
+    (first : ℕ → List ℕ) (bs blocks : ℕ) (steps : List Step)
+    → ((block : ℕ) → block < blocks → NothingLost first steps block)
+    → (report (place_after bs blocks steps) (content_after first steps)).faults ≡ 0
 
 -- The report of one run over a place of which nothing was asked is that of the check of that run.
 abbrev pub OneRunReports : Type 0

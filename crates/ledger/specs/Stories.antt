@@ -6,6 +6,7 @@ use Rattle.recheck.specs.Expected.{Expected}
 use Rattle.recheck.specs.Faults.{last_write, writes_to, is_write}
 use Rattle.ledger.specs.declared.entry.RunWrite.{RunWrite}
 use Rattle.ledger.specs.Entries.{may_write, behind_run, behind_lost_run, behind_check}
+use Rattle.ledger.specs.Places.{Place, empty, after_run, after_lost_run, after_check}
 
 -- What happened at a place: a run that ended in a cut, by what a check of it goes by; such a run
 -- whose state was lost, by its job; or a check.
@@ -34,6 +35,17 @@ entry_by_step (lost_run job) content block entry = behind_lost_run job block ent
 abbrev pub entry_after : List Step → ℕ → List RunWrite
 entry_after [] block = []
 entry_after (s ∷ older) block = entry_by_step s.what s.content block (entry_after older block)
+
+-- What is known of a place behind a step.
+abbrev pub place_by_step : Happened → (ℕ → List ℕ) → Place → Place
+place_by_step checked content place = after_check content place
+place_by_step (ran e) content place = after_run e place
+place_by_step (lost_run job) content place = after_lost_run job place
+
+-- What is known of a place of so many blocks behind all steps.
+abbrev pub place_after : (bs blocks : ℕ) → List Step → Place
+place_after bs blocks [] = empty bs blocks
+place_after bs blocks (s ∷ older) = place_by_step s.what s.content (place_after bs blocks older)
 
 -- A run leaves one of the writes that a block may hold: its last completed one or one in flight to
 -- it; or where none has completed, what was there, or one in flight.

@@ -6,7 +6,7 @@ ghost use Rattle.ledger.specs.Places.{after_check};
 ghost use Rattle.ledger.specs.Reports.{report};
 ghost use Rattle.ledger.specs.Stories.{NothingLost, LeavesAlone, ran};
 ghost use Rattle.ledger.specs.Possible.{StaysPossible};
-ghost use Rattle.ledger.specs.Laws.{OneRunIsTheCheck, OneRunReports, HoldersAreNoFaults, WhatStaysIsNoFault, NothingIsTold, LossAtRestIsTold, OldLossIsTold};
+ghost use Rattle.ledger.specs.Laws.{OneRunIsTheCheck, OneRunReports, HoldersAreNoFaults, WhatStaysIsNoFault, NothingIsTold, LossAtRestIsTold, OldLossIsTold, PlacesHaveTheirEntries, NoReportTellsAFault};
 
 use fc_base::ReportEnd;
 
@@ -41,6 +41,13 @@ pub fn rest_law()
     ensures kept { NothingIsTold }
     ensures lost { LossAtRestIsTold }
     ensures old_loss { OldLossIsTold }
+{}
+
+/// What is known of a place behind any list of steps is the entry of each block behind them: so where none of them has
+/// lost anything, no report tells a fault.
+pub fn place_law()
+    ensures entries { PlacesHaveTheirEntries }
+    ensures reports { NoReportTellsAFault }
 {}
 
 /// A story in which nothing is lost of either block, and whose last run has nothing to do with block 1. Behind its two

@@ -24,5 +24,7 @@ mod touched;
 pub use check::LedgerCheck;
 pub use entry::{Entry, RunWrite};
 pub use fault::LedgerFault;
-pub use law::{examples, holders, one_run, one_run_reports, rest_law, stays, stays_possible};
+pub use law::{
+    examples, holders, one_run, one_run_reports, place_law, rest_law, stays, stays_possible,
+};
 pub use ledger::Ledger;
