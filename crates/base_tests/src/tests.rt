@@ -1,11 +1,12 @@
 //! What no clause shows of `fc_base`, `job_file`, `window`, `write_order`, `verify_state`, `engine`, `disk_model`, `recheck`,
-//! `diagnosis` and `parallel_checks`.
+//! `diagnosis`, `ledger` and `parallel_checks`.
 
 mod diagnoses;
 mod disks;
 mod engines;
 mod job_files;
 mod jobs;
+mod ledgers;
 mod numbers;
 mod orders;
 mod parallel;

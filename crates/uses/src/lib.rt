@@ -4,9 +4,10 @@
 //!
 //! A job file is read (`jobs`), its writes go to a disk and its state is taken (`writes`), the state
 //! is kept as bytes (`states`), a disk is checked by it (`checks`), behind a cut of the power, too
-//! (`cuts`), and a faulty block is diagnosed (`diagnoses`); packets go out in frames and come out of
-//! them (`packets`), a client begins a run (`clients`), a server takes a frame (`servers`), and events
-//! come to a world (`worlds`). The limits of all of them are told as numbers (`limits`).
+//! (`cuts`), or by the ledger of many runs (`ledgers`), and a faulty block is diagnosed (`diagnoses`);
+//! packets go out in frames and come out of them (`packets`), a client begins a run (`clients`), a
+//! server takes a frame (`servers`), and events come to a world (`worlds`). The limits of all of them
+//! are told as numbers (`limits`).
 #![tactic(auto)]
 
 mod checks;
@@ -14,6 +15,7 @@ mod clients;
 mod cuts;
 mod diagnoses;
 mod jobs;
+mod ledgers;
 mod limits;
 mod packets;
 mod servers;
@@ -26,6 +28,7 @@ pub use clients::first_run;
 pub use cuts::write_cut_check;
 pub use diagnoses::older_write;
 pub use jobs::first_job;
+pub use ledgers::{Checked, check_by_ledger};
 pub use limits::limits_are_as_documented;
 pub use packets::{cut_and_join, first_packet};
 pub use servers::first_answer;

@@ -1,0 +1,8 @@
+use Rattle.std.proofs.Common.{◌≡◌, map}
+use Rattle.std.specs.List.{range_with_len}
+use Rattle.ledger.specs.Entries.{behind_lost_run}
+use Rattle.ledger.specs.Places.{entry_of}
+use Rattle.ledger.proofs.ledger.Ledger.after_lost_run.Given as goal
+
+abbrev pub invariant-loop-block : goal.invariant-loop-block
+invariant-loop-block l = l.entries.items ≡ map (λ b. behind_lost_run l.fn.rec b (entry_of l.fn.self b)) (range_with_len 0 l.block)
