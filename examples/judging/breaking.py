@@ -13,12 +13,13 @@ from judging.broken_notes import BROKEN_NOTES
 from judging.broken_reports import BROKEN_REPORTS
 from judging.broken_sendings import BROKEN_SENDINGS
 from judging.broken_states import BROKEN_STATES
+from judging.broken_unknown import BROKEN_UNKNOWN
 from judging.draft import Case
 from judging.judge import judge
 from judging.verdict import CLAIMS
 
 KINDS = (BROKEN_STATES + BROKEN_REPORTS + BROKEN_DISKS + BROKEN_SENDINGS + BROKEN_ANSWERS
-         + BROKEN_NOTES)
+         + BROKEN_NOTES + BROKEN_UNKNOWN)
 MOST = 12  # outputs of one kind
 
 

@@ -6,6 +6,7 @@ from judging.numbers import judge_numbers
 from judging.reports import judge_reports, judge_told
 from judging.story import Story
 from judging.takings import judge_states
+from judging.unknown import judge_unknown
 from judging.verdict import Unreadable, Verdict
 
 
@@ -19,6 +20,7 @@ def judge(script, output):
         judge_answers(story, verdict)
         judge_keeping(story, verdict)
         judge_numbers(story, verdict)
+        judge_unknown(story, verdict)
         judge_reports(story, verdict)
         judge_told(story, verdict)
     except (Unreadable, ValueError, IndexError) as why:

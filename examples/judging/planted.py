@@ -182,6 +182,8 @@ PLANTED = (
     ("a begin that sends its jobs told as refused", "refused",
      printed("ok run 1\n", "refused 60 Old\n")),
     ("a done that was refused told as ok", "count", printed("refused 83 NoWrite\n", "ok\n")),
+    ("a done of a write that wasn't given told as ok", "unknown",
+     printed("refused 83 NoWrite\n", "ok\n")),
     ("a frame of another kind", "frames",
      printed("sent 8 client 0 StateAck 28\n", "sent 8 client 0 StateOk 28\n")),
     ("a frame that isn't shown", "output", lambda pair: pair.printed(

@@ -8,7 +8,8 @@ from collections import Counter
 
 # The claims, in the order in which they are told; `seen` says what each is.
 CLAIMS = ("frames", "state", "taking", "count", "issued", "settings", "quiet", "report", "told",
-          "honest", "whole", "none", "cut", "order", "ack", "kept", "ended", "numbers", "refused")
+          "honest", "whole", "none", "cut", "order", "ack", "kept", "ended", "numbers", "refused",
+          "unknown")
 
 
 class Unreadable(Exception):
