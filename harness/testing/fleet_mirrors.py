@@ -67,17 +67,21 @@ def lost_with_a_mirror():
 
 
 def lossy_mirrors():
-    """A mirror's link loses four frames in ten: no life of the client has all copies, and what came in one
-    counts in the next."""
+    """A mirror's link loses four frames in ten: hardly any life of the client has all copies, and what came in
+    one counts in the next."""
     job_file("lossy.fio", jobs=4, blocks=64, writes=64)
     servers = Servers("lossy", 2, jobs=4)
     for _ in range(3):
         status, _, _ = fleet("write", "lossy.fio", "--note", "lossy.note", "--after-writes", "512", *mirror("lossy.kept"), *servers.links())
         tell("a fleet writes", status, 0)
-    os.remove("lossy.note")
     bad = mirror("lossy.kept", f"{BAD_LINK} --lose 0.4 --repeat 0 --late 0 --cut 0")
-    status, printed, said = fleet("check", "lossy.fio", "--note", "lossy.note", *bad, *servers.links())
-    tell("a check by copies that come bit by bit", (status, [it[:2] for it in reports(printed).values()]), (0, [(64, 0)] * 8))
+    said, found = "", []
+    # (while the grant is lost each copy is sent again, so that one life in ten gets all of them)
+    while len(found) < 8 and "copies of the mirror were lost" not in said:
+        os.remove("lossy.note")
+        status, printed, said = fleet("check", "lossy.fio", "--note", "lossy.note", *bad, *servers.links())
+        found.append((status, [it[:2] for it in reports(printed).values()]))
+    tell("a check by copies that come bit by bit", found, [(0, [(64, 0)] * 8)] * len(found))
     tell("more than one life was wanted", "copies of the mirror were lost" in said, True)
     servers.cut()
 
