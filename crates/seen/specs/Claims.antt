@@ -85,8 +85,9 @@ WhatComesIsKept seen =
     seen ≡ newer ++ came ∷ older → Comes older came (from_server s (StateBody jobs state))
     → StaysKept newer came state
 
--- Where a trigger has ended well at a server, and the client's note wasn't lost since, the note
--- shows each state that is seen of the run and server.
+-- Where a State or a NoState has come of each job, as when a trigger ends well at a server, and the
+-- client's note wasn't lost from the first of these on, the note shows each state that is seen of
+-- the run and server, behind each call that the client answers.
 abbrev pub EndedIsKept : List Observation → Type 0
 EndedIsKept seen =
     (newer recent old : List Observation) (o : Observation) (s run : ℕ) (state : State) →

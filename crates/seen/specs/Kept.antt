@@ -57,8 +57,8 @@ TellsOf recent old s run job jobs =
     × CameAmong recent old (from_server s (StateBody jobs state)))
     ⊎ CameAmong recent old (from_server s (NoState run job jobs))
 
--- A trigger of the run has ended well at the server: it has told of each of its jobs, of which there
--- are as many as it told once.
+-- What a trigger of the run that ends well at the server leaves, though no Trigger is asked for: a
+-- State or a NoState has come to the client of each job below the number that one of these told.
 pub record EndedWell (recent old : List Observation) (s run : ℕ) : Type 0 where
   pub jobs : ℕ
   pub first : ℕ
