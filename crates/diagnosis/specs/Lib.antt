@@ -1,3 +1,4 @@
+pub mod Contents
 pub mod Damage
 pub mod Differences
 pub mod Extents

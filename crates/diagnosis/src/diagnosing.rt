@@ -1,16 +1,15 @@
 //! A block is diagnosed.
 
-ghost use Rattle.std.specs.Prelude.{◌≡◌, ◌≢◌, ◌↔◌, ◌<◌, IsTrue, MatchOption, false, length, replicate};
+ghost use Rattle.std.specs.Prelude.{◌≡◌, ◌≢◌, ◌↔◌, ◌<◌, IsTrue, false, length};
 ghost use Rattle.recheck.specs.Faults.{is_checked, is_expected, last_write, verdict};
 ghost use Rattle.diagnosis.specs.Held.{HoldsWrite, own_write};
-ghost use Rattle.diagnosis.specs.Kinds.{BlockHolds, FaultHolds, OtherHolds, unknown_sectors};
-ghost use Rattle.diagnosis.specs.Steps.{RepeatsNoByte, filled_kind, mixed_kind, own_kind};
+ghost use Rattle.diagnosis.specs.Kinds.{BlockHolds, FaultHolds, OtherHolds};
+ghost use Rattle.diagnosis.specs.Steps.{filled_kind, mixed_kind, own_kind};
 
+use crate::content::{Content, content_of, unknown_sectors};
 use crate::damage::is_damaged;
 use crate::holds::Holds;
-use crate::pieces::{block_size, count_unknown, is_all};
 use crate::stamp::Write;
-use crate::whole::whole_write;
 use fc_base::Seq;
 use recheck::{Expected, Verdict};
 
@@ -50,14 +49,6 @@ fn fault(expected: &Expected, block: u32, bytes: &[u8]) -> Holds
     }
 }
 
-/// How many of its sectors hold nothing that is known.
-fn unknown_sectors(expected: &Expected, bytes: &[u8]) -> u32
-    requires { length bytes.now ≡ expected.now.job.bs }
-    ensures { result ≡ unknown_sectors expected.now bytes.now }
-{
-    count_unknown(expected, bytes, block_size(expected) / 512)
-}
-
 /// What a faulty block holds that is no such copy.
 fn other(expected: &Expected, block: u32, bytes: &[u8]) -> Holds
     requires checked { IsTrue (is_checked expected.now block) }
@@ -65,27 +56,10 @@ fn other(expected: &Expected, block: u32, bytes: &[u8]) -> Holds
     requires faulty { is_expected expected.now block bytes.now ≡ false }
     ensures { OtherHolds expected.now block bytes.now result }
 {
-    let _size = block_size(expected);
-    if let Some(byte) = repeated_byte(bytes) {
-        return filled(byte);
-    }
-    match whole_write(expected, bytes) {
-        Some(write) => of_write(expected, block, bytes, write),
-        None => mixed(unknown_sectors(expected, bytes)),
-    }
-}
-
-/// The byte that the block is over and over, if it is one.
-fn repeated_byte(bytes: &[u8]) -> Option<u8>
-    requires { 0 < length bytes.now }
-    ensures { MatchOption result (RepeatsNoByte bytes.now) (λ byte. bytes.now
-        ≡ replicate (length bytes.now) byte) }
-{
-    let first = bytes[0];
-    if is_all(bytes, first) {
-        Some(first)
-    } else {
-        None
+    match content_of(expected, bytes) {
+        Content::Byte(byte) => filled(byte),
+        Content::Whole(write) => of_write(expected, block, bytes, write),
+        Content::Mixed(unknown) => mixed(unknown),
     }
 }
 

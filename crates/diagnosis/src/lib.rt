@@ -16,6 +16,7 @@
 //! says what a sector holds.
 #![tactic(auto)]
 
+mod content;
 mod damage;
 mod diagnosing;
 mod difference;
@@ -28,6 +29,7 @@ mod pieces;
 mod stamp;
 mod whole;
 
+pub use content::{Content, content_of};
 pub use diagnosing::diagnose;
 pub use difference::{Difference, FEW_BITS, FEW_BYTES, compare_write};
 pub use extent::{Extent, extent_at};
