@@ -1,5 +1,5 @@
 -- Checks, block by block.
-use Rattle.std.proofs.Common.{◌≡◌, ◌≢◌, ℕ, zero, suc, ◌+◌, ◌<◌, Bool, true, false, not, List, [], ◌∷◌, ◌++◌, length, take, filter, get_or, set, refl, sym, ap, inl, inr, ◌∙◌, arith, add-one, append-nil, get_or-set_same, get_or-set_other}
+use Rattle.std.proofs.Common.{◌≡◌, ◌≢◌, ℕ, zero, suc, ◌+◌, ◌<◌, Bool, true, false, not, List, [], ◌∷◌, ◌++◌, length, map, take, filter, get_or, set, refl, sym, ap, inl, inr, ◌∙◌, arith, add-one, append-nil, get_or-set_same, get_or-set_other}
 use Rattle.std.specs.Prelude.{Option, Some, None, nat_lt, if◌then◌else◌}
 use Rattle.std.specs.List.{list_any, range_with_len}
 use Rattle.std.proofs.Math.ListN.{length-set}
@@ -76,6 +76,10 @@ left_same held n place none =
           rw here (entry_next held n place ∙ none ∙ sym (rw (lt-ltb n (n + 1) (omega arith), none) refl))
       | inr other ↦ entry_then_is held n place b below ∙ then_other held n place b other
     ])
+
+-- The entries of all blocks, one by one, are those of the place.
+pub all_entries : (place : Place) → map (λ b. entry_of place b) (range_with_len 0 (length place.entries)) ≡ place.entries
+all_entries place = sym (fill_by_all (λ b. entry_of place b) place.entries (length place.entries) [] refl (λ b below. refl))
 
 -- ---- the tally
 

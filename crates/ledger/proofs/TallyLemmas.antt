@@ -7,10 +7,12 @@ use Rattle.std.proofs.lemmas.List.{length_push, take_all, take-append-le}
 use Rattle.std.proofs.lemmas.List.Folds.{list_all-append}
 use Rattle.fc_base.specs.declared.limits.TheConstants.{MAX_BLOCKS, MAX_LISTED}
 use Rattle.fc_base.specs.Ascending.{ascends, is_block}
-use Rattle.fc_base.specs.Report.{has_counts, has_list, is_report}
+use Rattle.fc_base.specs.Report.{has_counts, has_list, has_end, is_report}
 use Rattle.fc_base.specs.declared.report.ReportParts.{ReportParts}
-use Rattle.fc_base.specs.declared.report.ReportEnd.TheVariants.{Whole}
-use Rattle.ledger.specs.Checks.{report_of}
+use Rattle.fc_base.specs.declared.report.ReportEnd.{ReportEnd}
+use Rattle.fc_base.specs.declared.report.ReportEnd.TheVariants.{Whole, AtFault, ReadFault}
+use Rattle.recheck.specs.Report.{report_with}
+use Rattle.ledger.specs.Checks.{is_end}
 use Rattle.ledger.specs.Tally.{Counts}
 
 -- Behind an ascending list of numbers below a bound comes one that isn't below it.
@@ -61,18 +63,27 @@ listed_more faults next block first le kept = elim (cases_lt (length first) MAX_
       })
 ]
 
+-- A check may end so.
+ends_so : (parts : ReportParts) → is_end parts.end ≡ true → has_end parts ≡ true
+ends_so parts can = by parts.end refl can
+  where
+    by : (end : ReportEnd) → parts.end ≡ end → is_end end ≡ true → has_end parts ≡ true
+    by Whole is ok = rw is refl
+    by AtFault is ok = absurd cc
+    by (ReadFault block) is ok = rw is ok
+
 -- A tally's numbers make a report.
-pub told_by : (noted : Counts) (next checked faults : ℕ) (first items : List ℕ) (answer : Result ReportParts ReportParts) →
+pub told_by : (noted : Counts) (next checked faults : ℕ) (first items : List ℕ) (end : ReportEnd) (answer : Result ReportParts ReportParts) →
     record { next = next; found = record { checked = checked; faults = faults; first = items } } ≡ noted → first ≡ items → next ≤ MAX_BLOCKS → checked ≤ next →
-    faults ≤ checked → Listed faults next items →
-    answer ≡ (if is_report (record { checked = checked; faults = faults; first = first; end = Whole })
-    then Ok (record { checked = checked; faults = faults; first = first; end = Whole })
-    else Err (record { checked = checked; faults = faults; first = first; end = Whole })) → answer ≡ Ok (report_of noted.found)
-told_by noted next checked faults first items answer is same below few fewer listed made =
-    let parts : ReportParts = record { checked = checked; faults = faults; first = items; end = Whole } in
+    faults ≤ checked → Listed faults next items → is_end end ≡ true →
+    answer ≡ (if is_report (record { checked = checked; faults = faults; first = first; end = end })
+    then Ok (record { checked = checked; faults = faults; first = first; end = end })
+    else Err (record { checked = checked; faults = faults; first = first; end = end })) → answer ≡ Ok (report_with noted.found end)
+told_by noted next checked faults first items end answer is same below few fewer listed can made =
+    let parts : ReportParts = record { checked = checked; faults = faults; first = items; end = end } in
     let blocks : list_all is_block items ≡ true = below_higher items next MAX_BLOCKS below listed.below in
     let counts : has_counts parts ≡ true = rw (le-leb faults checked fewer, le-leb checked MAX_BLOCKS (omega arith)) refl in
     let list : has_list parts ≡ true = rw (eq-eqb (length items) (min faults MAX_LISTED) listed.listed, blocks, listed.ascending) refl in
-    let good : is_report parts ≡ true = rw (counts, list) refl in
+    let good : is_report parts ≡ true = rw (counts, list, ends_so parts can) refl in
     let answered = (rw (same, good) at made) in
-    answered ∙ ap (λ n. Ok (report_of n.found)) is
+    answered ∙ ap (λ n. Ok (report_with n.found end)) is

@@ -1,9 +1,11 @@
 -- A check by a ledger under way.
-use Rattle.std.specs.Prelude.{◌≡◌, ◌≤◌, ℕ, ◌+◌, List, filter, length, take, map, nat_lt, if◌then◌else◌}
+use Rattle.std.specs.Prelude.{◌≡◌, ◌≤◌, ℕ, ◌+◌, Bool, true, false, List, filter, length, take, map, nat_lt, if◌then◌else◌}
 use Rattle.std.specs.List.{range_with_len}
 use Rattle.fc_base.specs.declared.limits.TheConstants.{MAX_LISTED}
 use Rattle.fc_base.specs.declared.report.ReportParts.{ReportParts}
-use Rattle.fc_base.specs.declared.report.ReportEnd.TheVariants.{Whole}
+use Rattle.fc_base.specs.declared.report.ReportEnd.{ReportEnd}
+use Rattle.fc_base.specs.declared.report.ReportEnd.TheVariants.{Whole, AtFault, ReadFault}
+use Rattle.fc_base.specs.Ascending.{is_block}
 use Rattle.recheck.specs.Report.{Tally, report_with}
 use Rattle.recheck.specs.Check.{nothing, with_verdict}
 use Rattle.ledger.specs.Entries.{behind_check}
@@ -30,6 +32,16 @@ with_block_fed check block bytes = record {
 -- The report of a tally.
 abbrev pub report_of : Tally → ReportParts
 report_of found = report_with found Whole
+
+-- The report of a tally, where the check ended before a block that could not be read.
+abbrev pub report_at : Tally → ℕ → ReportParts
+report_at found block = report_with found (ReadFault block)
+
+-- A check by a ledger ends so: with the last block, or before one that could not be read.
+abbrev pub is_end : ReportEnd → Bool
+is_end Whole = true
+is_end (ReadFault block) = is_block block
+is_end AtFault = false
 
 -- What is known of a place once its first n blocks were checked, of which this was found.
 abbrev pub checked_to : (ℕ → List ℕ) → ℕ → Place → Place

@@ -8,6 +8,7 @@ pub mod Spelling
 pub mod Ranges
 pub mod Reading
 pub mod Possible
+pub mod Faults
 -- What holds of it.
 pub mod Stories
 pub mod Laws

@@ -3,11 +3,11 @@
 ghost use Rattle.std.specs.Prelude.{◌≡◌, ℕ, ◌+◌, ◌<◌, ◌≤◌, List, length, false};
 ghost use Rattle.ledger.specs.Places.{Place, is_checked, verdict_at, after_check};
 ghost use Rattle.ledger.specs.Reports.{report};
-ghost use Rattle.ledger.specs.Checks.{start, with_block_fed, report_of, HasSeen};
+ghost use Rattle.ledger.specs.Checks.{start, with_block_fed, report_at, report_of, HasSeen};
 
 use crate::ledger::Ledger;
 use crate::tally::Tally;
-use fc_base::CheckReport;
+use fc_base::{CheckReport, MAX_BLOCKS};
 use recheck::Verdict;
 use std::marker::Model;
 
@@ -75,6 +75,16 @@ impl LedgerCheck {
         let verdict = self.ledger.check(block, bytes);
         self.tally.note(block, verdict);
         verdict
+    }
+
+    /// The report of the blocks that came, where the check ends before this one, which could not be read. The ledger
+    /// is given up: the one before the check stands.
+    pub fn finish_at(self, block: u32) -> CheckReport
+        requires { block < MAX_BLOCKS }
+        ensures { result ≡ report_at self.found block }
+    {
+        let LedgerCheck { ledger: _, tally } = self;
+        tally.into_report_at(block)
     }
 
     /// The report of the blocks that came, and what is known of the place from now on.

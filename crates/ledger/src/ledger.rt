@@ -95,6 +95,20 @@ impl Ledger {
         &self.entries[block as usize]
     }
 
+    /// Another one that asks for the same. An error is that memory ran out.
+    pub fn copy(&self, alloc: Global) -> Result<Ledger, AllocError>
+        ensures { IfOk result (λ l. l ≡ self.now) }
+    {
+        let mut entries = Vec::with_capacity(alloc, self.entries.len())?;
+        for block in 0..self.blocks() {
+            entries.push(self.entry(block).behind_lost_run(alloc, false)?)?;
+        }
+        Ok(Ledger {
+            block_size: self.block_size,
+            entries,
+        })
+    }
+
     /// The ledger behind the run that a check would go by. Its blocks are to have the ledger's size: a block of another
     /// size holds none of its writes. An error is that memory ran out.
     pub fn after_run(&self, alloc: Global, e: &Expected) -> Result<Ledger, AllocError>

@@ -1,8 +1,9 @@
 //! The tally of the blocks that came to a check.
 
-ghost use Rattle.std.specs.Prelude.{◌≡◌, ◌+◌, ◌≤◌, ◌<◌, [], ◌∷◌, ◌++◌, length, take};
+ghost use Rattle.std.specs.Prelude.{◌≡◌, ◌+◌, ◌≤◌, ◌<◌, [], ◌∷◌, ◌++◌, IsTrue, length, take};
 ghost use Rattle.recheck.specs.Check.{with_verdict, nothing};
-ghost use Rattle.ledger.specs.Checks.{report_of};
+ghost use Rattle.recheck.specs.Report.{report_with};
+ghost use Rattle.ledger.specs.Checks.{is_end, report_at, report_of};
 
 use fc_base::{Blocks, CheckReport, MAX_BLOCKS, MAX_LISTED, ReportEnd, ReportParts};
 use recheck::Verdict;
@@ -67,6 +68,22 @@ impl Tally {
     pub fn into_report(self) -> CheckReport
         ensures { result ≡ report_of self.found }
     {
+        self.into_report_with(ReportEnd::Whole)
+    }
+
+    /// The report of these blocks, behind which this one could not be read.
+    pub fn into_report_at(self, block: u32) -> CheckReport
+        requires { block < MAX_BLOCKS }
+        ensures { result ≡ report_at self.found block }
+    {
+        self.into_report_with(ReportEnd::ReadFault(block))
+    }
+
+    /// The report of these blocks, with this end.
+    fn into_report_with(self, end: ReportEnd) -> CheckReport
+        requires { IsTrue (is_end end) }
+        ensures { result ≡ report_with self.found end }
+    {
         let Tally {
             next: _,
             checked,
@@ -77,7 +94,7 @@ impl Tally {
             checked,
             faults,
             first,
-            end: ReportEnd::Whole,
+            end,
         }) {
             Ok(report) => report,
             Err(_) => unreachable!(),
