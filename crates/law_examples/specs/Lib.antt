@@ -9,3 +9,4 @@ pub mod ServerCut
 pub mod ServerLoss
 pub mod Story
 pub mod Fleet
+pub mod Ledgers

@@ -5,6 +5,7 @@
 mod cuts;
 mod diagnoses;
 mod fleets;
+mod ledgers;
 mod losses;
 mod packets;
 
@@ -13,5 +14,6 @@ pub use cuts::{
 };
 pub use diagnoses::examples_of_diagnosis;
 pub use fleets::examples_of_fleets;
+pub use ledgers::example_of_ledgers;
 pub use losses::examples_of_targets;
 pub use packets::{examples_of_frames, examples_of_packets, examples_of_pieces};

@@ -2,7 +2,8 @@
 use Rattle.std.proofs.Common.{◌≡◌, ◌∙◌, ap, subst, refl, ℕ, arith, List, [], ◌∷◌, length, get_or, map, codes, take, drop, sym, Option, Some}
 use Rattle.std.proofs.lemmas.List.{drop-map, take-map}
 use Rattle.program_io.specs.Words.{IsNumber}
-use Rattle.targets.specs.Command.{AreMapWords, AreOptions, AreWords, IsOption, option_words}
+use Rattle.targets.specs.declared.command.Since.{Since}
+use Rattle.targets.specs.Command.{AreLedgerWords, AreMapWords, AreOptions, AreWords, IsOption, ledger_word, option_words}
 
 -- a word that is known by its text
 at_place : {S : Type 0} (text : S → List ℕ) (P : List ℕ → Type 0) (x a : S) (word : List ℕ) → a ≡ x → word ≡ text a → P word → P (text x)
@@ -54,4 +55,14 @@ pub map_words : {S : Type 0} (text : S → List ℕ) (ws front back : List S) (r
 map_words text ws front back run job server unit first second are is = (
   subst (λ l. AreWords l (codes "map") run job) (ap (map text) first ∙ sym (take-map text 4 ws)) are,
   subst (λ l. AreOptions l server unit) (ap (map text) second ∙ sym (drop-map text 4 ws)) is,
+)
+
+-- The words of a check by a ledger, and behind them those of a server.
+pub ledger_words : {S : Type 0} (text : S → List ℕ) (ws front back : List S) (word : List ℕ) (since : Since) (run job : ℕ) (server : Option ℕ) → front ≡ take 4 ws
+    → back ≡ drop 4 ws → word ≡ ledger_word since → AreWords (map text front) word run job → IsOption (codes "--server") server (map text back)
+    → AreLedgerWords (map text ws) since run job server
+ledger_words text ws front back word since run job server first second said are is = (
+  subst (λ l. AreWords l (ledger_word since) run job) (ap (map text) first ∙ sym (take-map text 4 ws))
+      (subst (λ w. AreWords (map text front) w run job) said are),
+  subst (λ l. IsOption (codes "--server") server l) (ap (map text) second ∙ sym (drop-map text 4 ws)) is,
 )

@@ -23,7 +23,7 @@ use Rattle.targets.specs.Jobs.{key_of, BeginsWithJob, FinishesRun, GivesNoJob, R
 use Rattle.targets.specs.Reports.{CannotCheck, ChecksInput, ChecksJob, HasNoState, IsStateIn}
 
 -- A text that was read of known bytes leaves known ones.
-text_leaves : (most : ℕ) (input : List ℕ) (new : Option (List ℕ)) (text : List ℕ) → IsText most (Some input) new text → (rest : List ℕ) × (new ≡ Some rest)
+pub text_leaves : (most : ℕ) (input : List ℕ) (new : Option (List ℕ)) (text : List ℕ) → IsText most (Some input) new text → (rest : List ℕ) × (new ≡ Some rest)
 text_leaves most input None text is = absurd is.bytes
 text_leaves most input (Some rest) text is = (rest, refl)
 

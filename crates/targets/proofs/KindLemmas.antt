@@ -43,7 +43,7 @@ line_is unit e block bytes (tolds.Fault kind) (checked, (held, is, unexpected, h
 
 -- ---- one more
 
-one_if : Bool → ℕ → ℕ
+unfoldable pub one_if : Bool → ℕ → ℕ
 one_if true n = n + 1
 one_if false n = n
 
@@ -57,13 +57,13 @@ unfolding one_if
 add_if true n = refl
 add_if false n = add-zero n
 
-length_more : {X : Type 0} (p : X → Bool) (xs : List X) (x : X) (b : Bool) → p x ≡ b → length (filter p (xs ++ x ∷ [])) ≡ one_if b (length (filter p xs))
+pub length_more : {X : Type 0} (p : X → Bool) (xs : List X) (x : X) (b : Bool) → p x ≡ b → length (filter p (xs ++ x ∷ [])) ≡ one_if b (length (filter p xs))
 length_more p xs x b is =
     ap length (filter-append p xs (x ∷ [])) ∙ length-append (filter p xs) (filter p (x ∷ []))
     ∙ ap (λ n. length (filter p xs) + n) (one_passes p x b is) ∙ add_if b (length (filter p xs))
 
 -- Sums that are the same by each word are the same.
-kinds_alike : (f g : List ℕ → ℕ) → ((word : List ℕ) → f word ≡ g word) → kinds_by f ≡ kinds_by g
+pub kinds_alike : (f g : List ℕ → ℕ) → ((word : List ℕ) → f word ≡ g word) → kinds_by f ≡ kinds_by g
 kinds_alike f g same =
     rw (same (codes "unwritten")) (rw (same (codes "filled")) (rw (same (codes "lost")) (rw (same (codes "unissued")) (rw (same (codes "other-run"))
     (rw (same (codes "misdirected")) (rw (same (codes "torn")) (rw (same (codes "corrupt")) (rw (same (codes "unread")) refl))))))))

@@ -7,6 +7,11 @@ pub mod TextLemmas
 pub mod JobLemmas
 pub mod FrontLemmas
 pub mod FrontBytes
+pub mod LedgerCellLemmas
+pub mod LedgerInputLemmas
+pub mod LedgerLawLemmas
+pub mod LedgerLemmas
+pub mod LedgerLineLemmas
 pub mod LossLemmas
 pub mod UnitLemmas
 pub mod KindLemmas

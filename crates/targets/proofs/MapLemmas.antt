@@ -205,7 +205,7 @@ mapped_whole unit e check unread sums target input first_text text mid_text new_
     }))
 
 -- What is left is a part of a block.
-part_left : (size : ℕ) (rest : List ℕ) (left : Option (List ℕ)) → EndsInBlock size (Some rest) left → IsPart size rest
+pub part_left : (size : ℕ) (rest : List ℕ) (left : Option (List ℕ)) → EndsInBlock size (Some rest) left → IsPart size rest
 part_left size rest None (part, read, is, end) = absurd read
 part_left size rest (Some xs) (part, read, is, end) =
     subst (IsPart size) (sym (read ∙ ap (λ l. part ++ l) end ∙ append-nil part)) is

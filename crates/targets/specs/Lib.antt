@@ -19,3 +19,9 @@ pub mod MapLines
 pub mod Maps
 pub mod Mapping
 pub mod MapJobs
+pub mod LedgerInput
+pub mod LedgerLines
+pub mod Ledgers
+pub mod LedgerSteps
+pub mod LedgerJobs
+pub mod LedgerLaws

@@ -87,26 +87,31 @@ line_if_any e block bytes tolds.Unread = line_words e block bytes tolds.Unread
 line_if_any e block bytes (tolds.Fault kind) = line_words e block bytes (tolds.Fault kind)
 
 -- Unchecked blocks begin at this one: it isn't checked, and the one before it is, or isn't there.
-abbrev pub begins_unchecked : Expected → ℕ → Bool
-begins_unchecked e block =
-    not (is_checked e block) && (block == 0 || is_checked e (block - 1))
+abbrev pub begins_unchecked : (ℕ → Bool) → ℕ → Bool
+begins_unchecked checked block = not (checked block) && (block == 0 || checked (block - 1))
 
 -- They end at this one: it isn't checked, and the one behind it is, or isn't there.
-abbrev pub ends_unchecked : Expected → ℕ → Bool
-ends_unchecked e block =
-    not (is_checked e block) && (block + 1 == e.job.blocks || is_checked e (block + 1))
+abbrev pub ends_unchecked : (ℕ → Bool) → ℕ → ℕ → Bool
+ends_unchecked checked blocks block =
+    not (checked block) && (block + 1 == blocks || checked (block + 1))
 
 -- The first and the last block of unchecked ones, as ` 5-9`.
-abbrev pub first_words : Expected → ℕ → List ℕ
-first_words e block = if begins_unchecked e block then codes " " ++ decimal block else []
+abbrev pub first_words : Bool → ℕ → List ℕ
+first_words begins block = if begins then codes " " ++ decimal block else []
 
-abbrev pub last_of_words : Expected → ℕ → List ℕ
-last_of_words e block = if ends_unchecked e block then codes "-" ++ decimal block else []
+abbrev pub last_of_words : Bool → ℕ → List ℕ
+last_of_words ends block = if ends then codes "-" ++ decimal block else []
 
-abbrev pub edge_words : Expected → ℕ → List ℕ
-edge_words e block = first_words e block ++ last_of_words e block
+abbrev pub edge_words : (ℕ → Bool) → ℕ → ℕ → List ℕ
+edge_words checked blocks block =
+    first_words (begins_unchecked checked block) block
+    ++ last_of_words (ends_unchecked checked blocks block) block
 
--- The line of the blocks of the region that aren't checked, as `unchecked 5-9 12-12`.
+-- The line of those of so many blocks that aren't checked, as `unchecked 5-9 12-12`.
+abbrev pub unchecked_among : (ℕ → Bool) → ℕ → List ℕ
+unchecked_among checked blocks =
+    codes "unchecked" ++ (flat_map (edge_words checked blocks) (range_with_len 0 blocks) ++ codes "\n")
+
+-- The line of the blocks of the region that aren't checked.
 abbrev pub unchecked_line : Expected → List ℕ
-unchecked_line e =
-    codes "unchecked" ++ (flat_map (edge_words e) (range_with_len 0 e.job.blocks) ++ codes "\n")
+unchecked_line e = unchecked_among (is_checked e) e.job.blocks

@@ -1,13 +1,25 @@
 //! The command line of `drive`.
 
-ghost use Rattle.std.specs.Prelude.{◌≡◌, ◌≤◌, ◌<◌, IfSome, IsTrue, Some, map};
-ghost use Rattle.targets.specs.Command.{IsOption, IsRequest, Asks, AreMapWords, AreOptions, AreWords, option_words};
+ghost use Rattle.std.specs.Prelude.{◌≡◌, ◌≤◌, ◌<◌, IfSome, IsTrue, Some, map, unwrap_or};
+ghost use Rattle.fc_base.specs.Keys.{is_key};
+ghost use Rattle.targets.specs.Command.{IsOption, IsRequest, Asks, AreLedgerWords, AreMapWords, AreOptions, AreWords, ledger_word, option_words};
 
 use clap::{Arg, ArgMatches, Command, Error};
 use fc_base::{JobNo, Key, MAX_JOBS, MAX_SERVERS, RunNo, ServerNo};
 use program_io::is_number;
 use std::alloc::{AllocError, Global};
 use std::convert::AsStr;
+
+/// What has happened at a place since its ledger was made.
+#[derive(Clone, Copy, PartialEq, Eq)]
+pub enum Since {
+    /// A run whose state was kept.
+    Run,
+    /// A run whose state was lost.
+    LostRun,
+    /// No run: what a check has found there is to be there still.
+    Rest,
+}
 
 /// What a command line asks for.
 #[derive(Clone, Copy, PartialEq, Eq)]
@@ -20,6 +32,10 @@ pub enum Request {
     /// nothing: tell what each faulty block of the target holds, of a job of this server, or of
     /// server 0, by a unit or without one.
     Map { key: Key, unit: Option<u32> },
+    /// `drive ledger RUN JOB`, `drive ledger-lost RUN JOB` or `drive ledger-rest RUN JOB`, behind it
+    /// `--server SERVER` or nothing: check the target by its ledger, behind this run, behind this
+    /// run whose state was lost, or where no run was since the last check.
+    Ledger { key: Key, since: Since },
 }
 
 /// Reads the words of a command line, of which the first is the program's own name. `None` is a bad command: no
@@ -44,20 +60,44 @@ pub fn read_words<S: AsStr>(alloc: Global, words: &[S]) -> Option<Request>
             are_words(words, "check", run, job).then_some(Request::Check { run, job })
         }
         ("map", values) => map_of(words, values),
+        ("ledger", values) => ledger_of(words, Since::Run, values),
+        ("ledger-lost", values) => ledger_of(words, Since::LostRun, values),
+        ("ledger-rest", values) => ledger_of(words, Since::Rest, values),
         _ => None,
     }
 }
 
-/// The map that the words ask for.
-fn map_of<S: AsStr>(words: &[S], values: &ArgMatches<'_>) -> Option<Request>
+/// The word of a check by a ledger.
+fn ledger_word(since: Since) -> &'static str
+    ensures { result.now ≡ ledger_word since }
+{
+    match since {
+        Since::Run => "ledger",
+        Since::LostRun => "ledger-lost",
+        Since::Rest => "ledger-rest",
+    }
+}
+
+/// The check by a ledger that the words ask for.
+fn ledger_of<S: AsStr>(words: &[S], since: Since, values: &ArgMatches<'_>) -> Option<Request>
     ensures allowed { IfSome result IsRequest }
     ensures asked { IfSome result (Asks (map S.text words.now)) }
 {
+    let (key, server) = key_in(values)?;
+    are_ledger_words(words, since, key.run, key.job, server).then_some(Request::Ledger {
+        key,
+        since,
+    })
+}
+
+/// The key of the job, and the server that it has where the words name one: else it is of server 0.
+fn key_in(values: &ArgMatches<'_>) -> Option<(Key, Option<u32>)>
+    ensures { IfSome result (λ it. IsTrue (is_key it.0) × (it.0.server ≡ unwrap_or it.1 0)) }
+{
     let (run, job) = numbers_of(values)?;
     let server = values.get_one::<u32>("server");
-    let unit = values.get_one::<u32>("unit");
     let number = server.unwrap_or(0);
-    if number >= MAX_SERVERS || !are_map_words(words, run, job, server, unit) {
+    if number >= MAX_SERVERS {
         return None;
     }
     let key = Key {
@@ -65,7 +105,32 @@ fn map_of<S: AsStr>(words: &[S], values: &ArgMatches<'_>) -> Option<Request>
         server: ServerNo(number),
         job,
     };
-    Some(Request::Map { key, unit })
+    Some((key, server))
+}
+
+/// Whether these are the words of a check of this job by a ledger, and of this server.
+fn are_ledger_words<S: AsStr>(
+    words: &[S],
+    since: Since,
+    run: RunNo,
+    job: JobNo,
+    server: Option<u32>,
+) -> bool
+    ensures { IsTrue result → AreLedgerWords (map S.text words.now) since run job server }
+{
+    words.len() >= 4
+        && (are_words(&words[..4], ledger_word(since), run, job)
+            && is_option(&words[4..], "--server", server))
+}
+
+/// The map that the words ask for.
+fn map_of<S: AsStr>(words: &[S], values: &ArgMatches<'_>) -> Option<Request>
+    ensures allowed { IfSome result IsRequest }
+    ensures asked { IfSome result (Asks (map S.text words.now)) }
+{
+    let (key, server) = key_in(values)?;
+    let unit = values.get_one::<u32>("unit");
+    are_map_words(words, key.run, key.job, server, unit).then_some(Request::Map { key, unit })
 }
 
 /// Whether these are the words of a map of this job, and of these options.
@@ -135,13 +200,20 @@ fn matches_of<'a, S: AsStr>(alloc: Global, words: &'a [S]) -> Result<ArgMatches<
     command.try_get_matches_from(words)
 }
 
-/// What a command line may have: one of three subcommands, and of the last one two options.
+/// What a command line may have: one of six subcommands, of all but the first two a server, and of a map a unit.
 fn command_of<'a>(alloc: Global) -> Result<Command<'a>, AllocError> {
     let mut command = Command::new(alloc, "drive")
         .disable_help_flag(true)
         .disable_help_subcommand(true)
         .subcommand_required(true);
-    for name in ["write", "check", "map"] {
+    for name in [
+        "write",
+        "check",
+        "map",
+        "ledger",
+        "ledger-lost",
+        "ledger-rest",
+    ] {
         let words = subcommand(alloc, name)?;
         command = command.subcommand(words)?;
     }
@@ -153,10 +225,11 @@ fn subcommand<'a>(alloc: Global, name: &'a str) -> Result<Command<'a>, AllocErro
     for number in ["run", "job"] {
         command = command.arg(Arg::new(alloc, number).required(true))?;
     }
+    if name != "write" && name != "check" {
+        command = command.arg(Arg::new(alloc, "server").long("server"))?;
+    }
     if name == "map" {
-        for option in ["server", "unit"] {
-            command = command.arg(Arg::new(alloc, option).long(option))?;
-        }
+        command = command.arg(Arg::new(alloc, "unit").long("unit"))?;
     }
     Ok(command)
 }

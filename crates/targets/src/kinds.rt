@@ -116,8 +116,8 @@ fn write_parts<W: Write>(writer: &mut W, kinds: &Kinds) -> io::Result<()>
     write_sum(writer, "unread", kinds.unread)
 }
 
-/// Writes the sum of a kind, if there is any.
-fn write_sum<W: Write>(writer: &mut W, word: &str, count: u32) -> io::Result<()>
+/// Writes the sum of a kind, if there is any, as ` lost 4`.
+pub(crate) fn write_sum<W: Write>(writer: &mut W, word: &str, count: u32) -> io::Result<()>
     ensures { OnOk result (Appends (W.contents writer.old) (W.contents writer.new)
         (sum_words word.now count)) }
 {

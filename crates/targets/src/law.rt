@@ -4,6 +4,7 @@
 ghost use Rattle.std.specs.Prelude.{◌≡◌, [], ◌∷◌, true, false};
 ghost use Rattle.targets.specs.Fronts.{HistoriesAreOne, FrontsAreBehind, HistoriesGoOn, IsBehind, OrdersGoOn, OrderedAreIssued, ToldAreCounted, OrderedAreOpen};
 ghost use Rattle.targets.specs.Losses.{is_fault_after, SurvivorsAreNoFaults, LossesAreFaults};
+ghost use Rattle.targets.specs.LedgerLaws.{WholeChecks};
 ghost use Rattle.targets.specs.Units.{BlocksAreUnits, SoundBlocksHaveSoundUnits};
 ghost use Rattle.targets.specs.Examples.{three_writes, one_told, two_told, holds_write};
 
@@ -68,3 +69,10 @@ pub fn unit_law()
 {
     writes_fill_their_blocks();
 }
+
+/// Where each block of a target was read, a check by its ledger reports what the check of that content by the ledger
+/// does, and the new ledger is the one behind it: so all that holds of ledgers over runs and checks holds of what
+/// `ledger_job` writes.
+pub fn ledger_law()
+    ensures { WholeChecks }
+{}

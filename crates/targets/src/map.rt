@@ -215,7 +215,7 @@ fn write_report<W: Write>(
 }
 
 /// The exit status of a report, where a checked block could not be read or none such.
-fn status_with(unread: bool, report: &CheckReport) -> u8
+pub(crate) fn status_with(unread: bool, report: &CheckReport) -> u8
     ensures { result ≡ status_with unread report.now }
 {
     if unread { UNREAD } else { status_of(report) }

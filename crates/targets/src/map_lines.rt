@@ -204,7 +204,7 @@ fn write_seq<W: Write>(writer: &mut W, seq: Seq) -> io::Result<()>
 }
 
 /// Writes which write a block holds, and whose.
-fn write_write<W: Write>(writer: &mut W, write: &Written) -> io::Result<()>
+pub(crate) fn write_write<W: Write>(writer: &mut W, write: &Written) -> io::Result<()>
     ensures { OnOk result (Appends (W.contents writer.old) (W.contents writer.new)
         (write_words write.now)) }
 {
