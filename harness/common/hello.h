@@ -20,7 +20,8 @@ enum { SUM = 4, HELLO_BYTES = MAGIC + 8 * HELLO_NUMBERS + MAX_DRIVE + SUM, WELCO
 
 /* The witness's: what it wants. */
 struct hello {
-    bool writes; /* and else it reads */
+    bool writes;  /* and else it reads, */
+    bool flushes; /* once it has its target flushed: then what it reads stays. An agent that doesn't know this refuses it */
     uint64_t depth;
     struct region region;
     /* The agent's own `drive` gives the orders: of this run, and of the job of this number in a

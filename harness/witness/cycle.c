@@ -54,7 +54,8 @@ static bool check_cycle(struct series *series) {
     struct cycle *cycle = &series->cycle;
     const struct kept *kept = &series->kept;
     give_power_back(&series->power);
-    check_by_link(series->options, series->job, &series->region, kept, &series->map, &welcome);
+    const struct basis basis = basis_of(kept, NULL, false);
+    check_by_link(series->options, series->job, &series->region, &basis, &series->map, &welcome);
     cycle->cut = shown_cut(series->options, &cycle->tally, kept->boot, welcome.boot);
     memcpy(cycle->way, kept->way, MAX_WAY);
     keep_report(&series->folder, cycle, &series->map);

@@ -36,7 +36,8 @@ int check_by_agent(const struct options *options, const struct job *job) {
     struct welcome welcome;
     read_kept(options->place, &kept);
     const struct region region = region_to_check(options->place, &kept, job, options->offset, options->stride);
-    check_by_link(options, job, &region, &kept, &map, &welcome);
+    const struct basis basis = basis_of(&kept, NULL, false);
+    check_by_link(options, job, &region, &basis, &map, &welcome);
     print_map(&map, options->command == MAP);
     int status = tell_verdict(&map, options->place, &kept, welcome.boot);
     dump_by_link(options, job, &region, &kept, options->place, &map);
