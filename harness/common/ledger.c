@@ -69,7 +69,7 @@ struct ledger read_ledger(const char *path) {
     return ledger;
 }
 
-void refuse_other_region(const struct ledger *ledger, const struct region *region) {
+static void refuse_other_region(const struct ledger *ledger, const struct region *region) {
     char why[256];
     const struct region *its = &ledger->region;
     bool is_same = its->offset == region->offset && its->stride == region->stride && its->block_size == region->block_size && its->blocks == region->blocks;
@@ -78,19 +78,27 @@ void refuse_other_region(const struct ledger *ledger, const struct region *regio
     give_up(ledger->path, why);
 }
 
-void refuse_ledger_of_other_drive(const struct ledger *ledger, const char drive[MAX_DRIVE]) {
+static void refuse_ledger_of_other_drive(const struct ledger *ledger, const char drive[MAX_DRIVE]) {
     char why[2 * MAX_DRIVE + 80];
     if (!ledger->bytes || !*ledger->drive || !*drive || !strcmp(ledger->drive, drive)) return;
     snprintf(why, sizeof why, "it is the ledger of another drive (%s), and this is (%s); --other-drive takes it all the same", ledger->drive, drive);
     give_up(ledger->path, why);
 }
 
-void refuse_earlier(const struct ledger *ledger, const char *state, const struct kept *kept) {
+static void refuse_earlier(const struct ledger *ledger, const char *state, const struct kept *kept) {
     if (!*kept->when) give_up(state, "it doesn't say when it was kept: a ledger takes the file of a state alone");
     if (!ledger->bytes || kept->run == ledger->run || strcmp(kept->when, ledger->when) > 0) return;
     char why[PATH_MAX + 160];
     snprintf(why, sizeof why, "it was kept at %s, and %s knows of a later run, of %s: check it without --ledger", kept->when, ledger->path, ledger->when);
     give_up(state, why);
+}
+
+struct ledger ledger_to_check(const char *path, const struct region *region, const char drive[MAX_DRIVE], const char *state, const struct kept *kept) {
+    const struct ledger ledger = read_ledger(path);
+    refuse_other_region(&ledger, region);
+    refuse_ledger_of_other_drive(&ledger, drive);
+    if (state) refuse_earlier(&ledger, state, kept);
+    return ledger;
 }
 
 struct basis basis_of(const struct kept *kept, const struct ledger *ledger, bool is_lost) {

@@ -36,13 +36,10 @@ void refuse_ledger_place(const char *path, const char *job_file, const char *sta
  * harness gives up. */
 struct ledger read_ledger(const char *path);
 
-/* Refuses a ledger of another region, or of another drive where both are known. */
-void refuse_other_region(const struct ledger *ledger, const struct region *region);
-void refuse_ledger_of_other_drive(const struct ledger *ledger, const char drive[MAX_DRIVE]);
-
-/* Refuses a state that was kept before that of the run which was taken last, or that says no moment:
- * what was written since isn't to be blamed on the drive. */
-void refuse_earlier(const struct ledger *ledger, const char *state, const struct kept *kept);
+/* Reads the one that a check is to go by. Refused are one of another region, and of another drive, where
+ * both are known; and where `state` isn't NULL, one that was kept before that of the run which was taken
+ * last, or that says no moment: what was written since isn't to be blamed on the drive. */
+struct ledger ledger_to_check(const char *path, const struct region *region, const char drive[MAX_DRIVE], const char *state, const struct kept *kept);
 
 /* The basis of a check. Without a ledger it is the state alone. A run that was taken last is taken no
  * second time. */

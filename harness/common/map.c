@@ -135,6 +135,11 @@ void print_map(const struct map *map, bool is_whole) {
     fputs(is_short ? line : line + length, stdout);
 }
 
+void keep_ledger_of(const struct map *map, const char drive[MAX_DRIVE]) {
+    if (map->ledger) keep_ledger(&map->basis, &map->region, drive, map->ledger, map->ledger_length);
+    else say("%s: this check gave no ledger: the one before it stands", map->basis.ledger->path);
+}
+
 void free_map(struct map *map) {
     free(map->text);
 }

@@ -45,6 +45,10 @@ void print_map(const struct map *map, bool is_whole);
 /* The last line of what it said: the report, or why there is none. */
 const char *report_of_map(const struct map *map);
 
+/* Keeps the ledger that `drive` gave behind the check of this drive; where it gave none, says so, and
+ * the one before it stands. What the check found has to be told and kept before: a loss is told once. */
+void keep_ledger_of(const struct map *map, const char drive[MAX_DRIVE]);
+
 void free_map(struct map *map);
 
 #endif

@@ -24,14 +24,11 @@ struct subject {
     struct map map;
 };
 
-/* Reads the ledger, and refuses one that this check can't go by. */
 static void open_ledger(struct subject *subject, const struct options *options) {
-    bool has_state = !has_no_state(options);
-    refuse_ledger_place(options->ledger, options->job_file, has_state ? options->state : NULL, options->opening.name);
-    subject->ledger = read_ledger(options->ledger);
-    refuse_other_region(&subject->ledger, &subject->region);
-    if (!options->other_drive) refuse_ledger_of_other_drive(&subject->ledger, subject->drive);
-    if (has_state) refuse_earlier(&subject->ledger, options->state, &subject->kept);
+    const char *state = has_no_state(options) ? NULL : options->state, *drive = options->other_drive ? "" : subject->drive;
+    refuse_ledger_place(options->ledger, options->job_file, state, options->opening.name);
+    subject->ledger = ledger_to_check(options->ledger, &subject->region, drive, state, &subject->kept);
+    flush_target(&subject->target);
 }
 
 static void open_subject(struct subject *subject, const struct options *options, const struct job *job) {
@@ -44,7 +41,6 @@ static void open_subject(struct subject *subject, const struct options *options,
     if (!options->other_drive) refuse_other_drive(options->state, &subject->kept, subject->drive);
     if (options->ledger) open_ledger(subject, options);
     subject->basis = basis_of(&subject->kept, options->ledger ? &subject->ledger : NULL, options->lost);
-    if (options->ledger) flush_target(&subject->target);
     if (subject->target.size < end_of(&subject->region))
         say("%s: it ends after %" PRIu64 " bytes, before the job's region does", subject->target.name, subject->target.size);
 }
@@ -76,15 +72,6 @@ static void dump_target(struct subject *subject, const struct options *options, 
     free_dump(&dump);
 }
 
-/* Keeps the ledger behind the check, once what that found is told and kept: a loss is told once. */
-static void keep_new_ledger(struct subject *subject) {
-    const struct map *map = &subject->map;
-    if (!subject->basis.ledger) return;
-    if (map->ledger) keep_ledger(&subject->basis, &subject->region, subject->drive, map->ledger, map->ledger_length);
-    else say("%s: this check gave no ledger: the one before it stands", subject->ledger.path);
-    free_ledger(&subject->ledger);
-}
-
 int check_target(const struct options *options, const struct job *job) {
     static struct subject subject;
     char boot[MAX_BOOT];
@@ -96,7 +83,8 @@ int check_target(const struct options *options, const struct job *job) {
     tell_boot(boot);
     int status = tell_verdict(&subject.map, options->state, &subject.kept, boot);
     dump_target(&subject, options, job);
-    keep_new_ledger(&subject);
+    if (options->ledger) keep_ledger_of(&subject.map, subject.drive);
+    free_ledger(&subject.ledger);
     free_map(&subject.map);
     return status;
 }

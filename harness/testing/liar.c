@@ -20,7 +20,9 @@
  * io_uring passes a library by: LIE_RING has one of this library's own in its place (ring_liar.c),
  * and without it there is none, so that the harness writes by threads. LIE_DIES=N kills the process
  * behind the Nth flush by that. LIE_LEAVES=link kills it once it has given a file a second name,
- * and LIE_LEAVES=rename once it has put another file in the place of one, behind that. */
+ * and LIE_LEAVES=rename once it has put another file in the place of one, behind that.
+ * LIE_STOPS=before/NAME kills it before it puts a file at a place of that name,
+ * LIE_STOPS=behind/NAME behind that. */
 #include "liar.h"
 
 #include <dlfcn.h>
@@ -173,6 +175,14 @@ static void leave_at(const char *step) {
     if (leaves && !strcmp(leaves, step)) kill(getpid(), SIGKILL);
 }
 
+/* The same where it is to leave before it puts a file at this place, or behind that. */
+static void leave_beside(const char *when, const char *place) {
+    const char *leaves = getenv("LIE_STOPS");
+    size_t length = strlen(when), end = leaves ? strlen(leaves) : 0;
+    if (end <= length || strncmp(leaves, when, length)) return;
+    if (strlen(place) + length >= end && !strcmp(place + strlen(place) - (end - length), leaves + length)) kill(getpid(), SIGKILL);
+}
+
 static atomic_bool has_linked;
 
 int link(const char *from, const char *to) {
@@ -187,8 +197,10 @@ int link(const char *from, const char *to) {
 int rename(const char *from, const char *to) {
     static int (*real)(const char *, const char *);
     if (!real) *(void **)&real = dlsym(RTLD_NEXT, "rename");
+    leave_beside("before", to);
     int answer = real(from, to);
     if (has_linked) leave_at("rename");
+    leave_beside("behind", to);
     return answer;
 }
 
