@@ -22,7 +22,9 @@ size_t front_of(const char *what) {
 }
 
 static void spell_front(const char *what, uint32_t sum, char front[MAX_FRONT]) {
-    snprintf(front, MAX_FRONT, "%s" SUMMED "%08" PRIx32 "\n", what, sum);
+    size_t own = strlen(what);
+    memcpy(front, what, own);
+    snprintf(front + own, MAX_FRONT - own, SUMMED "%08" PRIx32 "\n", sum);
 }
 
 void seal(const char *what, uint8_t *bytes, size_t length) {

@@ -55,6 +55,9 @@ def cycle_of(model, number, lie, every, folder="night", target="fg", *words, sto
     log = os.path.abspath(f"cycle{number}.log")
     env = {"LD_PRELOAD": LIAR, "LIE_TARGET": f"/{target}", "LIE_LOG": log, **({"LIE": lie} if lie else {}), **({"LIE_STOPS": stops} if stops else {})}
     more = ("--resume",) if os.path.exists(f"{folder}/settings") else ()
+    write(log, "")
+    if every is LONG: # (then it has more to keep than the short ones come to)
+        more += ("--off", f"until [ $(wc -l <{log}) -ge 2500 ]; do sleep 0.02; done; {TRUSTED[1]}")
     came = witness("cycle", "long.fio", folder, *link(target), *TRUSTED, *every, "--cycles", str(number), "--keep-going", *more, *words, env=env)
     state = f"{folder}/cycle-{number:06d}.state"
     if not os.path.exists(state):
@@ -102,7 +105,8 @@ def nights_of_honest_drives():
             tell(f"{what}, cycle {turn + 1}", status, 0)
         for it in folders:
             rows = rows_of(f"{folder}/{it}")
-            tell(f"{what}: no fault, and at rest some are checked", ([(row["faults"], row["at_rest"]) for row in rows], any(row["checked"] > row["told"] + row["in_flight"] for row in rows)), ([(0, 0)] * 3, True))
+            tell(f"{what}: no fault", [(row["faults"], row["at_rest"]) for row in rows], [(0, 0)] * 3)
+            tell(f"{what}: what was at rest is checked, too", [row["checked"] for row in rows], [max(min(it["told"], 4096) for it in rows[: at + 1]) for at in range(3)])
             tell(f"{what}: its ledger", taken(f"{folder}/{it}/ledger"), (int(rows[2]["run"]), True))
 
 
@@ -130,7 +134,6 @@ def stopped_beside(lie, stops, what):
     """A second cycle that is killed there, and goes on, and a third one."""
     series, model = ("cycle", "long.fio", "stopping", *link("st"), *TRUSTED, *SHORT, "--resume"), Model()
     cycle_of(model, 1, None, LONG, "stopping", "st")
-    write("cycle2.log", "")
     (status, _, _), rest, flight = cycle_of(model, 2, lie, SHORT, "stopping", "st", stops=stops)
     tell(f"{what}: it was", (status, len(rows_of("stopping"))), (-signal.SIGKILL, 1))
     wrote = os.path.exists("stopping/cycle-000002.state")
@@ -165,7 +168,7 @@ def stopped_within_runs():
         await_that(lambda: read(log).count(b"\n") > 2500, "2500 writes")
         ran.kill()
         ran.wait()
-        status, printed, said = witness(*series, *SHORT, "--cycles", "2", "--resume")
+        status, printed, said = witness(*series, *SHORT, "--cycles", "2", "--resume", env={"LD_PRELOAD": LIAR}) # (by threads, which write less)
         tell(f"killed while it writes {what}: no false fault", (status, [it["faults"] for it in rows_of(folder)], "left no state: it is taken into the ledger first" in said), (0, [0, 0], True))
         tell(f"and then it goes on {what}", (witness(*series, *LONG, "--cycles", "4", "--resume")[0], [it["faults"] for it in rows_of(folder)]), (0, [0] * 4))
     stopped_by_signal()
@@ -176,21 +179,23 @@ def stopped_by_signal():
     asked for."""
     job("wide.fio", blocks=4096, writes=8192, order="write")
     series = ("cycle", "wide.fio", "int", *link("ri"), *TRUSTED)
-    tell("a cycle", witness(*series, "--every", "1.5..1.5", "--cycles", "1")[0], 0)
+    written = "dd if=ri bs=4096 skip=3000 count=1 iflag=direct 2>/dev/null | tr -d '\\000' | head -c 1"
+    off = ("--off", f'until [ -n "$({written})" ]; do sleep 0.02; done; {TRUSTED[1]}')
+    tell("a cycle", witness(*series, *SHORT, *off, "--cycles", "1")[0], 0)
     for name, harms, due in (("sound", False, (0, [0, 0])), ("harmed", True, (1, [0, 1, 0]))):
         shutil.rmtree(name, ignore_errors=True)
         ran = subprocess.Popen([WITNESS, *series, "--every", "60..60", "--cycles", "9", "--resume"], **QUIET)
         number = len(rows_of("int")) + 1
         stopped = f"int/cycle-{number:06d}.stopped"
-        before = read("ri")[:BLOCK]
-        await_that(lambda: read("ri")[:BLOCK] != before, "a write")
+        before = os.stat("ri").st_mtime_ns # (a page that is read while it is written might stay as it was)
+        await_that(lambda: os.stat("ri").st_mtime_ns != before, "a write")
         ran.send_signal(signal.SIGINT)
         tell(f"{name}: SIGINT", (ran.wait(HANG) in (0, 3), os.path.exists(stopped)), (True, True))
         data = bytearray(read("ri"))
-        its, first = run_of(stopped), run_of("int/cycle-000001.state")
-        rest = [at for at in range(4096) if data[at * BLOCK : at * BLOCK + 8] == first.to_bytes(8, "big")]
+        its = run_of(stopped)
+        rest = [at for at in range(4096) if data[at * BLOCK : at * BLOCK + 8] != its.to_bytes(8, "big")]
         if harms:
-            data[rest[-1] * BLOCK + 900] ^= 1
+            data[rest[len(rest) // 2] * BLOCK + 900] ^= 1 # (the last ones were in flight at first, and not asked for)
             write("ri", bytes(data))
         status, printed, said = witness(*series, *SHORT, "--cycles", str(number), "--resume", "--keep-going")
         tell(f"{name}: it is taken by its state", f"run {its} was stopped: it is taken into the ledger first" in said, True)

@@ -75,8 +75,10 @@ def checks_by_ledgers():
     put(data, torn, b"torn", 700)
     put(data, flown, monday[flown * BLOCK : (flown + 1) * BLOCK])
     write("t", bytes(data))
-    status, printed, _ = by("L", "two.fio", "t", "tuesday")
+    status, printed, _ = by("L", "two.fio", "t", "tuesday", "--dump", "9")
     lines = printed.splitlines()
+    dumped = sorted(it for it in os.listdir(".") if it.startswith("tuesday.block-"))
+    tell("what is kept of them: of those at rest no write, which would be of another run", [it for it in dumped if ".write-" not in it or f"block-{flown}." not in it], sorted(f"tuesday.block-{it}" for it in (lost, back, torn, flown)))
     first = f"first {' '.join(map(str, sorted((lost, back, torn, flown))))} other-run 1 at-rest 3"
     tell("losses at rest and in flight", (status, lines[-2], lines[-1].split("; ")[0]), (1, f"report checked 64 faults 4 end whole {first}", "faults: 4 of 64 blocks checked: 1 lost in flight, 3 lost at rest (other-run 1, at-rest 3)"))
     of_block = {it.split()[1]: it for it in lines if it.startswith("block ")}
