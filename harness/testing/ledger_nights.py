@@ -56,8 +56,8 @@ def cycle_of(model, number, lie, every, folder="night", target="fg", *words, sto
     env = {"LD_PRELOAD": LIAR, "LIE_TARGET": f"/{target}", "LIE_LOG": log, **({"LIE": lie} if lie else {}), **({"LIE_STOPS": stops} if stops else {})}
     more = ("--resume",) if os.path.exists(f"{folder}/settings") else ()
     write(log, "")
-    if every is LONG: # (then it has more to keep than the short ones come to)
-        more += ("--off", f"until [ $(wc -l <{log}) -ge 2500 ]; do sleep 0.02; done; {TRUSTED[1]}")
+    least = 2500 if every is LONG else 300 # (so that a long one has more to keep than a short one comes to)
+    more += ("--off", f"until [ $(wc -l <{log}) -ge {least} ]; do sleep 0.02; done; {TRUSTED[1]}")
     came = witness("cycle", "long.fio", folder, *link(target), *TRUSTED, *every, "--cycles", str(number), "--keep-going", *more, *words, env=env)
     state = f"{folder}/cycle-{number:06d}.state"
     if not os.path.exists(state):
