@@ -133,6 +133,7 @@ static void write_for(const struct settings *settings, struct hello *hello) {
 static void read_for(const struct settings *settings, const struct hello *hello) {
     struct target target = open_to_read(&settings->opening);
     const struct chunk end = chunk_of(CHUNK_END, 0, NULL, 0);
+    if (hello->flushes) flush_target(&target);
     welcome_witness(settings, &target, hello);
     read_region(&target, &hello->region, &(struct sink){NULL, give_back_bytes, tell_missed});
     answer(&end, sizeof end);

@@ -15,16 +15,16 @@
 enum { AT_ONCE = 256 };
 
 struct child start_drive(const char *command, uint64_t run, const struct job *job, int pipes) {
-    char name[] = "drive", word[8], run_word[24], job_word[24], server_option[] = "--server", server_word[24], unit_option[] = "--unit", unit_word[24];
+    char name[] = "drive", word[16], run_word[24], job_word[24], server_option[] = "--server", server_word[24], unit_option[] = "--unit", unit_word[24];
     char *words[] = {name, word, run_word, job_word, NULL, NULL, NULL, NULL, NULL}, **end = words + 4;
-    bool is_map = !strcmp(command, "map");
+    bool writes = !strcmp(command, "write");
     snprintf(word, sizeof word, "%s", command);
     snprintf(run_word, sizeof run_word, "%" PRIu64, run);
     snprintf(job_word, sizeof job_word, "%" PRIu64, job->number);
     snprintf(server_word, sizeof server_word, "%" PRIu64, job->server);
     snprintf(unit_word, sizeof unit_word, "%" PRIu64, job->unit);
-    if (is_map && job->server) *end++ = server_option, *end++ = server_word;
-    if (is_map && job->unit) *end++ = unit_option, *end++ = unit_word;
+    if (!writes && job->server) *end++ = server_option, *end++ = server_word;
+    if (!writes && job->unit) *end++ = unit_option, *end++ = unit_word;
     struct child child = start_child(program_of("DRIVE", name), words, pipes | CHILD_APART);
     feed(&child, job->text, job->text_length);
     return child;

@@ -27,7 +27,7 @@ struct drive {
     size_t last_length;
 };
 
-/* Starts `drive COMMAND RUN JOB`, a map with the job's unit, and gives it the job file. */
+/* Starts `drive COMMAND RUN JOB`, a check with the job's server and unit, and gives it the job file. */
 struct child start_drive(const char *command, uint64_t run, const struct job *job, int pipes);
 
 /* Gives `drive` a text or a state, behind its length. Where it reads no more, that is for its

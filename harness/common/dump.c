@@ -35,7 +35,7 @@ struct dump open_dump(const char *place, const struct map *map, uint64_t most) {
         char kind[32];
         int used;
         if (sscanf(line, "block %" SCNu64 " %31[a-z-]:%n", &faulty.block, kind, &used) != 2) break;
-        read_wanted(line + used, &faulty);
+        if (strcmp(kind, "at-rest")) read_wanted(line + used, &faulty); /* (what those want is of other runs) */
         if (strcmp(kind, "unread")) dump.blocks[dump.count++] = faulty;
     }
     return dump;

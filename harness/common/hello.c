@@ -5,6 +5,9 @@
 #include <endian.h>
 #include <string.h>
 
+/* What the first number of a hello says. */
+enum { READS, WRITES, READS_FLUSHED };
+
 static void put_numbers(uint8_t *bytes, const uint64_t *numbers, size_t count) {
     for (size_t at = 0; at < count; at++) {
         uint64_t number = htobe64(numbers[at]);
@@ -33,7 +36,7 @@ static bool is_summed(const uint8_t *bytes, size_t length) {
 void write_hello(uint8_t bytes[HELLO_BYTES], const struct hello *hello) {
     const struct region *region = &hello->region;
     memcpy(bytes, HELLO_MAGIC, MAGIC);
-    const uint64_t numbers[HELLO_NUMBERS] = {hello->writes,  hello->depth,    region->block_size, region->blocks, region->offset,
+    const uint64_t numbers[HELLO_NUMBERS] = {hello->writes ? WRITES : hello->flushes ? READS_FLUSHED : READS, hello->depth,    region->block_size, region->blocks, region->offset,
                                              region->stride, hello->is_local, hello->run,         hello->job,     hello->text_length, hello->owns};
     put_numbers(bytes + MAGIC, numbers, HELLO_NUMBERS);
     memcpy(bytes + MAGIC + 8 * HELLO_NUMBERS, hello->drive, MAX_DRIVE);
@@ -44,9 +47,9 @@ bool read_hello(const uint8_t bytes[HELLO_BYTES], struct hello *hello) {
     uint64_t numbers[HELLO_NUMBERS];
     if (memcmp(bytes, HELLO_MAGIC, MAGIC) || !is_summed(bytes, HELLO_BYTES)) return false;
     take_numbers(bytes + MAGIC, numbers, HELLO_NUMBERS);
-    *hello = (struct hello){numbers[0] == 1, numbers[1], {numbers[2], numbers[3], numbers[4], numbers[5]}, numbers[6] == 1, numbers[7], numbers[8], numbers[9], "", numbers[10] == 1};
+    *hello = (struct hello){numbers[0] == WRITES, numbers[0] == READS_FLUSHED, numbers[1], {numbers[2], numbers[3], numbers[4], numbers[5]}, numbers[6] == 1, numbers[7], numbers[8], numbers[9], "", numbers[10] == 1};
     memcpy(hello->drive, bytes + MAGIC + 8 * HELLO_NUMBERS, MAX_DRIVE - 1);
-    return numbers[0] <= 1 && numbers[6] <= 1 && numbers[10] <= 1;
+    return numbers[0] <= READS_FLUSHED && numbers[6] <= 1 && numbers[10] <= 1;
 }
 
 void write_welcome(uint8_t bytes[WELCOME_BYTES], const struct welcome *welcome) {

@@ -12,15 +12,16 @@
 #include <stdint.h>
 
 /* The last byte of each magic is the version of all that goes over the link. */
-#define HELLO_MAGIC "FCHELLO4"
-#define WELCOME_MAGIC "FCAGENT4"
+#define HELLO_MAGIC "FCHELLO5"
+#define WELCOME_MAGIC "FCAGENT5"
 
 enum { MAGIC = 8, HELLO_NUMBERS = 11, WELCOME_NUMBERS = 10, MAX_WHY = 256 };
 enum { SUM = 4, HELLO_BYTES = MAGIC + 8 * HELLO_NUMBERS + MAX_DRIVE + SUM, WELCOME_BYTES = MAGIC + 8 * WELCOME_NUMBERS + MAX_WHY + MAX_DRIVE + MAX_BOOT + MAX_WAY + SUM };
 
 /* The witness's: what it wants. */
 struct hello {
-    bool writes; /* and else it reads */
+    bool writes;  /* and else it reads, */
+    bool flushes; /* once it has its target flushed: then what it reads stays */
     uint64_t depth;
     struct region region;
     /* The agent's own `drive` gives the orders: of this run, and of the job of this number in a

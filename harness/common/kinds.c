@@ -13,7 +13,7 @@ enum { ROW = 64 };
 
 static const struct { const char *word; char letter; } ALL[KINDS] = {
     {"unwritten", '0'}, {"filled", 'F'}, {"lost", 'L'}, {"unissued", 'U'}, {"other-run", 'R'},
-    {"misdirected", 'M'}, {"torn", 'T'}, {"corrupt", 'C'}, {"unread", '?'},
+    {"misdirected", 'M'}, {"torn", 'T'}, {"corrupt", 'C'}, {"unread", '?'}, {"at-rest", 'A'},
 };
 
 /* Reads the front of a line, as `block 5 lost: ..`. Returns its kind, or -1 where it is another. */
@@ -37,6 +37,15 @@ void kinds_of(const char *report, char words[KIND_WORDS]) {
     first += strlen(" first ");
     first += strspn(first, "0123456789- ");
     snprintf(words, KIND_WORDS, "%.*s", (int)strcspn(first, "\n"), first);
+}
+
+uint64_t count_of_kind(const char *words, const char *kind) {
+    char word[32];
+    uint64_t count;
+    int used;
+    for (; sscanf(words, " %31s %" SCNu64 "%n", word, &count, &used) == 2; words += used)
+        if (!strcmp(word, kind)) return count;
+    return 0;
 }
 
 /* Marks the blocks of a line `unchecked 5-9 12-12`. Returns whether it is one, with any. */

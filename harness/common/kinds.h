@@ -6,11 +6,14 @@
 #include <stdint.h>
 
 /* The kinds, in the order in which they are told. */
-enum { KINDS = 9, KIND_WORDS = 256 };
+enum { KINDS = 10, KIND_WORDS = 256 };
 
 /* Puts `lost 4 torn 1` there: what the line of the report says of the kinds, and nothing where it
  * says nothing, or is another line. */
 void kinds_of(const char *report, char words[KIND_WORDS]);
+
+/* How many blocks these words tell of a kind. */
+uint64_t count_of_kind(const char *words, const char *kind);
 
 /* Prints a picture of a region: a character a block, 64 in a row, and what the letters stand
  * for. */

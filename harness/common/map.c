@@ -34,12 +34,15 @@ static void *read_all_lines(void *given) {
     return NULL;
 }
 
-void open_map(struct map *map, uint64_t run, const struct job *job, const struct region *region, const uint8_t *state, size_t length) {
-    *map = (struct map){.region = *region, .total = region->blocks, .next_line = time(NULL) + 2};
+void open_map(struct map *map, const struct job *job, const struct region *region, const struct basis *basis) {
+    const struct kept *kept = basis->kept;
+    const struct ledger *ledger = basis->ledger;
+    *map = (struct map){.region = *region, .total = region->blocks, .next_line = time(NULL) + 2, .basis = *basis};
     struct job its = *job;
-    its.server = is_state(state, length) ? server_of_state(state) : 0;
-    map->drive = start_drive("map", run, &its, CHILD_READS | CHILD_WRITES);
-    feed(&map->drive, state, length);
+    its.server = is_state(kept->state, kept->length) ? server_of_state(kept->state) : 0;
+    map->drive = start_drive(basis->command, kept->run, &its, CHILD_READS | CHILD_WRITES);
+    if (!ledger || !strcmp(basis->command, "ledger")) feed(&map->drive, kept->state, kept->length);
+    if (ledger) feed(&map->drive, ledger->bytes, ledger->length);
     int error = pthread_create(&map->reader, NULL, read_all_lines, map);
     if (error) give_up("threads", strerror(error));
 }
@@ -85,10 +88,27 @@ bool map_missed(struct map *map) {
     return write_all(map->drive.to, "", 1) == 0;
 }
 
+/* Cuts the ledger off, whose bytes may be any, and which stands behind a line that says how many. */
+static void cut_ledger_off(struct map *map) {
+    char *line = map->text, *end = map->text + map->length, *behind;
+    size_t length;
+    while (line < end && strncmp(line, "ledger ", 7)) {
+        behind = memchr(line, '\n', (size_t)(end - line));
+        line = behind ? behind + 1 : end;
+    }
+    if (line == end) return;
+    behind = memchr(line, '\n', (size_t)(end - line));
+    if (!behind || sscanf(line, "ledger %zu\n", &length) != 1 || (size_t)(end - behind - 1) != length) give_up("drive", "it ended within its ledger");
+    map->ledger = (const uint8_t *)behind + 1, map->ledger_length = length;
+    map->length = (size_t)(line - map->text);
+    *line = 0;
+}
+
 void await_map(struct map *map) {
     end_input(&map->drive);
     pthread_join(map->reader, NULL);
     if (wait_for(&map->drive) < 0) give_up("drive", "it was killed");
+    if (map->basis.ledger) cut_ledger_off(map);
 }
 
 const char *report_of_map(const struct map *map) {
@@ -113,6 +133,11 @@ void print_map(const struct map *map, bool is_whole) {
     fwrite(map->text, 1, (size_t)(line - map->text), stdout);
     if (!is_short) printf("unchecked %" PRIu64 " blocks, which a map tells", count_unchecked(line));
     fputs(is_short ? line : line + length, stdout);
+}
+
+void keep_ledger_of(const struct map *map, const char drive[MAX_DRIVE]) {
+    if (map->ledger) keep_ledger(&map->basis, &map->region, drive, map->ledger, map->ledger_length);
+    else say("%s: this check gave no ledger: the one before it stands", map->basis.ledger->path);
 }
 
 void free_map(struct map *map) {

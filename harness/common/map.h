@@ -1,9 +1,11 @@
-/* What `drive map` says of a target's blocks: those that are at fault, and what each holds. */
+/* What `drive map` says of a target's blocks, or `drive ledger`: those that are at fault, and what each
+ * holds. */
 #ifndef MAP_H
 #define MAP_H
 
 #include "child.h"
 #include "job.h"
+#include "ledger.h"
 #include "region.h"
 
 #include <pthread.h>
@@ -15,14 +17,18 @@ struct map {
     struct child drive;
     struct region region;
     pthread_t reader; /* takes what `drive` says while it is still given blocks */
-    char *text;       /* all of that, with a 0 behind it */
+    char *text;       /* all of that, with a 0 behind it; once it is awaited without the ledger */
     size_t length;
+    struct basis basis;
+    const uint8_t *ledger; /* the one behind the check, where `drive` gave one, or NULL */
+    size_t ledger_length;
     uint64_t seen, total; /* blocks that were given, and those of the region */
     int64_t next_line;    /* when it is said next how far it is */
 };
 
-/* Starts `drive map`, and gives it the job file and the state, of length 0 for none. */
-void open_map(struct map *map, uint64_t run, const struct job *job, const struct region *region, const uint8_t *state, size_t length);
+/* Starts `drive`, and gives it the job file and what it checks by, which stays there until the map is
+ * awaited. */
+void open_map(struct map *map, const struct job *job, const struct region *region, const struct basis *basis);
 
 /* Gives it the next blocks, whole; and tells it that the next one can't be read. False once it
  * reads no more. */
@@ -38,6 +44,10 @@ void print_map(const struct map *map, bool is_whole);
 
 /* The last line of what it said: the report, or why there is none. */
 const char *report_of_map(const struct map *map);
+
+/* Keeps the ledger that `drive` gave behind the check of this drive; where it gave none, says so, and
+ * the one before it stands. What the check found has to be told and kept before: a loss is told once. */
+void keep_ledger_of(const struct map *map, const char drive[MAX_DRIVE]);
 
 void free_map(struct map *map);
 

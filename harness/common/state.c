@@ -3,7 +3,7 @@
 #include "bytes.h"
 #include "keeping.h"
 #include "say.h"
-#include "sum.h"
+#include "sealed.h"
 
 #include <endian.h>
 #include <errno.h>
@@ -19,14 +19,12 @@
 /* Where a state's run stands: behind four letters. */
 enum { RUN_AT = 4, SHORTEST = RUN_AT + 8 };
 
-/* How the file begins, with the sum of all that stands behind this; and how a bare state does. */
-#define MAGIC "fiocut state 1\nsum "
-#define BARE "FCV"
-enum { FRONT = sizeof MAGIC - 1 + 9 };
+/* How the file begins; and how a bare state does. */
+static const char WHAT[] = "fiocut state 1", BARE[] = "FCV";
 
-/* What stands behind that: lines, and behind the last one the job file and the state. */
-#define FORM "run %" PRIu64 "\njob %" PRIu64 "\nregion offset %" PRIu64 " stride %" PRIu64 " block %" PRIu64 " blocks %" PRIu64 "\ndrive %s\nboot %s\nway %s\nkept %s\ntext %zu\nstate %zu\n\n"
-#define SCANNED "run %" SCNu64 "\njob %" SCNu64 "\nregion offset %" SCNu64 " stride %" SCNu64 " block %" SCNu64 " blocks %" SCNu64 "\ndrive%*1[ ]%255[^\n]\nboot%*1[ ]%39[^\n]\nway%*1[ ]%63[^\n]\nkept %31[^\n]\ntext %zu\nstate %zu\n%n"
+/* What stands behind that and its sum: lines, and behind the last one the job file and the state. */
+#define FORM "run %" PRIu64 "\njob %" PRIu64 "\n" REGION_FORM "boot %s\nway %s\nkept %s\ntext %zu\nstate %zu\n\n"
+#define SCANNED "run %" SCNu64 "\njob %" SCNu64 "\n" REGION_SCANNED "boot%*1[ ]%39[^\n]\nway%*1[ ]%63[^\n]\nkept %31[^\n]\ntext %zu\nstate %zu"
 
 uint64_t draw_number(void) {
     uint64_t number = 0;
@@ -35,23 +33,13 @@ uint64_t draw_number(void) {
     return number;
 }
 
-static bool is_same(const struct stat *is, const char *other) {
-    struct stat its;
-    return other && stat(other, &its) == 0 && is->st_dev == its.st_dev && is->st_ino == its.st_ino;
-}
-
 void refuse_place(const char *place, const char *job_file, const char *target) {
-    struct stat is;
-    char front[FRONT] = "";
-    if (stat(place, &is)) {
-        if (errno == ENOENT) return;
-        give_up_by_errno(place);
-    }
-    if (!S_ISREG(is.st_mode)) give_up(place, "it is no file: no state is kept there");
-    if (is_same(&is, target)) give_up(place, "it is the target: no state is kept there");
-    if (is_same(&is, job_file)) give_up(place, "it is the job file: no state is kept there");
-    if (read_file(place, front, sizeof front) < 0) give_up_by_errno(place);
-    if (is.st_size && strncmp(front, BARE, strlen(BARE)) && strncmp(front, MAGIC, strlen(MAGIC))) give_up(place, "it holds what is no state: none is kept there");
+    uint8_t front[sizeof WHAT + 8] = {0};
+    const struct in_use others[] = {{target, "the target"}, {job_file, "the job file"}, {NULL, NULL}};
+    if (is_free(place, "state", others)) return;
+    ssize_t length = read_file(place, front, sizeof front);
+    if (length < 0) give_up_by_errno(place);
+    if (length && memcmp(front, BARE, strlen(BARE)) && !is_called(WHAT, front, (size_t)length)) give_up(place, "it holds what is no state: none is kept there");
 }
 
 void put_aside(const char *state) {
@@ -68,29 +56,26 @@ struct kept kept_of(uint64_t run, const struct job *job, const struct region *re
     return kept;
 }
 
-/* What may be nothing stands as a dash. */
-static const char *or_dash(const char *text) {
-    return *text ? text : "-";
-}
-
-static void take_dash(char *text) {
-    if (!strcmp(text, "-")) *text = 0;
+void tell_moment(char when[MAX_WHEN]) {
+    struct timespec now;
+    char seconds[MAX_WHEN];
+    clock_gettime(CLOCK_REALTIME, &now);
+    strftime(seconds, sizeof seconds, "%Y-%m-%dT%H:%M:%S", gmtime(&now.tv_sec));
+    snprintf(when, MAX_WHEN, "%.19s.%06uZ", seconds, (unsigned)(now.tv_nsec / 1000) % 1000000);
 }
 
 size_t spell_kept(struct kept *kept, uint8_t bytes[MAX_KEPT]) {
     const struct region *region = &kept->region;
-    char *lines = (char *)bytes + FRONT;
-    time_t now = time(NULL);
-    if (!*kept->when) strftime(kept->when, sizeof kept->when, "%Y-%m-%dT%H:%M:%SZ", gmtime(&now));
-    size_t length = (size_t)snprintf(lines, MAX_KEPT - FRONT, FORM, kept->run, kept->job, region->offset, region->stride, region->block_size, region->blocks, or_dash(kept->drive), or_dash(kept->boot), or_dash(kept->way), kept->when,
+    const size_t front = front_of(WHAT);
+    char *lines = (char *)bytes + front;
+    if (!*kept->when) tell_moment(kept->when);
+    size_t length = (size_t)snprintf(lines, MAX_KEPT - front, FORM, kept->run, kept->job, region->offset, region->stride, region->block_size, region->blocks, or_dash(kept->drive), or_dash(kept->boot), or_dash(kept->way), kept->when,
                                      kept->text_length, kept->length);
     memcpy(lines + length, kept->text, kept->text_length);
     memcpy(lines + length + kept->text_length, kept->state, kept->length);
     length += kept->text_length + kept->length;
-    char front[FRONT + 1];
-    snprintf(front, sizeof front, MAGIC "%08" PRIx32 "\n", sum_over(0, lines, length));
-    memcpy(bytes, front, FRONT);
-    return FRONT + length;
+    seal(WHAT, bytes, length);
+    return front + length;
 }
 
 void keep_state(const char *path, struct kept *kept) {
@@ -101,10 +86,11 @@ void keep_state(const char *path, struct kept *kept) {
 /* Takes what stands behind the sum. Returns whether it is all there. */
 static bool take_lines(char *lines, size_t length, struct kept *kept) {
     struct region *region = &kept->region;
-    int used = 0;
     lines[length] = 0; /* (there is room for it, and numbers end before the job file does) */
-    int count = sscanf(lines, SCANNED, &kept->run, &kept->job, &region->offset, &region->stride, &region->block_size, &region->blocks, kept->drive, kept->boot, kept->way, kept->when, &kept->text_length, &kept->length, &used);
-    if (count != 12 || kept->text_length > sizeof kept->text || kept->length > sizeof kept->state || (size_t)used + kept->text_length + kept->length != length) return false;
+    const char *end = strstr(lines, "\n\n"); /* (a job file may begin with white space) */
+    size_t used = end ? (size_t)(end + 2 - lines) : 0;
+    int count = sscanf(lines, SCANNED, &kept->run, &kept->job, &region->offset, &region->stride, &region->block_size, &region->blocks, kept->drive, kept->boot, kept->way, kept->when, &kept->text_length, &kept->length);
+    if (count != 12 || kept->text_length > sizeof kept->text || kept->length > sizeof kept->state || used + kept->text_length + kept->length != length) return false;
     memcpy(kept->text, lines + used, kept->text_length);
     memcpy(kept->state, lines + used + kept->text_length, kept->length);
     take_dash(kept->drive), take_dash(kept->boot), take_dash(kept->way);
@@ -124,12 +110,10 @@ static const char *take_bare(const uint8_t *bytes, size_t length, struct kept *k
 
 /* Takes the bytes of a file. Returns why they are none that were kept, or NULL. */
 static const char *take_bytes(uint8_t *bytes, size_t length, struct kept *kept) {
-    char sum[9] = "";
+    const size_t front = front_of(WHAT);
     *kept = (struct kept){0};
-    if (length < FRONT || memcmp(bytes, MAGIC, strlen(MAGIC))) return take_bare(bytes, length, kept);
-    snprintf(sum, sizeof sum, "%08" PRIx32, sum_over(0, bytes + FRONT, length - FRONT));
-    bool is_right = !memcmp(bytes + strlen(MAGIC), sum, 8) && bytes[FRONT - 1] == '\n';
-    return is_right && take_lines((char *)bytes + FRONT, length - FRONT, kept) ? NULL : "its bytes aren't those that were kept";
+    if (!is_called(WHAT, bytes, length)) return take_bare(bytes, length, kept);
+    return is_sealed(WHAT, bytes, length) && take_lines((char *)bytes + front, length - front, kept) ? NULL : "its bytes aren't those that were kept";
 }
 
 bool is_kept(const char *path, struct kept *kept) {

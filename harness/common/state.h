@@ -12,7 +12,7 @@
 #include <stdint.h>
 
 /* A state has at most 4,196 bytes, and a job file 16,384. */
-enum { MAX_STATE = 4196, MAX_JOB_TEXT = 16384, MAX_KEPT = 32768 };
+enum { MAX_STATE = 4196, MAX_JOB_TEXT = 16384, MAX_KEPT = 32768, MAX_WHEN = 32 };
 
 /* A state, and which run of which job it is of, where that wrote, and to which drive. */
 struct kept {
@@ -21,7 +21,7 @@ struct kept {
     char drive[MAX_DRIVE]; /* as `tell_drive` tells it; nothing where that isn't known */
     char boot[MAX_BOOT];   /* of the machine that wrote, by then; nothing where that isn't known */
     char way[MAX_WAY];     /* what its writes rested on; nothing where that isn't known */
-    char when[32];         /* when it was kept */
+    char when[MAX_WHEN];   /* when it was kept, to the microsecond: a later moment is a greater text */
     bool is_bare;          /* the file has the state alone, and none of the rest but the run */
     size_t text_length, length;
     char text[MAX_JOB_TEXT]; /* the job file */
@@ -31,6 +31,9 @@ struct kept {
 /* Draws a number, of 64 random bits and not 0: no two runs have one, whatever their states are
  * called and wherever they lie. */
 uint64_t draw_number(void);
+
+/* What time it is, as a state's file says it. */
+void tell_moment(char when[MAX_WHEN]);
 
 /* Refuses to keep a state in the place of anything but an earlier one: a device, the target, the
  * job file, or other bytes. The target is NULL where it lies on another machine. */

@@ -166,3 +166,10 @@ struct target open_to_read(const struct opening *opening) {
     bool is_new;
     return open_target(opening, false, &is_new);
 }
+
+void flush_target(const struct target *target) {
+    char why[128];
+    if (fsync(target->fd) == 0) return;
+    snprintf(why, sizeof why, CANT_FLUSH ": %s", strerror(errno));
+    give_up(target->name, why);
+}

@@ -52,4 +52,11 @@ bool may_tear(const struct target *target, uint64_t block_size);
 /* Opens a target for a check. */
 struct target open_to_read(const struct opening *opening);
 
+/* What is said of a target whose cache can't be written out. */
+#define CANT_FLUSH "it can't be flushed"
+
+/* Has its cache written out, so that what is read from then on stays. Where it can't be, the harness
+ * gives up. */
+void flush_target(const struct target *target);
+
 #endif

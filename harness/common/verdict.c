@@ -12,12 +12,11 @@
 
 /* The run whose whole write a line says that its block holds, or 0. */
 static uint64_t other_run_in(const char *line, int length) {
-    char text[512];
+    char text[512], kind[32];
     uint64_t block;
-    int used = 0;
     snprintf(text, sizeof text, "%.*s", length, line);
-    sscanf(text, "block %" SCNu64 " other-run:%n", &block, &used);
-    const char *holds = used ? strstr(text, ", holds write ") : NULL, *run = holds ? strstr(holds, " of run ") : NULL;
+    bool is_other = sscanf(text, "block %" SCNu64 " %31[a-z-]:", &block, kind) == 2 && (!strcmp(kind, "other-run") || !strcmp(kind, "at-rest"));
+    const char *holds = is_other ? strstr(text, ", holds write ") : NULL, *run = holds ? strstr(holds, " of run ") : NULL;
     return run ? strtoull(run + strlen(" of run "), NULL, 10) : 0;
 }
 
@@ -33,15 +32,13 @@ static uint64_t other_run_of(const char *text, const char *end) {
 }
 
 struct verdict verdict_of(const struct map *map) {
-    const char *report = report_of_map(map), *unread;
+    const char *report = report_of_map(map);
     struct verdict verdict = {0};
-    uint64_t missed = 0;
     if (sscanf(report, "report checked %" SCNu64 " faults %" SCNu64, &verdict.checked, &verdict.faults) != 2) return verdict;
     verdict.is_report = !strstr(report, " end read ");
     kinds_of(report, verdict.kinds);
-    unread = strstr(verdict.kinds, "unread ");
-    if (unread) sscanf(unread, "unread %" SCNu64, &missed);
-    verdict.checked += missed, verdict.faults += missed;
+    verdict.at_rest = count_of_kind(verdict.kinds, "at-rest"), verdict.unread = count_of_kind(verdict.kinds, "unread");
+    verdict.checked += verdict.unread, verdict.faults += verdict.unread;
     verdict.other_run = other_run_of(map->text, report);
     return verdict;
 }
@@ -92,17 +89,31 @@ static void spell_kinds(const char *kinds, char text[2 * KIND_WORDS]) {
     text[used] = 0;
 }
 
+void spell_losses(const struct verdict *verdict, char text[MAX_LOSSES]) {
+    snprintf(text, MAX_LOSSES, "%" PRIu64 " lost in flight, %" PRIu64 " lost at rest", verdict->faults - verdict->at_rest - verdict->unread, verdict->at_rest);
+    if (verdict->unread) snprintf(text + strlen(text), MAX_LOSSES - strlen(text), ", %" PRIu64 " unread", verdict->unread);
+}
+
+/* What faults come to, in one line. */
+static void tell_faults(const struct map *map, const struct verdict *verdict, const char *since) {
+    char kinds[2 * KIND_WORDS], losses[MAX_LOSSES];
+    spell_kinds(verdict->kinds, kinds);
+    spell_losses(verdict, losses);
+    printf("faults: %" PRIu64 " of %" PRIu64 " blocks checked%s%s (%s)%s\n", verdict->faults, verdict->checked, map->basis.ledger ? ": " : "", map->basis.ledger ? losses : "", kinds, since);
+    if (!verdict->other_run) return;
+    printf("all of these hold run %" PRIu64 ": %s\n", verdict->other_run, verdict->at_rest ? "if it wrote there since, it has to be taken into the ledger first, without its state by --lost" : "this may be the state of another run, or of another target");
+}
+
 int tell_verdict(const struct map *map, const char *state, const struct kept *kept, const char boot[MAX_BOOT]) {
     const struct verdict verdict = verdict_of(map);
     int status = status_of(&verdict, state, kept);
-    char path[PATH_MAX], kinds[2 * KIND_WORDS];
-    spell_kinds(verdict.kinds, kinds);
+    char path[PATH_MAX];
+    const char *since = cut_since(kept, boot);
     if (!verdict.is_report) printf("not checked whole%s\n", verdict.checked ? ": what was read ends before the region does" : "");
     else if (status == STATUS_NO_VERDICT && verdict.faults && is_written_over(&verdict, state, kept, path)) printf("no verdict: a later run has written over %" PRIu64 " of %" PRIu64 " blocks: run %" PRIu64 ", whose state is %s\n", verdict.faults, verdict.checked, verdict.other_run, path);
-    else if (status == STATUS_NO_VERDICT) printf("no verdict: by that state no block had to hold anything\n");
-    else if (status == STATUS_SOUND) printf("sound: %" PRIu64 " blocks checked, 0 faults%s\n", verdict.checked, cut_since(kept, boot));
-    else printf("faults: %" PRIu64 " of %" PRIu64 " blocks checked (%s)%s\n", verdict.faults, verdict.checked, kinds, cut_since(kept, boot));
-    if (status == STATUS_FAULTS && verdict.other_run) printf("all of these hold run %" PRIu64 ": this may be the state of another run, or of another target\n", verdict.other_run);
+    else if (status == STATUS_NO_VERDICT) printf("no verdict: by that %s no block had to hold anything\n", map->basis.ledger ? "ledger" : "state");
+    else if (status == STATUS_SOUND) printf("sound: %" PRIu64 " blocks checked, 0 faults%s\n", verdict.checked, since);
+    else tell_faults(map, &verdict, since);
     if (fflush(stdout)) give_up_by_errno("standard output");
     return status;
 }

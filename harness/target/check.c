@@ -4,6 +4,7 @@
 #include "dump.h"
 #include "flight.h"
 #include "identity.h"
+#include "ledger.h"
 #include "map.h"
 #include "reading.h"
 #include "say.h"
@@ -14,21 +15,32 @@
 
 /* What a target is checked by, and the target. */
 struct subject {
-    struct kept kept; /* of no state in a full pass */
+    struct kept kept; /* of no state in a full pass, and where that was lost */
+    struct ledger ledger;
+    struct basis basis;
     struct region region;
     struct target target;
+    char drive[MAX_DRIVE];
     struct map map;
 };
 
+static void open_ledger(struct subject *subject, const struct options *options) {
+    const char *state = has_no_state(options) ? NULL : options->state, *drive = options->other_drive ? "" : subject->drive;
+    refuse_ledger_place(options->ledger, options->job_file, state, options->opening.name);
+    subject->ledger = ledger_to_check(options->ledger, &subject->region, drive, state, &subject->kept);
+    flush_target(&subject->target);
+}
+
 static void open_subject(struct subject *subject, const struct options *options, const struct job *job) {
-    bool is_full = is_full_pass(options);
-    if (!is_full) read_kept(options->state, &subject->kept);
-    subject->region = is_full ? region_of(job, options->offset, options->stride) : region_to_check(options->state, &subject->kept, job, options->offset, options->stride);
-    if (options->run) subject->kept.run = options->run;
+    bool has_state = !has_no_state(options);
+    if (has_state) read_kept(options->state, &subject->kept);
+    subject->region = has_state ? region_to_check(options->state, &subject->kept, job, options->offset, options->stride) : region_of(job, options->offset, options->stride);
+    if (options->run || options->lost) subject->kept.run = options->run ? options->run : draw_number();
     subject->target = open_to_read(&options->opening);
-    char drive[MAX_DRIVE];
-    tell_drive(&subject->target, drive);
-    if (!options->other_drive) refuse_other_drive(options->state, &subject->kept, drive);
+    tell_drive(&subject->target, subject->drive);
+    if (!options->other_drive) refuse_other_drive(options->state, &subject->kept, subject->drive);
+    if (options->ledger) open_ledger(subject, options);
+    subject->basis = basis_of(&subject->kept, options->ledger ? &subject->ledger : NULL, options->lost);
     if (subject->target.size < end_of(&subject->region))
         say("%s: it ends after %" PRIu64 " bytes, before the job's region does", subject->target.name, subject->target.size);
 }
@@ -64,13 +76,15 @@ int check_target(const struct options *options, const struct job *job) {
     static struct subject subject;
     char boot[MAX_BOOT];
     open_subject(&subject, options, job);
-    open_map(&subject.map, subject.kept.run, job, &subject.region, subject.kept.state, subject.kept.length);
+    open_map(&subject.map, job, &subject.region, &subject.basis);
     read_region(&subject.target, &subject.region, &(struct sink){&subject, give_blocks, pass_over});
     await_map(&subject.map);
     print_map(&subject.map, options->command == MAP);
     tell_boot(boot);
     int status = tell_verdict(&subject.map, options->state, &subject.kept, boot);
     dump_target(&subject, options, job);
+    if (options->ledger) keep_ledger_of(&subject.map, subject.drive);
+    free_ledger(&subject.ledger);
     free_map(&subject.map);
     return status;
 }

@@ -32,6 +32,9 @@ static const char USAGE[] =
     "  --run N           checks as run N, which a full pass has to say\n"
     "  --unit BYTES      the target writes so many bytes whole, and not a block\n"
     "  --dump N          keeps the bytes of the first N faulty blocks, and of the writes that they may hold, beside STATE\n"
+    "  --ledger FILE     also checks what was sound before and no run has written since, by the ledger that FILE keeps, and keeps\n"
+    "                    the one behind this check there; the target is flushed first\n"
+    "  --lost            with --ledger, and - for the state: a run of this job whose state was lost\n"
     "  --other-drive     checks another drive than the one that the run wrote to, as one with a copy of it\n"
     "all:\n"
     "  --offset BYTES    where the first block begins, 0 else; --stride BYTES: from one block's front to the next\n"
@@ -55,6 +58,15 @@ static enum command read_command(int count, char **words) {
     return command;
 }
 
+/* Refuses options that don't go together. */
+static void refuse_unfit(const struct options *read) {
+    if (read->command == WRITE && has_no_state(read)) give_up("-", "a state is kept in a file");
+    if (read->lost && !(read->ledger && has_no_state(read))) give_up("--lost", "this wants --ledger, and - for the state");
+    if (read->ledger && read->unit) give_up("--unit", "a ledger goes by whole blocks: it isn't to be had with --ledger yet");
+    if (read->command != WRITE && has_no_state(read) && !read->lost && read->run == 0) give_up("-", "a full pass wants --run, the number of the run that wrote");
+    if (read->dump && has_no_state(read)) give_up("--dump", "there is no state's file beside which bytes could be kept");
+}
+
 struct options read_options(int count, char **words) {
     struct options read = {.command = read_command(count, words)};
     const struct option all[] = {
@@ -74,6 +86,8 @@ struct options read_options(int count, char **words) {
         {"--run", 0, &read.run, 0, CHECK | MAP | FROM_1},
         {"--unit", 0, &read.unit, 0, CHECK | MAP | FROM_1},
         {"--dump", 0, &read.dump, 0, CHECK | MAP},
+        {"--ledger", &read.ledger, 0, 0, CHECK | MAP},
+        {"--lost", 0, 0, &read.lost, CHECK | MAP},
         {"--other-drive", 0, 0, &read.other_drive, CHECK | MAP},
         {"--offset", 0, &read.offset, 0, WRITE | CHECK | MAP},
         {"--stride", 0, &read.stride, 0, WRITE | CHECK | MAP | FROM_1},
@@ -82,12 +96,10 @@ struct options read_options(int count, char **words) {
     };
     read.job_file = words[2], read.opening.name = words[3], read.state = words[4];
     read_words(all, (int)read.command, count - 5, words + 5);
-    if (read.command != WRITE && is_full_pass(&read) && read.run == 0) give_up("-", "a full pass wants --run, the number of the run that wrote");
-    if (read.command == WRITE && is_full_pass(&read)) give_up("-", "a state is kept in a file");
-    if (read.dump && is_full_pass(&read)) give_up("--dump", "there is no state's file beside which bytes could be kept");
+    refuse_unfit(&read);
     return read;
 }
 
-bool is_full_pass(const struct options *options) {
+bool has_no_state(const struct options *options) {
     return strcmp(options->state, "-") == 0;
 }

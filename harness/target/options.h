@@ -21,13 +21,16 @@ struct options {
     uint64_t dump;  /* the bytes of so many faulty blocks are kept */
     struct way way; /* of a write: what it rests on */
     bool other_drive; /* a check takes another drive than the run's */
+    const char *ledger; /* the file that keeps one, or NULL: a check goes by it, too */
+    bool lost;          /* the run's state was lost */
 };
 
 /* Reads the command line. Where it can't be read, the harness says how it goes, or what is wrong,
  * and ends. */
 struct options read_options(int count, char **words);
 
-/* Whether the state's place is `-`, which stands for none: a full pass. */
-bool is_full_pass(const struct options *options);
+/* Whether the state's place is `-`, which stands for none: a full pass, or a run whose state was
+ * lost. */
+bool has_no_state(const struct options *options);
 
 #endif

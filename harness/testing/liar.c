@@ -3,23 +3,26 @@
  * LIE=KIND:EVERY[:FROM] harms each EVERYth write of a block, from the FROMth on. Kinds: lost; torn,
  * its first half alone; misdirected, to the block behind it; flipped, its last bit; late, behind
  * LIE_HELD further writes; failed, and not made; fallen, failed once the file LIE_UNTIL is there,
- * with LIE_FALLS_SLOWLY after seven seconds;
- * doubtful, failed but made; short, half of it written and told; slow, it takes a while, and with
- * LIE_ENDS a line `came` tells its end; stalled,
- * it never comes back; cut, nor does it, and its first half is made, or of an atomic write all or
- * nothing, by turns (atomic_liar.c). LIE=cached:N is a drive with a volatile cache of
- * N blocks: each write is told at once, whatever O_DSYNC says, and another one, by chance, makes
- * room for it; LIE_FLUSHES has fdatasync empty it. As its process ends, it loses the rest.
- * LIE_FLUSH_FAILS=N has the Nth fdatasync of the target empty nothing and fail. LIE_LOG=FILE has a
- * line for each: `KIND BLOCK WRITE`, in the order in which they were told: `made` or `atomic` for
- * one that isn't harmed; LIE_SYNCS has it tell
- * each fsync, too: `synced PATH`. LIE_UNREADABLE=BYTE fails each read of the target that has this
- * byte, and LIE_READS_FALL each one while the file LIE_UNTIL is there. LIE_TARGET=NAME is the end of the target's path. LIE_PIECES has standard output take five
- * bytes at a time, with other threads' turn behind them. The kernel's io_uring passes a library by:
- * LIE_RING has one of this library's own in its place (ring_liar.c), and without it there is none, so
- * that the harness writes by threads. LIE_DIES=N kills the process behind the Nth flush by that.
- * LIE_LEAVES=link kills it once it has given a file a second name, and LIE_LEAVES=rename once it has
- * put another file in the place of one, behind that. */
+ * with LIE_FALLS_SLOWLY after seven seconds; doubtful, failed but made; short, half of it written
+ * and told; slow, it takes a while, and with LIE_ENDS a line `came` tells its end; stalled, it
+ * never comes back; cut, nor does it, and its first half is made, or of an atomic write all or
+ * nothing, by turns (atomic_liar.c); forgotten, made, but with each of them the target loses a
+ * block that this process hasn't written, as a line `forgotten` tells (forgetting.c). LIE=cached:N
+ * is a drive with a volatile cache of N blocks: each write is told at once, whatever O_DSYNC says,
+ * and another one, by chance, makes room for it; LIE_FLUSHES has fdatasync empty it. As its process
+ * ends, it loses the rest. LIE_FLUSH_FAILS=N has the Nth fdatasync of the target empty nothing and
+ * fail, and LIE_SYNC_FAILS each fsync of it. LIE_LOG=FILE has a line for each: `KIND BLOCK WRITE`,
+ * in the order in which they were told: `made` or `atomic` for one that isn't harmed; LIE_SYNCS has
+ * it tell each fsync, too: `synced PATH`, and LIE_READS each read of the target: `read PATH`.
+ * LIE_UNREADABLE=BYTE fails each read of the target that has this byte, and LIE_READS_FALL each one
+ * while the file LIE_UNTIL is there. LIE_TARGET=NAME is the end of the target's path. LIE_PIECES
+ * has standard output take five bytes at a time, with other threads' turn behind them. The kernel's
+ * io_uring passes a library by: LIE_RING has one of this library's own in its place (ring_liar.c),
+ * and without it there is none, so that the harness writes by threads. LIE_DIES=N kills the process
+ * behind the Nth flush by that. LIE_LEAVES=link kills it once it has given a file a second name,
+ * and LIE_LEAVES=rename once it has put another file in the place of one, behind that.
+ * LIE_STOPS=before/NAME kills it before it puts a file at a place of that name,
+ * LIE_STOPS=behind/NAME behind that. */
 #include "liar.h"
 
 #include <dlfcn.h>
@@ -38,9 +41,6 @@
 #include <unistd.h>
 
 enum { MAX_HELD = 4096, WRITE_AT = 16, SLOW = 500000 };
-
-typedef ssize_t writer(int, const void *, size_t, off_t);
-typedef ssize_t reader(int, void *, size_t, off_t);
 
 static pthread_mutex_t lock = PTHREAD_MUTEX_INITIALIZER;
 static writer *real_write;
@@ -104,6 +104,10 @@ static ssize_t lie(int fd, const void *bytes, size_t length, off_t at) {
         if (getenv("LIE_FALLS_SLOWLY")) sleep(7);
         return errno = EIO, -1;
     }
+    if (!strcmp(kind, "forgotten")) {
+        forget_at_rest(fd, length, real_write, real_read, note);
+        return real_write(fd, bytes, length, at);
+    }
     if (!strcmp(kind, "lost")) return (ssize_t)length;
     if (!strcmp(kind, "torn")) return real_write(fd, bytes, length / 2, at), (ssize_t)length;
     if (!strcmp(kind, "misdirected")) return real_write(fd, bytes, length, at + (off_t)length), (ssize_t)length;
@@ -161,6 +165,7 @@ int fsync(int fd) {
     if (!real) *(void **)&real = dlsym(RTLD_NEXT, "fsync");
     path_of(fd, path);
     if (noted && getenv("LIE_SYNCS")) fprintf(noted, "synced %s\n", path);
+    if (getenv("LIE_SYNC_FAILS") && is_target(fd)) return errno = EIO, -1;
     return real(fd);
 }
 
@@ -168,6 +173,14 @@ int fsync(int fd) {
 static void leave_at(const char *step) {
     const char *leaves = getenv("LIE_LEAVES");
     if (leaves && !strcmp(leaves, step)) kill(getpid(), SIGKILL);
+}
+
+/* The same where it is to leave before it puts a file at this place, or behind that. */
+static void leave_beside(const char *when, const char *place) {
+    const char *leaves = getenv("LIE_STOPS");
+    size_t length = strlen(when), end = leaves ? strlen(leaves) : 0;
+    if (end <= length || strncmp(leaves, when, length)) return;
+    if (strlen(place) + length >= end && !strcmp(place + strlen(place) - (end - length), leaves + length)) kill(getpid(), SIGKILL);
 }
 
 static atomic_bool has_linked;
@@ -184,8 +197,10 @@ int link(const char *from, const char *to) {
 int rename(const char *from, const char *to) {
     static int (*real)(const char *, const char *);
     if (!real) *(void **)&real = dlsym(RTLD_NEXT, "rename");
+    leave_beside("before", to);
     int answer = real(from, to);
     if (has_linked) leave_at("rename");
+    leave_beside("behind", to);
     return answer;
 }
 
@@ -233,8 +248,9 @@ ssize_t write_or_lie(int fd, const void *bytes, size_t length, off_t at, bool is
         pthread_mutex_unlock(&lock);
         return (ssize_t)length;
     }
-    int harms = every && ++count >= from && count % every == 0, cuts = harms && !strcmp(kind, "cut");
-    note(harms ? kind : is_atomic ? "atomic" : "made", bytes, length, at);
+    int harms = every && ++count >= from && count % every == 0, cuts = harms && !strcmp(kind, "cut"), forgets = !strcmp(kind, "forgotten");
+    if (forgets) note_write(length, at);
+    note(harms && !forgets ? kind : is_atomic ? "atomic" : "made", bytes, length, at);
     *never = cuts || (harms && !strcmp(kind, "stalled"));
     if (cuts) cut_within(fd, bytes, length, at, is_atomic);
     if (*never || (harms && !strcmp(kind, "slow"))) {
@@ -257,7 +273,8 @@ ssize_t pwrite64(int fd, const void *bytes, size_t length, off_t at) {
 }
 
 ssize_t pread64(int fd, void *bytes, size_t length, off_t at) {
-    const char *bad = getenv("LIE_UNREADABLE"), *until = getenv("LIE_UNTIL");
+    const char *bad = getenv("LIE_UNREADABLE"), *until = getenv("LIE_UNTIL"), *name = getenv("LIE_TARGET");
+    if (noted && getenv("LIE_READS") && is_target(fd)) fprintf(noted, "read %s\n", name);
     if (getenv("LIE_READS_FALL") && until && is_target(fd) && access(until, F_OK) == 0) return errno = EIO, -1;
     if (bad && is_target(fd) && at <= atoll(bad) && atoll(bad) < at + (off_t)length) return errno = EIO, -1;
     return real_read(fd, bytes, length, at);

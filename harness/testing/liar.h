@@ -10,6 +10,15 @@ enum { ATOMIC = 0x40 };
 
 bool is_target(int fd);
 
+typedef ssize_t writer(int, const void *, size_t, off_t);
+typedef ssize_t reader(int, void *, size_t, off_t);
+typedef void teller(const char *what, const void *bytes, size_t length, off_t at);
+
+/* Notes that this process has written a block; and has the target lose the next one that it hasn't,
+ * where that holds anything. */
+void note_write(size_t length, off_t at);
+void forget_at_rest(int fd, size_t length, writer *write_block, reader *read_block, teller *tell);
+
 /* Makes a write as pwrite does, or lies about it. `never`: it doesn't come back. */
 ssize_t write_or_lie(int fd, const void *bytes, size_t length, off_t at, bool is_atomic, bool *never);
 

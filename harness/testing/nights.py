@@ -92,9 +92,9 @@ def no_cuts():
     tell("by the word of --off", (status, [it["cut"] for it in rows_of("trusted")], len(last_lines(printed))), (0, ["word", "word"], 2))
     tell("each line says whose word it is", [", cut by the word of --off, " in it for it in cycles_in(printed)], [True, True])
     rows = rows_of("trusted")
-    due = f"sound: {sum(it['checked'] for it in rows)} blocks checked, 0 faults; 2 cuts by the word of --off, {sum(it['in_flight'] > 0 for it in rows)} with writes in flight ({sum(it['in_flight'] for it in rows)} in all), 0 cycles without a cut"
+    due = f"sound: {sum(it['checked'] for it in rows)} blocks checked, 0 faults, 0 lost at rest; 2 cuts by the word of --off, {sum(it['in_flight'] > 0 for it in rows)} with writes in flight ({sum(it['in_flight'] for it in rows)} in all), 0 cycles without a cut"
     tell("the last line", last_lines(printed)[0], due)
-    words = ("cycle", "long.fio", "mixed", *link("nm"))
+    words = ("cycle", "long.fio", "mixed", *link("nm"), "--no-ledger")
     tell("a cycle without a cut, which is checked", witness(*words, *CUT, "--every", "1..1.2", "--cycles", "1")[0], 3)
     env = {"LD_PRELOAD": LIAR, "LIE": "stalled:1", "LIE_TARGET": "/nm"}
     status, _, _ = witness(*words, *CUT, "--cycles", "2", "--trust-off", "--resume", env=env)
@@ -256,11 +256,11 @@ def nights_that_go_on():
 def kept_nights():
     """A series that is resumed begins with the power; a line that was cut short is taken away; a cycle
     that is checked later knows what was ordered; and room for its files is there before the cut."""
-    status, _, _ = witness("cycle", "long.fio", "kn", *link("kt"), *CUT, "--cycles", "2", "--trust-off")
+    status, _, _ = witness("cycle", "long.fio", "kn", *link("kt"), *CUT, "--cycles", "2", "--trust-off", "--no-ledger")
     tell("two cycles", status, 0)
     rows = rows_of("kn")
     write("kn/cycles.jsonl", b"".join(read("kn/cycles.jsonl").splitlines(True)[:1]) + b'{"cycle": 2, "ru')
-    status, printed, _ = witness("cycle", "long.fio", "kn", *link("kt"), "--off", "false", "--on", "touch on-first", *CUT[4:], "--cycles", "2", "--trust-off", "--resume")
+    status, printed, _ = witness("cycle", "long.fio", "kn", *link("kt"), "--off", "false", "--on", "touch on-first", *CUT[4:], "--cycles", "2", "--trust-off", "--resume", "--no-ledger")
     tell("resumed, with the power first", (status, os.path.exists("on-first"), len(cycles_in(printed))), (0, True, 1))
     tell("its lines are whole again", [it.get("cycle") for it in rows_of("kn")], [1, 2])
     tell("what was ordered and told is known", [rows_of("kn")[1].get(it) for it in ("run", "ordered", "told", "in_flight")], [rows[1][it] for it in ("run", "ordered", "told", "in_flight")])

@@ -142,6 +142,9 @@ def states():
     tell_has("the state on the tested drive", said, "empties that drive's cache")
     status, _, said = run("write", "two.fio", "kept", "nowhere/ks")
     tell("a folder that isn't there", (status, "nowhere/ks: No such file" in said), (2, True))
+    write("white.fio", b"\n \n" + read("two.fio"))
+    tell("a job file that begins with an empty line", run("write", "white.fio", "white", "ws")[0], 0)
+    check("a job file that begins with an empty line: its check", "white.fio", "white", "ws", [])
     job("none.fio", blocks=64, writes=64)
     env = {"LD_PRELOAD": LIAR, "LIE": "failed:1", "LIE_TARGET": "/none"}
     tell("all writes fail", run("write", "none.fio", "none", "ns", env=env)[0], 2)

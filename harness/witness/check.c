@@ -68,8 +68,8 @@ static uint64_t quiet_of(const struct options *options) {
     return options->quiet ? options->quiet : options->wait * 1000;
 }
 
-static bool map_once(const struct options *options, const struct job *job, struct link *link, const struct kept *kept, struct map *map) {
-    open_map(map, kept->run, job, &link->hello.region, kept->state, kept->length);
+static bool map_once(const struct options *options, const struct job *job, struct link *link, const struct basis *basis, struct map *map) {
+    open_map(map, job, &link->hello.region, basis);
     bool is_whole = pass_region_on(&(struct source){link, quiet_of(options)}, &(struct sink){map, give_blocks, pass_over});
     await_map(map);
     end_link(link);
@@ -84,22 +84,22 @@ static bool may_be_early(const struct options *options, const struct map *map, u
 }
 
 /* Each block of a target that isn't there any more is one that can't be read. */
-static void map_nothing(const struct job *job, const struct region *region, const struct kept *kept, const char *why, struct map *map) {
+static void map_nothing(const struct job *job, const struct region *region, const struct basis *basis, const char *why, struct map *map) {
     say("the target can't be read: %s", why);
-    open_map(map, kept->run, job, region, kept->state, kept->length);
+    open_map(map, job, region, basis);
     for (uint64_t block = 0; block < region->blocks && map_missed(map); block++) {}
     await_map(map);
 }
 
-void check_by_link(const struct options *options, const struct job *job, const struct region *region, const struct kept *kept, struct map *map, struct welcome *welcome) {
-    struct hello hello = {.depth = job->depth, .region = *region};
+void check_by_link(const struct options *options, const struct job *job, const struct region *region, const struct basis *basis, struct map *map, struct welcome *welcome) {
+    struct hello hello = {.depth = job->depth, .region = *region, .flushes = basis->ledger != NULL};
     struct link link;
     char why[MAX_WHY];
     const uint64_t since = milliseconds(), until = since + options->wait * 1000;
-    if (!options->other_drive) memcpy(hello.drive, kept->drive, MAX_DRIVE);
+    if (!options->other_drive) memcpy(hello.drive, basis->kept->drive, MAX_DRIVE);
     while (try_link(&link, options->link, &hello, job, until, why)) {
         *welcome = link.welcome;
-        bool is_whole = map_once(options, job, &link, kept, map), has_time = milliseconds() + 1000 < until;
+        bool is_whole = map_once(options, job, &link, basis, map), has_time = milliseconds() + 1000 < until;
         if (is_whole && !(has_time && may_be_early(options, map, since))) return;
         free_map(map);
         if (!has_time) give_up("the link", "it ended before the region did: nothing was checked");
@@ -107,9 +107,9 @@ void check_by_link(const struct options *options, const struct job *job, const s
         if (is_whole) pause_for(1000);
     }
     if (!*why) give_up("the link", "no agent answers");
-    if (!*hello.drive || strstr(why, "another drive") || strstr(why, "in use") || strstr(why, "at work")) give_up("the agent refuses", why);
+    if (!*hello.drive || strstr(why, "another drive") || strstr(why, "in use") || strstr(why, "at work") || strstr(why, CANT_FLUSH)) give_up("the agent refuses", why);
     *welcome = (struct welcome){0};
-    map_nothing(job, region, kept, why, map);
+    map_nothing(job, region, basis, why, map);
 }
 
 /* Reads a region by an agent, once, and hands its blocks on. Returns whether all came. */

@@ -15,7 +15,7 @@
 #include <time.h>
 #include <unistd.h>
 
-enum { MAX_LINE = 1024, MAX_SETTINGS = 1 << 17, MAX_ROOM = 1 << 20 };
+enum { MAX_SETTINGS = 1 << 17, MAX_ROOM = 1 << 20 };
 
 static const char LINES[] = "cycles.jsonl", SETTINGS[] = "settings", DRIVE[] = "drive", ROOM[] = "room";
 
@@ -24,7 +24,7 @@ void name_of(const struct folder *folder, uint64_t cycle, const char *ending, ch
     if (length >= PATH_MAX) give_up(folder->path, strerror(ENAMETOOLONG));
 }
 
-static void name_file(const struct folder *folder, const char *file, char name[PATH_MAX]) {
+void name_file(const struct folder *folder, const char *file, char name[PATH_MAX]) {
     if (snprintf(name, PATH_MAX, "%s/%s", folder->path, file) >= PATH_MAX) give_up(folder->path, strerror(ENAMETOOLONG));
 }
 
@@ -36,19 +36,9 @@ static size_t settings_of(const struct job *job, const struct region *region, ui
     return (size_t)front + job->text_length;
 }
 
-/* The number behind a name in a line, or 0. */
-static uint64_t number_in(const char *line, const char *name) {
+uint64_t number_in(const char *line, const char *name) {
     const char *found = strstr(line, name);
     return found ? strtoull(found + strlen(name), NULL, 10) : 0;
-}
-
-static void count_cycle(struct totals *totals, uint64_t checked, uint64_t faults, enum cut cut, uint64_t flying) {
-    totals->cycles++;
-    totals->checked += checked, totals->faults += faults;
-    totals->faulty += faults > 0, totals->unchecked += checked == 0;
-    totals->cuts += cut != NO_CUT, totals->trusted += cut == CUT_BY_WORD;
-    totals->judged += cut != NO_CUT && checked;
-    totals->flying_cuts += cut != NO_CUT && flying, totals->in_flight += cut != NO_CUT ? flying : 0;
 }
 
 /* What a line says of its cut. */
@@ -59,6 +49,17 @@ static enum cut cut_in(const char *line) {
     for (int cut = CUT_BY_START; found && cut > NO_CUT; cut--)
         if (!strncmp(found + 8, SHOWN[cut], strlen(SHOWN[cut]))) return (enum cut)cut;
     return NO_CUT;
+}
+
+static void count_line(struct totals *totals, const char *line) {
+    const uint64_t checked = number_in(line, "\"checked\": "), faults = number_in(line, "\"faults\": "), flying = number_in(line, "\"in_flight\": ");
+    const enum cut cut = cut_in(line);
+    totals->cycles++;
+    totals->checked += checked, totals->faults += faults, totals->at_rest += number_in(line, "\"at_rest\": ");
+    totals->faulty += faults > 0, totals->unchecked += checked == 0;
+    totals->cuts += cut != NO_CUT, totals->trusted += cut == CUT_BY_WORD;
+    totals->judged += cut != NO_CUT && checked;
+    totals->flying_cuts += cut != NO_CUT && flying, totals->in_flight += cut != NO_CUT ? flying : 0;
 }
 
 /* Counts the cycles that are over, by their lines. A line that was cut short is of a cycle that isn't
@@ -72,7 +73,7 @@ static void count_cycles(struct folder *folder) {
     long end = 0;
     if (!lines && errno != ENOENT) give_up_by_errno(name);
     while (lines && fgets(line, sizeof line, lines) && strchr(line, '\n')) {
-        count_cycle(&folder->totals, number_in(line, "\"checked\": "), number_in(line, "\"faults\": "), cut_in(line), number_in(line, "\"in_flight\": "));
+        count_line(&folder->totals, line);
         end = ftell(lines);
     }
     if (lines && (ftruncate(fileno(lines), end) || fsync(fileno(lines)))) give_up_by_errno(name);
@@ -152,33 +153,38 @@ void spell_drive(uint64_t drive, char whose[32]) {
     if (drive) snprintf(whose, 32, "drive %" PRIu64 ": ", drive);
 }
 
-static size_t line_of(const struct cycle *cycle, uint64_t drive, char line[MAX_LINE]) {
+static void spell_kept_line(const struct cycle *cycle, uint64_t drive, char line[MAX_LINE]) {
     const struct tally *tally = &cycle->tally;
-    char kinds[MAX_LINE / 4], when[32], whose[32] = "";
+    char kinds[MAX_LINE / 4], when[32], whose[32] = "", at_rest[24] = "null";
     time_t now = time(NULL);
     spell_kinds(cycle->kinds, kinds);
     strftime(when, sizeof when, "%Y-%m-%dT%H:%M:%SZ", gmtime(&now));
     if (drive) snprintf(whose, sizeof whose, "\"drive\": %" PRIu64 ", ", drive);
-    return (size_t)snprintf(line, MAX_LINE,
-                            "{%s\"cycle\": %" PRIu64 ", \"run\": \"%" PRIu64 "\", \"time\": \"%s\", \"cut_after\": %.3f, \"seconds\": %.3f, \"cut\": \"%s\", \"ordered\": %" PRIu64
-                            ", \"told\": %" PRIu64 ", \"failed\": %" PRIu64 ", \"in_flight\": %" PRIu64 ", \"checked\": %" PRIu64 ", \"faults\": %" PRIu64 ", \"kinds\": {%s}, \"way\": \"%s\"}\n",
-                            whose, cycle->number, tally->run, when, (double)cycle->cut_after / 1000, (double)tally->milliseconds / 1000, SHOWN[cycle->cut], tally->ordered,
-                            tally->told, tally->failed, in_flight(tally), cycle->checked, cycle->faults, kinds, cycle->way);
+    if (cycle->by_ledger) snprintf(at_rest, sizeof at_rest, "%" PRIu64, cycle->at_rest);
+    snprintf(line, MAX_LINE,
+             "{%s\"cycle\": %" PRIu64 ", \"run\": \"%" PRIu64 "\", \"time\": \"%s\", \"cut_after\": %.3f, \"seconds\": %.3f, \"cut\": \"%s\", \"ordered\": %" PRIu64
+             ", \"told\": %" PRIu64 ", \"failed\": %" PRIu64 ", \"in_flight\": %" PRIu64 ", \"checked\": %" PRIu64 ", \"faults\": %" PRIu64 ", \"at_rest\": %s, \"kinds\": {%s}, \"way\": \"%s\"}\n",
+             whose, cycle->number, tally->run, when, (double)cycle->cut_after / 1000, (double)tally->milliseconds / 1000, SHOWN[cycle->cut], tally->ordered,
+             tally->told, tally->failed, in_flight(tally), cycle->checked, cycle->faults, at_rest, kinds, cycle->way);
 }
 
-void keep_cycle(struct folder *folder, const struct cycle *cycle, const struct options *options) {
-    char name[PATH_MAX], line[MAX_LINE], whose[32];
-    size_t length = line_of(cycle, options->drive, line);
-    spell_drive(options->drive, whose);
+void spell_cycle(const struct cycle *cycle, const struct options *options, struct lines *lines) {
     const struct tally *tally = &cycle->tally;
+    char whose[32], at_rest[48] = "";
+    spell_drive(options->drive, whose);
+    spell_kept_line(cycle, options->drive, lines->kept);
+    if (cycle->by_ledger) snprintf(at_rest, sizeof at_rest, ", %" PRIu64 " lost at rest", cycle->at_rest);
+    snprintf(lines->printed, MAX_LINE, "%scycle %" PRIu64 ": run %" PRIu64 ", %" PRIu64 " ordered, %" PRIu64 " told, %" PRIu64 " in flight, %" PRIu64 " checked, %" PRIu64 " faults%s%s%s%s, %.1f s\n",
+             whose, cycle->number, tally->run, tally->ordered, tally->told, in_flight(tally), cycle->checked, cycle->faults, *cycle->kinds ? ": " : "", cycle->kinds, at_rest,
+             cycle->cut == NO_CUT ? ", no cut" : cycle->cut == CUT_BY_WORD ? ", cut by the word of --off" : "", (double)tally->milliseconds / 1000);
+}
+
+void keep_cycle(struct folder *folder, const struct lines *lines, const struct options *options) {
+    char name[PATH_MAX];
     name_file(folder, LINES, name);
     int fd = open(name, O_WRONLY | O_CREAT | O_APPEND | O_CLOEXEC, 0644);
-    if (fd < 0 || write_all(fd, line, length) || fsync(fd) || close(fd) || sync_folder(name)) give_up_by_errno(name);
-    count_cycle(&folder->totals, cycle->checked, cycle->faults, cycle->cut, in_flight(tally));
-    if (options->json) fputs(line, stdout);
-    else
-        printf("%scycle %" PRIu64 ": run %" PRIu64 ", %" PRIu64 " ordered, %" PRIu64 " told, %" PRIu64 " in flight, %" PRIu64 " checked, %" PRIu64 " faults%s%s%s, %.1f s\n",
-               whose, cycle->number, tally->run, tally->ordered, tally->told, in_flight(tally), cycle->checked, cycle->faults, *cycle->kinds ? ": " : "", cycle->kinds,
-               cycle->cut == NO_CUT ? ", no cut" : cycle->cut == CUT_BY_WORD ? ", cut by the word of --off" : "", (double)tally->milliseconds / 1000);
+    if (fd < 0 || write_all(fd, lines->kept, strlen(lines->kept)) || fsync(fd) || close(fd) || sync_folder(name)) give_up_by_errno(name);
+    count_line(&folder->totals, lines->kept);
+    fputs(options->json ? lines->kept : lines->printed, stdout);
     fflush(stdout);
 }

@@ -20,12 +20,14 @@ struct cycle {
     enum cut cut;
     char way[MAX_WAY]; /* what its writes rested on */
     uint64_t checked, faults;
+    bool by_ledger;
+    uint64_t at_rest; /* of the faults, by a ledger: no write since the last check had come to these */
     char kinds[KIND_WORDS]; /* of the faults, and how many of each: `lost 4 torn 1` */
 };
 
 /* What all cycles of a series come to that are over. */
 struct totals {
-    uint64_t cycles, checked, faults;
+    uint64_t cycles, checked, faults, at_rest;
     uint64_t faulty, unchecked;        /* cycles that had faults, and that had nothing to check */
     uint64_t cuts, trusted;            /* cycles with a cut, and those of them by the word of --off alone */
     uint64_t judged;                   /* cuts behind which some block had to hold something */
@@ -46,6 +48,9 @@ struct folder open_folder(const struct options *options, const struct job *job, 
 /* Keeps which drive it is of. */
 void keep_drive(struct folder *folder, const char drive[MAX_DRIVE]);
 
+/* The name of a file of it. */
+void name_file(const struct folder *folder, const char *file, char name[PATH_MAX]);
+
 /* The name of a file of a cycle; and how all of these begin, where the ending is NULL. */
 void name_of(const struct folder *folder, uint64_t cycle, const char *ending, char name[PATH_MAX]);
 
@@ -56,7 +61,17 @@ void give_room(const struct folder *folder);
 /* How a line of a drive among several begins: `drive 2: `. It is empty where the number is 0. */
 void spell_drive(uint64_t drive, char whose[32]);
 
+/* What is told of a cycle that is over: the line that is kept, and the one that is printed. */
+enum { MAX_LINE = 1024 };
+struct lines {
+    char kept[MAX_LINE], printed[MAX_LINE];
+};
+void spell_cycle(const struct cycle *cycle, const struct options *options, struct lines *lines);
+
+/* The number behind a name in a line that is kept, or 0. */
+uint64_t number_in(const char *line, const char *name);
+
 /* Keeps the line of a cycle that is over, counts it, and prints it. */
-void keep_cycle(struct folder *folder, const struct cycle *cycle, const struct options *options);
+void keep_cycle(struct folder *folder, const struct lines *lines, const struct options *options);
 
 #endif

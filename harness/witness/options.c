@@ -23,6 +23,11 @@ static const char USAGE[] =
     "check, map, cycle:\n"
     "  --unit BYTES      the target writes so many bytes whole, and not a block\n"
     "  --dump N          keeps the bytes of the first N faulty blocks, and of the writes that they may hold: none, in a cycle 16\n"
+    "check, map:\n"
+    "  --ledger FILE     also checks what was sound before and no run has written since, by the ledger that FILE keeps, and keeps\n"
+    "                    the one behind this check there; the agent flushes its target first\n"
+    "  --lost            with --ledger, and - for the state: a run of this job whose state was lost\n"
+    "check, map, cycle:\n"
     "  --other-drive     takes another drive than the one that was written, as one with a copy of it\n"
     "write:\n"
     "  --after N         takes the state once N writes are done\n"
@@ -34,6 +39,7 @@ static const char USAGE[] =
     "  --seed S          draws them by this number\n"
     "  --trust-off       takes the word of --off that the power was cut; else the machine has to be started anew by it\n"
     "  --drive-only      the drive alone loses its power: it is cut where its writes fail once --off has begun\n"
+    "  --no-ledger       checks what the run itself has written; else also what was sound before, by a ledger in FOLDER\n"
     "  --keep-going      goes on behind a cycle that had faults\n"
     "  --resume          goes on with the cycles in FOLDER\n"
     "  --json            a line of JSON for each cycle\n"
@@ -61,6 +67,11 @@ static void read_every(const char *text, struct options *read) {
 static void refuse_missing(const struct options *read) {
     if (!read->links[0]) give_up("--link", "the command that leads to the agent has to be said");
     if (read->links[1] && read->command != CYCLE) give_up("--link", "only a cycle takes several");
+    const bool has_no_state = read->command != CYCLE && !strcmp(read->place, "-");
+    if (has_no_state && !read->lost) give_up("-", "there has to be a file for the state");
+    if (read->lost && !(read->ledger && has_no_state)) give_up("--lost", "this wants --ledger, and - for the state");
+    if (read->ledger && read->unit) give_up("--unit", "a ledger goes by whole blocks: it isn't to be had with --ledger yet");
+    if (read->lost && read->dump) give_up("--dump", "there is no state's file beside which bytes could be kept");
     if (read->command == CYCLE && (!read->off || !read->on)) give_up("--off, --on", "a cycle wants both");
 }
 
@@ -91,6 +102,9 @@ struct options read_options(int count, char **words) {
         {"--unit", 0, &read.unit, 0, CHECK | MAP | CYCLE | FROM_1},
         {"--dump", 0, &read.dump, 0, CHECK | MAP | CYCLE},
         {"--other-drive", 0, 0, &read.other_drive, CHECK | MAP | CYCLE},
+        {"--ledger", &read.ledger, 0, 0, CHECK | MAP},
+        {"--lost", 0, 0, &read.lost, CHECK | MAP},
+        {"--no-ledger", 0, 0, &read.no_ledger, CYCLE},
         {"--trust-off", 0, 0, &read.trust_off, CYCLE},
         {"--drive-only", 0, 0, &read.drive_only, CYCLE},
         {"--after", 0, &read.after, 0, WRITE | FROM_1},

@@ -28,6 +28,9 @@ struct options {
     bool local; /* the orders are given by the agent's own `drive`, too */
     bool keep_going, resume, json;
     bool other_drive; /* a check takes another drive than the run's */
+    const char *ledger; /* of a check: the file that keeps one, or NULL */
+    bool lost;          /* the run's state was lost */
+    bool no_ledger;     /* a cycle keeps none */
     /* What shows a cut: the word of `off` alone, or that the drive fell, and else that the agent's
      * machine was started anew. */
     bool trust_off, drive_only;

@@ -36,12 +36,13 @@ struct hello hello_to_write(const struct options *options, const struct job *job
  * taken once enough writes are done. The state stays in the tally, for the caller to keep. */
 struct tally run_job(const struct options *options, const struct job *job, struct link *link, struct power *power);
 
-/* Checks by a state what an agent gives back of the region, and keeps what `drive map` says of each
- * faulty block. Where the link ends or falls silent within that, it is tried again, until the options'
+/* Checks by a state, or a ledger, too, what an agent gives back of the region, and keeps what `drive`
+ * says of each faulty block. Where the link ends or falls silent within that, it is tried again, until the options'
  * wait is over; a target of the run's that isn't there by then counts as blocks that can't be read.
  * The welcome is the agent's, and empty where it had no target. */
 struct map;
-void check_by_link(const struct options *options, const struct job *job, const struct region *region, const struct kept *kept, struct map *map, struct welcome *welcome);
+struct basis;
+void check_by_link(const struct options *options, const struct job *job, const struct region *region, const struct basis *basis, struct map *map, struct welcome *welcome);
 
 /* Keeps the bytes of as many faulty blocks as the options say, which an agent reads once more, and of
  * the writes that these may hold, in files whose names begin so. */
