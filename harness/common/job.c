@@ -16,7 +16,7 @@
  * one is shorter than the other bound. */
 enum { MAX_TEXT = 65536, MAX_SAID = 1 << 20 };
 
-static const char FIELDS[] = " (sequential|random|norandommap) blocks=([0-9]+) total=([0-9]+) bs=([0-9]+) seed=[0-9]+ depth=([0-9]+)"
+static const char FIELDS[] = " (sequential|random|norandommap) blocks=([0-9]+) total=([0-9]+) bs=([0-9]+) seed=([0-9]+) depth=([0-9]+)"
                              " window=[0-9]+ verify=[^ ]+ save=[01] load=[01] fatal=[01] file=";
 
 /* What `fiocut jobs` says of a text; a refusal is given up on. */
@@ -54,22 +54,27 @@ static uint64_t field(const char *row, const regmatch_t *at) {
  * and has 64 characters at most: too few for such fields. */
 static void read_fields(const char *row, struct job *job) {
     regex_t fields;
-    regmatch_t at[6];
+    regmatch_t at[7];
     if (regcomp(&fields, FIELDS, REG_EXTENDED)) give_up("memory", strerror(ENOMEM));
-    int failed = regexec(&fields, row, 6, at, 0);
+    int failed = regexec(&fields, row, 7, at, 0);
     regfree(&fields);
     if (failed) give_up(row, "this isn't how fiocut tells a job");
     job->blocks = field(row, &at[2]), job->total = field(row, &at[3]);
-    job->block_size = field(row, &at[4]), job->depth = field(row, &at[5]);
+    job->block_size = field(row, &at[4]), job->seed = field(row, &at[5]), job->depth = field(row, &at[6]);
+    job->is_random = row[at[1].rm_so] != 's';
+}
+
+struct job job_in(const char *file, const char *text, size_t length, uint64_t number) {
+    struct job job = {.number = number, .text = text, .text_length = length};
+    char *said = said_of(file, text, length), *row = row_of(said, number);
+    if (!row) give_up(file, "it has no such job");
+    read_fields(row, &job);
+    return job;
 }
 
 struct job read_job(const char *file, uint64_t number) {
     static char text[MAX_TEXT];
     ssize_t length = read_file(file, text, MAX_TEXT);
     if (length < 0) give_up_by_errno(file);
-    struct job job = {.number = number, .text = text, .text_length = (size_t)length};
-    char *said = said_of(file, text, job.text_length), *row = row_of(said, number);
-    if (!row) give_up(file, "it has no such job");
-    read_fields(row, &job);
-    return job;
+    return job_in(file, text, (size_t)length, number);
 }

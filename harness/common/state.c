@@ -150,7 +150,6 @@ struct region region_to_check(const char *path, const struct kept *kept, const s
     char why[160];
     const struct region *its = &kept->region;
     if (kept->is_bare) return region_of(job, offset, stride);
-    if (kept->job != job->number || kept->text_length != job->text_length || memcmp(kept->text, job->text, job->text_length)) give_up(path, "the run was written by another job file, or another job of it");
     if (!its->stride) return region_of(job, offset, stride);
     if ((offset && offset != its->offset) || (stride && stride != its->stride)) {
         snprintf(why, sizeof why, "the run was written with --offset %" PRIu64 " --stride %" PRIu64, its->offset, its->stride);

@@ -62,9 +62,9 @@ void read_kept(const char *path, struct kept *kept);
 /* How many writes a state counts as issued, and how many of them as done. */
 void count_state(const struct kept *kept, uint64_t *issued, uint64_t *done);
 
-/* The region that a check by this file reads. What the command line says, the job, an offset or a
- * stride (where it isn't 0), has to be what the run had, where that is known; a bare state's region is
- * what that says. */
+/* The region that a check by this file reads. What the command line says, an offset or a stride (where
+ * it isn't 0), has to be what the run had, where that is known; a bare state's region is what that
+ * says. */
 struct region region_to_check(const char *path, const struct kept *kept, const struct job *job, uint64_t offset, uint64_t stride);
 
 /* Refuses another drive than the one that the run wrote to, where both are known. */

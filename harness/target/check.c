@@ -8,6 +8,7 @@
 #include "map.h"
 #include "reading.h"
 #include "say.h"
+#include "seeded.h"
 #include "state.h"
 #include "verdict.h"
 
@@ -16,6 +17,7 @@
 /* What a target is checked by, and the target. */
 struct subject {
     struct kept kept; /* of no state in a full pass, and where that was lost */
+    struct job job;   /* as the run had it */
     struct ledger ledger;
     struct basis basis;
     struct region region;
@@ -34,6 +36,7 @@ static void open_ledger(struct subject *subject, const struct options *options) 
 static void open_subject(struct subject *subject, const struct options *options, const struct job *job) {
     bool has_state = !has_no_state(options);
     if (has_state) read_kept(options->state, &subject->kept);
+    subject->job = has_state ? job_to_check(options->state, &subject->kept, job) : *job;
     subject->region = has_state ? region_to_check(options->state, &subject->kept, job, options->offset, options->stride) : region_of(job, options->offset, options->stride);
     if (options->run || options->lost) subject->kept.run = options->run ? options->run : draw_number();
     subject->target = open_to_read(&options->opening);
@@ -60,13 +63,13 @@ static bool is_of_server_0(const struct kept *kept) {
 }
 
 /* Keeps what the faulty blocks hold, and what they may. */
-static void dump_target(struct subject *subject, const struct options *options, const struct job *job) {
+static void dump_target(struct subject *subject, const struct options *options) {
     struct dump dump = open_dump(options->state, &subject->map, options->dump);
     if (dump.count) {
         const struct region part = region_of_dump(&dump, &subject->region);
         const struct sink sink = sink_of_dump(&dump);
         read_region(&subject->target, &part, &sink);
-        if (is_of_server_0(&subject->kept)) keep_wanted(&dump, subject->kept.run, job);
+        if (is_of_server_0(&subject->kept)) keep_wanted(&dump, subject->kept.run, &subject->job);
         else say("what the blocks may hold isn't kept: the state is one of a fleet's, and `drive` makes the writes of its server 0 alone");
     }
     free_dump(&dump);
@@ -76,13 +79,13 @@ int check_target(const struct options *options, const struct job *job) {
     static struct subject subject;
     char boot[MAX_BOOT];
     open_subject(&subject, options, job);
-    open_map(&subject.map, job, &subject.region, &subject.basis);
+    open_map(&subject.map, &subject.job, &subject.region, &subject.basis);
     read_region(&subject.target, &subject.region, &(struct sink){&subject, give_blocks, pass_over});
     await_map(&subject.map);
     print_map(&subject.map, options->command == MAP);
     tell_boot(boot);
     int status = tell_verdict(&subject.map, options->state, &subject.kept, boot);
-    dump_target(&subject, options, job);
+    dump_target(&subject, options);
     if (options->ledger) keep_ledger_of(&subject.map, subject.drive);
     free_ledger(&subject.ledger);
     free_map(&subject.map);

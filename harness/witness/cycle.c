@@ -1,8 +1,10 @@
 #include "commands.h"
 
+#include "drawing.h"
 #include "folder.h"
 #include "map.h"
 #include "say.h"
+#include "seeded.h"
 #include "stopped.h"
 #include "verdict.h"
 
@@ -10,15 +12,6 @@
 #include <stdio.h>
 #include <string.h>
 #include <unistd.h>
-
-/* splitmix64: a number that depends on the seed and the cycle alone, so that a series which is
- * resumed draws the same. */
-static uint64_t drawn(uint64_t seed, uint64_t cycle) {
-    uint64_t x = seed + cycle * 0x9E3779B97F4A7C15u;
-    x = (x ^ (x >> 30)) * 0xBF58476D1CE4E5B9u;
-    x = (x ^ (x >> 27)) * 0x94D049BB133111EBu;
-    return x ^ (x >> 31);
-}
 
 /* Keeps what is told of each faulty block, and the report. */
 static void keep_report(const struct folder *folder, const struct cycle *cycle, const struct map *map) {
@@ -40,7 +33,7 @@ static enum cut shown_cut(const struct options *options, const struct tally *tal
 /* A series, and its cycle that is under way. */
 struct series {
     const struct options *options;
-    const struct job *job;
+    const struct job *job; /* as the job file says it */
     struct region region;
     struct folder folder;
     bool keeps_ledger;
@@ -49,6 +42,7 @@ struct series {
     struct power power;
     struct cycle cycle;
     struct kept kept;
+    struct job ran; /* the job as its run had it */
     struct map map; /* of its check */
 };
 
@@ -59,7 +53,8 @@ static bool check_cycle(struct series *series, bool is_lost) {
     struct cycle *cycle = &series->cycle;
     const struct kept *kept = &series->kept;
     const struct basis basis = basis_of(kept, series->keeps_ledger ? &series->ledger : NULL, is_lost);
-    check_by_link(series->options, series->job, &series->region, &basis, &series->map, &welcome);
+    series->ran = job_to_check(series->folder.path, kept, series->job);
+    check_by_link(series->options, &series->ran, &series->region, &basis, &series->map, &welcome);
     cycle->cut = shown_cut(series->options, &cycle->tally, kept->boot, welcome.boot);
     memcpy(cycle->way, kept->way, MAX_WAY);
     keep_report(&series->folder, cycle, &series->map);
@@ -90,7 +85,7 @@ static void end_cycle(struct series *series) {
     }
     keep_cycle(&series->folder, &lines, series->options);
     name_of(&series->folder, series->cycle.number, NULL, name);
-    dump_by_link(series->options, series->job, &series->region, &series->kept, name, &series->map);
+    dump_by_link(series->options, &series->ran, &series->region, &series->kept, name, &series->map);
     free_map(&series->map);
 }
 
@@ -99,22 +94,23 @@ static void write_cycle(struct series *series) {
     const struct options *options = series->options;
     struct folder *folder = &series->folder;
     struct cycle *cycle = &series->cycle;
-    struct hello hello = hello_to_write(options, series->job, &series->region);
-    char name[PATH_MAX];
+    char name[PATH_MAX], text[MAX_JOB_TEXT];
+    const struct job job = job_of_cycle(options, folder, series->job, cycle->number, text);
+    struct hello hello = hello_to_write(options, &job, &series->region);
     hello.owns = *folder->drive;
     if (!options->other_drive) memcpy(hello.drive, folder->drive, MAX_DRIVE);
     take_room(folder);
     /* (with --local the agent orders writes by itself as soon as it has heard the hello) */
     if (series->keeps_ledger && options->local) note_begun(folder, hello.run);
-    struct link link = open_link(options->link, &hello, series->job, options->wait);
+    struct link link = open_link(options->link, &hello, &job, options->wait);
     if (series->keeps_ledger) note_begun(folder, hello.run);
     if (!*folder->drive || strcmp(folder->drive, link.welcome.drive)) {
         tell_welcome(&link);
         keep_drive(folder, link.welcome.drive);
     }
-    cycle->cut_after = begin_writing(&series->power, options->least + drawn(folder->seed, cycle->number) % (options->most - options->least + 1));
-    cycle->tally = run_job(options, series->job, &link, &series->power);
-    series->kept = kept_by(&cycle->tally, series->job, &link);
+    cycle->cut_after = begin_writing(&series->power, moment_of(options, folder, cycle->number));
+    cycle->tally = run_job(options, &job, &link, &series->power);
+    series->kept = kept_by(&cycle->tally, &job, &link);
     give_room(folder);
     name_of(folder, cycle->number, cycle->tally.is_cut || cycle->tally.failed ? "state" : "stopped", name);
     keep_state(name, &series->kept);
@@ -148,8 +144,10 @@ static bool settle(struct series *series, int *status) {
     if (!series->ledger.bytes || !run || run == series->ledger.run || (read_cycle(series, "state") && series->kept.run == run)) return true;
     const bool is_lost = !read_cycle(series, "stopped") || series->kept.run != run;
     if (is_lost) {
+        char text[MAX_JOB_TEXT];
+        const struct job job = job_of_cycle(series->options, &series->folder, series->job, cycle->number, text);
         cycle->tally = (struct tally){.run = run};
-        series->kept = kept_of(run, series->job, &series->region);
+        series->kept = kept_of(run, &job, &series->region);
         memcpy(series->kept.drive, series->folder.drive, MAX_DRIVE);
     }
     say("run %" PRIu64 " was stopped%s: it is taken into the ledger first", run, is_lost ? ", and left no state" : "");
@@ -210,7 +208,7 @@ int cycle_by_agent(const struct options *options, const struct job *job, int wor
     static struct series series;
     int status = STATUS_SOUND;
     series = (struct series){.options = options, .job = job, .region = region_of(job, options->offset, options->stride)};
-    series.folder = open_folder(options, job, &series.region);
+    series.folder = open_folder(options, job, &series.region, draws_orders(options, job));
     series.power = (struct power){.off = options->off, .on = options->on, .words = words};
     begin_ledger(&series);
     if (options->resume && !resume(&series, &status)) return end_series(&series.folder, status, options);

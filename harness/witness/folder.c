@@ -28,10 +28,13 @@ void name_file(const struct folder *folder, const char *file, char name[PATH_MAX
     if (snprintf(name, PATH_MAX, "%s/%s", folder->path, file) >= PATH_MAX) give_up(folder->path, strerror(ENAMETOOLONG));
 }
 
-/* What has to be the same for all cycles of a series: its job file and its region. The seed stands
+/* Stands behind the seed where the orders are drawn by it. */
+static const char DRAWN[] = "orders drawn\n";
+
+/* What has to be the same for all cycles of a series: its job file and its region. What is drawn stands
  * before it. */
-static size_t settings_of(const struct job *job, const struct region *region, uint64_t seed, char *text) {
-    int front = snprintf(text, MAX_LINE, "seed %" PRIu64 "\njob %" PRIu64 " offset %" PRIu64 " stride %" PRIu64 "\n", seed, job->number, region->offset, region->stride);
+static size_t settings_of(const struct job *job, const struct region *region, const struct folder *folder, char *text) {
+    int front = snprintf(text, MAX_LINE, "seed %" PRIu64 "\n%sjob %" PRIu64 " offset %" PRIu64 " stride %" PRIu64 "\n", folder->seed, folder->draws_orders ? DRAWN : "", job->number, region->offset, region->stride);
     memcpy(text + front, job->text, job->text_length);
     return (size_t)front + job->text_length;
 }
@@ -117,21 +120,29 @@ static void keep_settings(const struct folder *folder, const char *name, const c
     if (fd < 0 || write_all(fd, text, length) || fsync(fd) || close(fd) || sync_folder(name)) give_up_by_errno(name);
 }
 
-struct folder open_folder(const struct options *options, const struct job *job, const struct region *region) {
+/* Takes what the settings say of what is drawn. */
+static void take_draws(struct folder *folder, const char *name, const char *kept) {
+    int used;
+    if (sscanf(kept, "seed %" SCNu64 "%n", &folder->seed, &used) != 1) give_up(name, "it says no seed");
+    folder->draws_orders = kept[used] == '\n' && !strncmp(kept + used + 1, DRAWN, strlen(DRAWN));
+}
+
+struct folder open_folder(const struct options *options, const struct job *job, const struct region *region, bool draws_orders) {
     static char text[MAX_SETTINGS], kept[MAX_SETTINGS];
     char name[PATH_MAX];
-    struct folder folder = {.path = options->place, .seed = options->seed ? options->seed : draw_number()};
+    struct folder folder = {.path = options->place, .seed = options->seed ? options->seed : draw_number(), .draws_orders = draws_orders};
     if (job->text_length > MAX_SETTINGS - MAX_LINE) give_up(options->job_file, "it is too long");
     if (mkdir(folder.path, 0755) && errno != EEXIST) give_up_by_errno(folder.path);
     name_file(&folder, SETTINGS, name);
     if (!options->resume) {
-        keep_settings(&folder, name, text, settings_of(job, region, folder.seed, text));
+        keep_settings(&folder, name, text, settings_of(job, region, &folder, text));
         return folder;
     }
     ssize_t length = read_file(name, kept, MAX_SETTINGS - 1);
     if (length < 0) give_up_by_errno(name);
-    if (sscanf(kept, "seed %" SCNu64, &folder.seed) != 1) give_up(name, "it says no seed");
-    if ((size_t)length != settings_of(job, region, folder.seed, text) || memcmp(text, kept, (size_t)length)) give_up(name, "that series has another job or region");
+    take_draws(&folder, name, kept);
+    if (folder.draws_orders && options->same_order) give_up("--same-order", "that series has drawn the orders of its runs, and goes on so");
+    if ((size_t)length != settings_of(job, region, &folder, text) || memcmp(text, kept, (size_t)length)) give_up(name, "that series has another job or region");
     count_cycles(&folder);
     read_drive(&folder);
     return folder;

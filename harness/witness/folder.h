@@ -36,14 +36,16 @@ struct totals {
 
 struct folder {
     const char *path;
-    uint64_t seed; /* by which the moments of the cuts are drawn */
+    uint64_t seed;     /* by which the moments of the cuts are drawn, */
+    bool draws_orders; /* and then the order of each run, too */
     char drive[MAX_DRIVE]; /* the drive that its first cycle wrote to; nothing before that */
     struct totals totals;
 };
 
-/* Makes the folder, or opens it again with --resume, which wants the job file, the region and the
- * seed of its beginning. */
-struct folder open_folder(const struct options *options, const struct job *job, const struct region *region);
+/* Makes the folder of a series that draws the orders of its runs, or doesn't; or opens it again with
+ * --resume, which wants the job file and the region of its beginning, and goes on by its seed, and so
+ * with the orders. */
+struct folder open_folder(const struct options *options, const struct job *job, const struct region *region, bool draws_orders);
 
 /* Keeps which drive it is of. */
 void keep_drive(struct folder *folder, const char drive[MAX_DRIVE]);

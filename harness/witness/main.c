@@ -5,6 +5,7 @@
 #include "map.h"
 #include "run.h"
 #include "say.h"
+#include "seeded.h"
 #include "several.h"
 #include "state.h"
 #include "verdict.h"
@@ -31,25 +32,26 @@ int write_by_agent(const struct options *options, const struct job *job) {
     return tally.failed ? STATUS_FAILED : STATUS_SOUND;
 }
 
-int check_by_agent(const struct options *options, const struct job *job) {
+int check_by_agent(const struct options *options, const struct job *given) {
     static struct kept kept;
     static struct map map;
     struct welcome welcome;
     struct ledger ledger = {0};
     const char *state = options->lost ? NULL : options->place;
-    if (options->lost) kept = kept_of(draw_number(), job, &(struct region){0});
+    if (options->lost) kept = kept_of(draw_number(), given, &(struct region){0});
     else read_kept(state, &kept);
-    const struct region region = options->lost ? region_of(job, options->offset, options->stride) : region_to_check(state, &kept, job, options->offset, options->stride);
+    const struct job job = options->lost ? *given : job_to_check(state, &kept, given);
+    const struct region region = options->lost ? region_of(&job, options->offset, options->stride) : region_to_check(state, &kept, &job, options->offset, options->stride);
     if (options->ledger) {
         refuse_ledger_place(options->ledger, options->job_file, state, NULL);
         ledger = ledger_to_check(options->ledger, &region, options->other_drive ? "" : kept.drive, state, &kept);
         if (options->lost) memcpy(kept.drive, ledger.drive, MAX_DRIVE);
     }
     const struct basis basis = basis_of(&kept, options->ledger ? &ledger : NULL, options->lost);
-    check_by_link(options, job, &region, &basis, &map, &welcome);
+    check_by_link(options, &job, &region, &basis, &map, &welcome);
     print_map(&map, options->command == MAP);
     int status = tell_verdict(&map, options->place, &kept, welcome.boot);
-    dump_by_link(options, job, &region, &kept, options->place, &map);
+    dump_by_link(options, &job, &region, &kept, options->place, &map);
     if (options->ledger) keep_ledger_of(&map, *welcome.drive ? welcome.drive : kept.drive);
     free_ledger(&ledger);
     free_map(&map);

@@ -36,7 +36,8 @@ static const char USAGE[] =
     "  --cycles N        so many cycles; else until SIGINT\n"
     "  --link COMMAND    again, for each drive that shares their power: FOLDER/1, FOLDER/2.. have a series each\n"
     "  --every A..B      the cut comes after A to B seconds, drawn each time: 1..10\n"
-    "  --seed S          draws them by this number\n"
+    "  --seed S          draws them, and the orders, by this number\n"
+    "  --same-order      each run has the order of the job file; else a random one that is drawn for it\n"
     "  --trust-off       takes the word of --off that the power was cut; else the machine has to be started anew by it\n"
     "  --drive-only      the drive alone loses its power: it is cut where its writes fail once --off has begun\n"
     "  --no-ledger       checks what the run itself has written; else also what was sound before, by a ledger in FOLDER\n"
@@ -113,6 +114,7 @@ struct options read_options(int count, char **words) {
         {"--cycles", 0, &read.cycles, 0, CYCLE | FROM_1},
         {"--every", &every, 0, 0, CYCLE},
         {"--seed", 0, &read.seed, 0, CYCLE},
+        {"--same-order", 0, 0, &read.same_order, CYCLE},
         {"--keep-going", 0, 0, &read.keep_going, CYCLE},
         {"--resume", 0, 0, &read.resume, CYCLE},
         {"--json", 0, 0, &read.json, CYCLE},

@@ -31,6 +31,7 @@ struct options {
     const char *ledger; /* of a check: the file that keeps one, or NULL */
     bool lost;          /* the run's state was lost */
     bool no_ledger;     /* a cycle keeps none */
+    bool same_order;    /* and all cycles have the order of the job file */
     /* What shows a cut: the word of `off` alone, or that the drive fell, and else that the agent's
      * machine was started anew. */
     bool trust_off, drive_only;
