@@ -100,7 +100,7 @@ def nights_of_honest_drives():
     ):
         folder = f"honest {what}"
         for turn, every in enumerate((LONG, SHORT, SHORT)):
-            more = ("--resume",) if turn else ()
+            more = ("--resume",) if turn else ("--same-order",) # (so that it is known what each cycle adds)
             status, _, _ = witness("cycle", "long.fio", folder, *words, *every, "--cycles", str(turn + 1), *more, env=env)
             tell(f"{what}, cycle {turn + 1}", status, 0)
         for it in folders:
