@@ -11,7 +11,7 @@ from dumps import tell_kept
 from ledger_nights import LONG, SHORT, TRUSTED, Model, cycle_of
 from ledgers import taken
 from nights import rows_of
-from trying import BLOCK, LIAR, QUIET, WITNESS, await_that, job, read, run, run_of, state_in, tell, write
+from trying import BLOCK, LIAR, QUIET, WITNESS, await_that, job, read, report, run, run_of, state_in, tell, write
 from witness import cycles_in, link, witness
 
 FRONT = b"# drawn by drive-witness cycle, for this run\n[global]\nrandseed="
@@ -116,9 +116,9 @@ def checks_of_drawn():
         shutil.copyfile("ct", f"ct{number}")
     for number in (1, 2):
         state, there = state_of("cd", number), ("--other-drive",)
-        whole = rows_of("cd")[number - 1]["told"]
+        told = rows_of("cd")[number - 1]["told"]
         status, printed, _ = run("check", "long.fio", f"ct{number}", state, *there)
-        tell(f"a check of cycle {number}", (status, int(printed.split()[2]) >= min(whole, 4096)), (0, True))
+        tell(f"a check of cycle {number}", (status, printed), (0, report([], min(told, 4096))))
         tell(f"by a witness, cycle {number}", witness("check", "long.fio", state, *link(f"ct{number}"), *there)[:2], (0, printed))
         tell(f"a map of cycle {number}", witness("map", "long.fio", state, *link(f"ct{number}"), *there)[0], 0)
     harmed_cycles()
@@ -232,7 +232,7 @@ def lost_drawn_runs():
     ran.wait()
     model.entries.update({it: [] for it in blocks_in(logs[1])})
     status, _, said = witness(*words, until(logs[2], 50), "--cycles", "2", "--resume", env=lies(logs[2]))
-    model.take(state_of("lost", 2), logs[2])
     rows = rows_of("lost")
     tell("a lost run: no false fault", (status, [it["faults"] for it in rows], "left no state: it is taken" in said), (0, [0, 0], True))
+    model.take(state_of("lost", 2), logs[2])
     tell("what it left alone is asked for, and nothing else of what was there", rows[1]["checked"], sum(1 for it in model.entries.values() if it))
