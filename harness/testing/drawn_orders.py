@@ -54,6 +54,15 @@ def jobs_in(text):
     return [int(it) for it in re.findall(r"^job .* seed=(\d+) ", said, re.M)]
 
 
+def series(job_file, folder, target, cycles, *words, least=100, seed="7", **stops):
+    """A series, or more of it, each of whose cuts comes behind so many writes at the least."""
+    log = os.path.abspath(f"{target}.log")
+    write(log, "")
+    off = f"until [ $(wc -l <{log}) -ge {least} ]; do sleep 0.02; done; {TRUSTED[1]}; : >{log}"
+    env = {"LD_PRELOAD": LIAR, "LIE_TARGET": f"/{target}", "LIE_LOG": log, **stops}
+    return witness("cycle", job_file, folder, *link(target), *TRUSTED[:-1], seed, *SHORT, "--off", off, "--cycles", str(cycles), *words, env=env)
+
+
 def blocks_in(log, most=None):
     """The blocks of a log's writes, or of so many that were told first."""
     return {int(line.split()[1]) for line in read(log).decode().splitlines()[:most]}
@@ -79,29 +88,26 @@ def resumed_orders():
     """A series that is resumed draws the same as one that wasn't stopped, wherever it was stopped; by
     another seed, and for another cycle, it draws others."""
     for name, seed in (("whole", "7"), ("other", "8")):
-        status, _, _ = witness("cycle", "long.fio", name, *link("rw"), *TRUSTED[:-1], seed, *SHORT, "--cycles", "4")
-        tell(f"four cycles by {seed}", status, 0)
+        tell(f"four cycles by {seed}", series("long.fio", name, "rw", 4, seed=seed)[0], 0)
     both = seeds_of("whole", 4) + seeds_of("other", 4)
     tell("eight orders", (len(set(both)), None in both), (8, False))
-    words = ("cycle", "long.fio", "parts", *link("rp"), *TRUSTED, *SHORT)
-    tell("one cycle", witness(*words, "--cycles", "1")[0], 0)
+    parts = ("long.fio", "parts", "rp")
+    tell("one cycle", series(*parts, 1)[0], 0)
     for stops in ("before/cycle-000002.state", "behind/cycle-000002.state", "before/ledger"):
-        env = {"LD_PRELOAD": LIAR, "LIE_STOPS": stops}
-        tell(f"stopped {stops}", witness(*words, "--cycles", "2", "--resume", env=env)[0], -signal.SIGKILL)
-    status, printed, _ = witness(*words, "--cycles", "4", "--resume")
+        tell(f"stopped {stops}", series(*parts, 2, "--resume", LIE_STOPS=stops)[0], -signal.SIGKILL)
+    status, printed, _ = series(*parts, 4, "--resume")
     tell("a resumed series: its cycles, and no fault", (status, len(cycles_in(printed)), [it["faults"] for it in rows_of("parts")]), (0, 3, [0] * 4))
     tell("a resumed series draws the same", seeds_of("parts", 4), seeds_of("whole", 4))
-    status, _, said = witness(*words, "--cycles", "5", "--resume", "--same-order")
+    status, _, said = series(*parts, 5, "--resume", "--same-order")
     tell("with --same-order it is refused", (status, "has drawn the orders" in said), (2, True))
 
 
 def earlier_series():
     """A series whose folder doesn't say that orders are drawn, as of an earlier version, has one order; and
     goes on so."""
-    words = ("cycle", "long.fio", "earlier", *link("es"), *TRUSTED, *SHORT)
-    tell("a cycle with --same-order", witness(*words, "--cycles", "1", "--same-order")[0], 0)
+    tell("a cycle with --same-order", series("long.fio", "earlier", "es", 1, "--same-order")[0], 0)
     tell("its settings are those of earlier versions", read("earlier/settings"), b"seed 7\njob 0 offset 0 stride 4096\n" + read("long.fio"))
-    status, _, _ = witness(*words, "--cycles", "3", "--resume")
+    status, _, _ = series("long.fio", "earlier", "es", 3, "--resume")
     texts = [text_in(state_of("earlier", it)) for it in (1, 2, 3)] if not status else []
     tell("it goes on with that order", (status, texts), (0, [read("long.fio")] * 3))
 
@@ -110,15 +116,15 @@ def checks_of_drawn():
     """A cycle's state is checked with the job file of its series: by drive-target and by a witness, also an
     older one over what the drive held then; what faulty blocks may hold is kept by the run's own order. With
     any other job file it is refused."""
-    words = ("cycle", "long.fio", "cd", *link("ct"), *TRUSTED, *LONG)
     for number in (1, 2):
-        tell(f"cycle {number}", witness(*words, "--cycles", str(number), "--resume" if number > 1 else "--json")[0], 0)
+        tell(f"cycle {number}", series("long.fio", "cd", "ct", number, "--resume" if number > 1 else "--json", least=2000)[0], 0)
         shutil.copyfile("ct", f"ct{number}")
     for number in (1, 2):
         state, there = state_of("cd", number), ("--other-drive",)
-        told = rows_of("cd")[number - 1]["told"]
+        told = min(rows_of("cd")[number - 1]["told"], 4096)
         status, printed, _ = run("check", "long.fio", f"ct{number}", state, *there)
-        tell(f"a check of cycle {number}", (status, printed), (0, report([], min(told, 4096))))
+        checked = int(printed.split()[2]) if not status else 0 # (where a second pass began, less by what was in flight of the first)
+        tell(f"a check of cycle {number}", (status, printed, told - 8 <= checked <= told), (0, report([], checked), True))
         tell(f"by a witness, cycle {number}", witness("check", "long.fio", state, *link(f"ct{number}"), *there)[:2], (0, printed))
         tell(f"a map of cycle {number}", witness("map", "long.fio", state, *link(f"ct{number}"), *there)[0], 0)
     harmed_cycles()
@@ -177,8 +183,7 @@ def randseeds_of_their_own():
         ("sequential", f"[a]\n{random.replace('rand', '')}", 0, False, False),
     ):
         write(f"{name}.fio", text)
-        words = ("cycle", f"{name}.fio", name, *link("ro"), *TRUSTED, *SHORT, "--job", str(number))
-        status, _, said = witness(*words, "--cycles", "2")
+        status, _, said = series(f"{name}.fio", name, "ro", 2, "--job", str(number))
         rows = rows_of(name)
         tell(f"{name}: two cycles", (status, [it["faults"] for it in rows], said.count(SAID)), (0, [0, 0], int(says)))
         texts, seeds = [text_in(state_of(name, it)) for it in (1, 2)], seeds_of(name, 2, f"{name}.fio")
@@ -194,7 +199,7 @@ def long_files(random):
     text = f"[a]\n{random}#"
     write("full.fio", text + "x" * (16384 - len(text)))
     for words, due in (((), (2, True)), (("--same-order",), (0, False))):
-        status, _, said = witness("cycle", "full.fio", "full", *link("rf"), *TRUSTED, *SHORT, "--cycles", "1", *words)
+        status, _, said = series("full.fio", "full", "rf", 1, *words)
         tell(f"a job file without room {words}", (status, "--same-order goes without" in said), due)
 
 
