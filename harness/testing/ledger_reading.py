@@ -116,13 +116,12 @@ class Check:
 
     def take_map(self, text):
         """The lines of a map, of just those blocks to which this run has completed a write."""
-        for line in re.findall(r"(?m)^block .*\n", text):
-            _, block, kind = re.split(r"[ :]", line)[:3]
+        lines = re.findall(r"(?m)^(block (\d+) ([a-z-]+): .*\n)", text)
+        if {int(block) for _, block, _ in lines} != self.by_map:
+            raise ValueError(f"the map has other lines than of the blocks {self.by_map}")
+        for line, block, kind in lines:
             self.lines[int(block)] = line
             self.kinds[kind] += 1
-            self.by_map.remove(int(block))
-        if self.by_map:
-            raise ValueError(f"the map has no line of {self.by_map}")
 
     def answer(self, came, end):
         """All that is written, and the status."""
