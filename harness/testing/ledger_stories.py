@@ -175,7 +175,7 @@ def tell_stories(count, seed):
     with what does."""
     counts = collections.Counter()
     with concurrent.futures.ProcessPoolExecutor(os.cpu_count()) as pool:
-        for story, counted, found in pool.map(told_story, range(seed, seed + count), chunksize=4):
+        for story, counted, found in pool.map(told_story, range(seed, seed + count)):
             counts.update(counted)
             if found:
                 pool.shutdown(wait=True, cancel_futures=True)
