@@ -1,4 +1,5 @@
 """The disk of a story, what becomes of its blocks, and which bytes each of them has to hold."""
+from ledger_bytes import STAMP, Key, written_bytes
 
 
 class Disk:
@@ -64,13 +65,28 @@ class Disk:
 
     # ---- what becomes of blocks at rest
 
-    def harm(self, rng):
+    def harm(self, rng, run):
         """Some blocks change at rest, or all of a row of them."""
+        if rng.random() < 0.2:
+            self.haunt(rng, run)
+            return
         ways = (self.zero, self.fill, self.flip, self.set_back, self.set_back, self.misplace, self.mix)
         way, count = rng.choice(ways), len(self.blocks)
         row = range(rng.randrange(count), count) if rng.random() < 0.15 else [rng.randrange(count) for _ in range(rng.randint(1, 3))]
         for block in row:
             way(rng, block)
+
+    def haunt(self, rng, run):
+        """A block holds what some write puts there: one of the last run, be it issued or not, or one of
+        numbers about the limits, which may be past them."""
+        key, job, block = run.key, run.planned.job, rng.randrange(len(self.blocks))
+        own = [seq for seq, to in enumerate(run.planned.order) if to == block]
+        seq, said = rng.choice(own or [0]), block
+        if rng.random() < 0.6:
+            key = Key(rng.choice((key.run, key.run, 0, 1, (1 << 64) - 1)), rng.choice((key.server, 7, 8)), rng.choice((key.job, 15, 16)))
+            seq = rng.choice((seq, job.total - 1, job.total, 999_999, 1_000_000))
+            said = rng.choice((block, len(self.blocks) - 1, len(self.blocks), 65_535, 65_536))
+        self.put(block, written_bytes(key, STAMP, 0, self.bs, seq, said))
 
     def zero(self, rng, block):
         self.put(block, bytes(self.bs))

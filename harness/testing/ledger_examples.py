@@ -27,15 +27,16 @@ def drive(word, number, *parts):
 
 
 def write_run(number, disk, count):
-    """A run that is cut behind its first so many writes, which are told as done in their order. What
-    was in flight then hasn't landed."""
+    """A run that is cut behind its first so many writes, which are told as done in their order. Of
+    those that were in flight then each second one has landed."""
     notices = b"".join(struct.pack(">QQ", 1, write) for write in range(count)) + struct.pack(">QQ", 3, 0)
     _, printed = drive("write", number, behind_length(text_of(len(disk))), notices)
-    blocks = []
-    for at in range(0, count * (16 + SIZE), 16 + SIZE):
-        blocks.append(struct.unpack_from(">Q", printed, at + 8)[0])
-        disk[blocks[-1]] = printed[at + 16 : at + 16 + SIZE]
-    return Run(number, blocks, printed[-136:])
+    order = []
+    for write, at in enumerate(range(0, len(printed) - 136, 16 + SIZE)):
+        order.append(struct.unpack_from(">Q", printed, at + 8)[0])
+        if write < count or write % 2:
+            disk[order[-1]] = printed[at + 16 : at + 16 + SIZE]
+    return Run(number, order[:count], printed[-136:])
 
 
 def checked(word, run, disk, ledger):

@@ -28,6 +28,7 @@ from ledger_spoilt import spoilt
 
 NO_LEDGER = re.compile(rb"refused 1\d\d ([A-Z]\w+)\n")
 LINE = re.compile(rb"(?m)^block (\d+) ([a-z-]+): ")
+AT_REST = re.compile(rb"(?m)^block \d+ at-rest: [^,\n]*, (holds zeros|holds byte|holds write|torn|unknown sectors)")
 
 
 class Differs(Exception):
@@ -53,7 +54,7 @@ class Story:
             self.run()
             for _ in range(self.rng.choice((0, 0, 1, 2))):
                 if not self.is_honest and self.rng.random() < 0.7:
-                    self.disk.harm(self.rng)
+                    self.disk.harm(self.rng, self.last)
                 self.check("ledger-rest", self.last.key, self.last.planned)
         return self.counts
 
@@ -64,7 +65,7 @@ class Story:
         self.counts["runs"] += 1
         self.disk.land(self.rng, run, bytes_of, self.is_honest)
         if not self.is_honest and self.rng.random() < 0.3:
-            self.disk.harm(self.rng)
+            self.disk.harm(self.rng, self.last)
         if self.rng.random() < 0.12:
             self.counts["lost states"] += 1
             self.check("ledger-lost", run.key, run.planned, lambda: self.disk.ask_behind_lost(run.planned.order))
@@ -144,6 +145,7 @@ class Story:
         if is_whole and status != (2 if len(found) > len(faults) else 1 if faults else 0):
             raise Differs(f"status {status}:\n{shown(printed)}")
         self.counts.update(f"{kind} lines" for _, kind in found)
+        self.counts.update(f"at-rest: {held.decode()}" for held in AT_REST.findall(printed))
         self.counts["whole checks"] += is_whole
 
 
