@@ -86,7 +86,7 @@ class Story:
             self.disk.due = list(due)
             behind()
             data, read, is_whole = self.input()
-            if self.rng.random() < 0.04:
+            if self.rng.random() < 0.08:
                 self.compare(command, key, plan, state, spoilt(self.rng, self.ledger), data)
             if command == "ledger" and self.rng.random() < 0.02:
                 self.refuse_other_run(key, plan, state, data)
