@@ -81,7 +81,7 @@ class Disk:
         numbers about the limits, which may be past them."""
         key, job, block = run.key, run.planned.job, rng.randrange(len(self.blocks))
         own = [seq for seq, to in enumerate(run.planned.order) if to == block]
-        seq, said = rng.choice(own or [0]), block
+        seq, said = rng.choice(own[-2:] + own or [0]), block
         if rng.random() < 0.6:
             key = Key(rng.choice((key.run, key.run, 0, 1, (1 << 64) - 1)), rng.choice((key.server, 7, 8)), rng.choice((key.job, 15, 16)))
             seq = rng.choice((seq, job.total - 1, job.total, 999_999, 1_000_000))

@@ -29,8 +29,9 @@ def behind_length(data):
 
 
 def as_writing(text):
-    """The text with its jobs writing, which says the same of their settings and orders."""
-    return re.sub(rb"(?m)^(\s*(?:rw|readwrite)\s*=\s*)(rand)?read(\s*)$", rb"\1\2write\3", text)
+    """The text with its jobs writing, which says the same of their settings and orders. A job that says
+    nothing reads in turn."""
+    return b"[global]\nrw=write\n" + re.sub(rb"(?m)^(\s*(?:rw|readwrite)\s*=\s*)(rand)?read(\s*)$", rb"\1\2write\3", text)
 
 
 def job_and_order(text, number):

@@ -65,7 +65,9 @@ class Story:
         self.counts["runs"] += 1
         self.disk.land(self.rng, run, bytes_of, self.is_honest)
         if not self.is_honest and self.rng.random() < 0.3:
-            self.disk.harm(self.rng, self.last)
+            self.disk.harm(self.rng, run)
+        if not self.is_honest and self.rng.random() < 0.15:
+            self.disk.haunt(self.rng, run)
         if self.rng.random() < 0.12:
             self.counts["lost states"] += 1
             self.check("ledger-lost", run.key, run.planned, lambda: self.disk.ask_behind_lost(run.planned.order))
