@@ -115,7 +115,9 @@ class Numbers:
         pairs = self.take(2 * self.take()[0])
         entry = []
         for place, seq in zip(pairs[::2], pairs[1::2]):
-            if place >= len(table) or seq >= job_of(table[place]).total or job_of(table[place]).bs != bs:
+            if place >= len(table):
+                raise no_ledger("BadRun")
+            if seq >= job_of(table[place]).total or job_of(table[place]).bs != bs:
                 raise no_ledger("Impossible")
             entry.append(RunWrite(table[place], seq))
         return entry
