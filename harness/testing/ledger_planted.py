@@ -53,7 +53,7 @@ PLANTS = [
     Plant("takes another spelling", BYTES, "    if spelled(bs, entries) != data:", "    if False:"),
     Plant("takes a write past its job's last", BYTES, "seq >= job_of(table[place]).total", "seq > job_of(table[place]).total"),
     Plant("takes blocks of another size than the place's", BYTES, " or job_of(table[place]).bs != bs:", ":"),
-    Plant("refuses the greatest numbers that a run may have", BYTES, "key.run >= 1 and key.server < 8 and key.job < 16", "key.run >= 1 and key.server < 7 and key.job < 15"),
+    Plant("refuses keys past the limits of jobs", BYTES, "key.server < 1 << 32 and key.job < 1 << 32", "key.server < 8 and key.job < 16"),
     Plant("takes runs past the limits", BYTES, "    if not all(map(is_run, table)):", "    if False:"),
     Plant("stamps with another server", READING, "    key = Key(int(words[0]), server, int(words[1]))", "    key = Key(int(words[0]), 0, int(words[1]))"),
 ]

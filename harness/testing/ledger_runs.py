@@ -96,9 +96,18 @@ def state_of(key, plan, window, notices):
     return state[:12] + struct.pack(">I", key.server) + state[16:]
 
 
+def as_layout_1(state, done, window):
+    """The same state as the older layout has it, with the last completions in their order."""
+    last = done[-2 * window :]
+    return b"FCV1" + state[4:96] + struct.pack(f">I{len(last)}Q", len(last), *last)
+
+
 def run_at_random(rng, plan, run, server):
     """A run that is cut behind some of its writes, or behind all."""
     key, window = Key(run, server, plan.number), Window(plan.job, plan.order)
     most = rng.choice((plan.job.total, rng.randint(0, plan.job.total), rng.randint(0, plan.job.total)))
     notices, done = told(rng, window, most)
-    return Run(key, plan, done, sorted(window.flying), state_of(key, plan, window, notices))
+    state = state_of(key, plan, window, notices)
+    if rng.random() < 0.05:
+        state = as_layout_1(state, done, plan.job.window)
+    return Run(key, plan, done, sorted(window.flying), state)
