@@ -10,8 +10,8 @@ MAX_BLOCKS, MAX_WRITES, MAX_BLOCK_SIZE = 65_536, 1_000_000, 65_536
 STAMP, PATTERN = range(2)
 COUNTED = bytes(range(256)) * 3
 NO_LEDGER = {
-    "LedgerShort": 100, "LedgerDamaged": 101, "NoLedger": 102, "LedgerTooManyBlocks": 103, "LedgerBadBlockSize": 104,
-    "LedgerBadRun": 105, "LedgerImpossible": 106, "LedgerOtherSpelling": 107, "LedgerOtherPlace": 109,
+    "Short": 100, "Damaged": 101, "NoLedger": 102, "TooManyBlocks": 103, "BadBlockSize": 104,
+    "BadRun": 105, "Impossible": 106, "OtherSpelling": 107, "OtherPlace": 109,
 }
 
 # The settings of a job, in the order of a row of the table; and a write: the twelve numbers of its
@@ -105,7 +105,7 @@ class Numbers:
 
     def take(self, count=1):
         if self.at + 8 * count > len(self.body):
-            raise no_ledger("LedgerShort")
+            raise no_ledger("Short")
         numbers = struct.unpack_from(f">{count}Q", self.body, self.at)
         self.at += 8 * count
         return numbers
@@ -116,9 +116,9 @@ class Numbers:
         entry = []
         for place, seq in zip(pairs[::2], pairs[1::2]):
             if place >= len(table):
-                raise no_ledger("LedgerBadRun")
+                raise no_ledger("BadRun")
             if seq >= job_of(table[place]).total or job_of(table[place]).bs != bs:
-                raise no_ledger("LedgerImpossible")
+                raise no_ledger("Impossible")
             entry.append(RunWrite(table[place], seq))
         return entry
 
@@ -127,21 +127,21 @@ def read_ledger(data):
     """The block size and the entries that the bytes of a ledger say. It raises Refused where they
     aren't the spelling of a possible one."""
     if len(data) < 20:
-        raise no_ledger("LedgerShort")
+        raise no_ledger("Short")
     if hashlib.sha1(data[:-20]).digest() != data[-20:]:
-        raise no_ledger("LedgerDamaged")
+        raise no_ledger("Damaged")
     numbers = Numbers(data[:-20])
     magic, bs, blocks, runs = numbers.take(4)
     if magic != MAGIC:
         raise no_ledger("NoLedger")
     if blocks > MAX_BLOCKS:
-        raise no_ledger("LedgerTooManyBlocks")
+        raise no_ledger("TooManyBlocks")
     if not is_block_size(bs):
-        raise no_ledger("LedgerBadBlockSize")
+        raise no_ledger("BadBlockSize")
     table = [numbers.take(12) for _ in range(runs)]
     if not all(map(is_run, table)):
-        raise no_ledger("LedgerBadRun")
+        raise no_ledger("BadRun")
     entries = [numbers.entry(table, bs) for _ in range(blocks)]
     if spelled(bs, entries) != data:
-        raise no_ledger("LedgerOtherSpelling")
+        raise no_ledger("OtherSpelling")
     return bs, entries

@@ -146,7 +146,7 @@ def entries_in(job, ledger):
         return [[] for _ in range(job.blocks)]
     bs, entries = read_ledger(ledger)
     if (bs, len(entries)) != (job.bs, job.blocks):
-        raise no_ledger("LedgerOtherPlace")
+        raise no_ledger("OtherPlace")
     return entries
 
 

@@ -155,7 +155,7 @@ def refuse_alike(told, due):
     """Both refuse the ledger's bytes, for a digest that is another or for something else. Which of
     several things is told that are wrong isn't said."""
     names = [NO_LEDGER.fullmatch(it[0]) for it in (told, due)]
-    return told[1] == due[1] and all(names) and len({it[1] == b"LedgerDamaged" for it in names}) == 1
+    return told[1] == due[1] and all(names) and len({it[1] == b"Damaged" for it in names}) == 1
 
 
 def shown(printed):
