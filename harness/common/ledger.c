@@ -13,7 +13,6 @@
 #include <stdlib.h>
 #include <string.h>
 #include <sys/stat.h>
-#include <unistd.h>
 
 /* How the file begins. */
 static const char WHAT[] = "fiocut ledger 1";
@@ -104,7 +103,6 @@ static void refuse_old_drive(const char *path) {
     end_input(&drive);
     read_all(drive.from, said, sizeof said - 1);
     wait_for(&drive);
-    close(drive.from);
     if (!strncmp(said, "bad command", strlen("bad command"))) give_up(path, "`drive` is older than this harness, and takes no ledgers: check without --ledger, and in a series with --no-ledger");
 }
 
