@@ -9,6 +9,7 @@ mod ledger_failures;
 mod ledger_inputs;
 mod ledger_maps;
 mod ledger_refusals;
+mod ledger_servers;
 mod ledger_unread;
 mod ledgers;
 mod map_differences;

@@ -135,8 +135,8 @@ fn maps_are_flushed(rt: HostRuntime) -> Result<(), Fail> {
     Ok(())
 }
 
-/// What comes of two blocks in a check by a ledger that asks for nothing, its status, and the lines that are shown once it
-/// has ended, behind which a ledger stands or none does.
+/// What comes of two blocks in a check by a ledger that asks for nothing, its status, and the lines that are shown
+/// once it has ended, behind which a ledger stands or none does.
 static LEDGERS: [(Step, bool); 4] = [
     (TWO_PASS, true),
     (
@@ -172,10 +172,18 @@ static LEDGERS: [(Step, bool); 4] = [
 /// A check by this ledger, to this output.
 fn check_ledger(alloc: Global, step: &Step, ledger: &[u8], output: &mut Held) -> Option<u8> {
     let input = ledger_input(alloc, step, ledger)?;
-    ledger_job(alloc, key_of(RUN, 0), step.since, &mut source_of(&input), output).ok()
+    ledger_job(
+        alloc,
+        key_of(RUN, 0),
+        step.since,
+        &mut source_of(&input),
+        output,
+    )
+    .ok()
 }
 
-/// Whether a check by a ledger ends with its status, just its lines and a ledger are shown then, and nothing is kept back.
+/// Whether a check by a ledger ends with its status, just its lines and a ledger are shown then, and nothing is kept
+/// back.
 fn shows_ledger(alloc: Global, step: &Step, has_ledger: bool) -> bool {
     let mut output = held_output(alloc);
     let status = check_ledger(alloc, step, b"", &mut output);

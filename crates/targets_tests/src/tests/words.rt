@@ -40,7 +40,11 @@ static LEDGERS: [(&[&str], Since, u32); 8] = [
     (&["drive", "ledger", "7", "3"], Since::Run, 0),
     (&["drive", "ledger-lost", "7", "3"], Since::LostRun, 0),
     (&["drive", "ledger-rest", "7", "3"], Since::Rest, 0),
-    (&["drive", "ledger", "7", "3", "--server", "7"], Since::Run, 7),
+    (
+        &["drive", "ledger", "7", "3", "--server", "7"],
+        Since::Run,
+        7,
+    ),
     (
         &["drive", "ledger-lost", "7", "3", "--server", "1"],
         Since::LostRun,
@@ -56,7 +60,11 @@ static LEDGERS: [(&[&str], Since, u32); 8] = [
         Since::Rest,
         5,
     ),
-    (&["drive", "ledger", "7", "3", "--server", "0"], Since::Run, 0),
+    (
+        &["drive", "ledger", "7", "3", "--server", "0"],
+        Since::Run,
+        0,
+    ),
 ];
 
 static BAD: [&[&str]; 38] = [
@@ -92,7 +100,16 @@ static BAD: [&[&str]; 38] = [
     &["drive", "ledger-rest", "1", "16"],
     &["drive", "ledger", "1", "0", "--unit", "4096"],
     &["drive", "ledger-lost", "1", "0", "--unit", "4096"],
-    &["drive", "ledger-rest", "1", "0", "--server", "1", "--unit", "4096"],
+    &[
+        "drive",
+        "ledger-rest",
+        "1",
+        "0",
+        "--server",
+        "1",
+        "--unit",
+        "4096",
+    ],
     &["drive", "ledger", "1", "0", "--server", "8"],
     &["drive", "ledger", "1", "0", "--server"],
     &["drive", "ledger-lost", "--server", "1", "1", "0"],
