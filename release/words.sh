@@ -18,6 +18,8 @@ usage_of_drive() {
 usage: drive write RUN JOB                                 orders the writes of a job, as a harness tells it which are done
        drive check RUN JOB                                 checks a target by the job's state
        drive map RUN JOB [--server SERVER] [--unit BYTES]  the same, and tells what each faulty block holds
+       drive ledger RUN JOB [--server SERVER]              the same by what each block has to hold behind many runs and checks
+       drive ledger-lost, drive ledger-rest                that behind a run whose state was lost, and where none was since
        drive --version                                     which drive this is, of which sources
 drive-target and drive-witness call it: docs/DRIVE.md says what it reads and writes.
 status: 0; 1 where a check found faults; 2 where something was refused

@@ -1,7 +1,9 @@
 #include "ledger.h"
 
 #include "bytes.h"
+#include "child.h"
 #include "keeping.h"
+#include "program.h"
 #include "say.h"
 #include "sealed.h"
 
@@ -93,8 +95,20 @@ static void refuse_earlier(const struct ledger *ledger, const char *state, const
     give_up(state, why);
 }
 
+/* Gives up where `drive` takes no ledgers: before the power is cut, and not behind that. */
+static void refuse_old_drive(const char *path) {
+    char name[] = "drive", command[] = "ledger-rest", run[] = "1", job[] = "0", said[32] = "";
+    char *words[] = {name, command, run, job, NULL};
+    struct child drive = start_child(program_of("DRIVE", name), words, CHILD_READS | CHILD_WRITES | CHILD_APART);
+    end_input(&drive);
+    read_all(drive.from, said, sizeof said - 1);
+    wait_for(&drive);
+    if (!strncmp(said, "bad command", strlen("bad command"))) give_up(path, "`drive` is older than this harness, and takes no ledgers: check without --ledger, and in a series with --no-ledger");
+}
+
 struct ledger ledger_to_check(const char *path, const struct region *region, const char drive[MAX_DRIVE], const char *state, const struct kept *kept) {
     const struct ledger ledger = read_ledger(path);
+    refuse_old_drive(path);
     refuse_other_region(&ledger, region);
     refuse_ledger_of_other_drive(&ledger, drive);
     if (state) refuse_earlier(&ledger, state, kept);

@@ -36,7 +36,7 @@ void refuse_ledger_place(const char *path, const char *job_file, const char *sta
  * harness gives up. */
 struct ledger read_ledger(const char *path);
 
-/* Reads the one that a check is to go by. Refused are one of another region, and of another drive, where
+/* Reads the one that a check is to go by. Refused are a `drive` that takes none; one of another region, and of another drive, where
  * both are known; and where `state` isn't NULL, one that was kept before that of the run which was taken
  * last, or that says no moment: what was written since isn't to be blamed on the drive. */
 struct ledger ledger_to_check(const char *path, const struct region *region, const char drive[MAX_DRIVE], const char *state, const struct kept *kept);

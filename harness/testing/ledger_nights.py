@@ -1,13 +1,14 @@
 """Nights by a ledger: what a drive forgets at rest is told at the next cycle, once, wherever the witness
 is stopped; and nothing is told of a drive that keeps all."""
 import os
+import random
 import shutil
 import signal
 import subprocess
 
 from ledgers import taken
 from nights import CUT, last_lines, rows_of
-from trying import BLOCK, HANG, LIAR, QUIET, WITNESS, await_file, await_that, job, read, run_of, stamp, state_in, tell, tell_has, write
+from trying import BLOCK, HANG, LIAR, QUIET, WITNESS, as_often, await_file, await_that, job, read, run_of, stamp, state_in, tell, tell_has, write
 from witness import counted, cycles_in, endless, link, witness
 
 TRUSTED = (*CUT[:4], "--trust-off", "--seed", "7")
@@ -84,6 +85,21 @@ def nights_by_ledgers():
     tell("more is checked than the run has written", rows[2]["checked"] > rows[2]["told"] + rows[2]["in_flight"], True)
     faults, at_rest, faulty = sum(it["faults"] for it in rows), sum(it["at_rest"] for it in rows), sum(it["faults"] > 0 for it in rows)
     tell_has("the night's last line", last_lines(printed)[0], f"faults: {faults} of {sum(it['checked'] for it in rows)} blocks checked, {at_rest} lost at rest, in {faulty} of 6 cycles; ")
+
+
+def long_nights_by_ledgers():
+    """Many cycles over a target that forgets at rest in half of them: each tells just what is lost. The
+    gate has twelve; --times N has so many times as many."""
+    model, rng, otherwise, sums = Model(), random.Random(7), [], [0, 0]
+    for number in range(1, 12 * as_often["killed"] + 1):
+        lie, every = rng.choice((None, "forgotten:5", None, "forgotten:60")), LONG if number % 6 == 1 else SHORT
+        _, rest, flight = cycle_of(model, number, lie, every, "many", "mf")
+        row = rows_of("many")[-1]
+        is_so = (row["cycle"], row["faults"], row["at_rest"]) == (number, len(rest | flight), len(rest)) and blocks_in(f"many/cycle-{number:06d}.report", "at-rest") == rest
+        otherwise += [] if is_so else [(number, lie, row, sorted(rest), sorted(flight))]
+        sums = [sums[0] + len(rest), sums[1] + row["checked"]]
+    tell("cycles that tell otherwise than what is lost", otherwise, [])
+    tell("blocks lost at rest, and checked", [it > number for it in sums], [True, True])
 
 
 def nights_of_honest_drives():

@@ -253,3 +253,14 @@ def whole_reports():
     tell("a block that can't be read", (status, " unread 1" in printed, ": 0 lost in flight, 0 lost at rest, 1 unread (unread 1)" in printed), (1, True, True))
     status, printed, _ = by("L", "two.fio", "t", "n")
     tell("is asked for again", (status, printed.splitlines()[1].split(" faults")[0]), (0, "report checked 64"))
+
+
+def older_drives():
+    """A `drive` that takes no ledgers is told as that, and nothing is read; without one it checks."""
+    wrote("s")
+    write("old-drive", '#!/bin/sh\ncase $1 in ledger*) echo "bad command"; exit 2 ;; esac\nexec "$REAL" "$@"\n')
+    os.chmod("old-drive", 0o755)
+    env = {"DRIVE": os.path.abspath("old-drive"), "REAL": os.environ["DRIVE"]}
+    status, printed, said = by("L", "two.fio", "t", "s", env=env)
+    tell("an old drive", (status, printed, "`drive` is older than this harness" in said, os.path.exists("L")), (2, "", True, False))
+    tell("without a ledger", run("check", "two.fio", "t", "s", env=env)[0], 0)

@@ -1,6 +1,7 @@
 //! What no clause shows: that each kind is told of bytes that are spelled from the manual's layout
 //! of a stamp, and not by the library that writes them.
 
+mod contents;
 mod copies;
 mod differences;
 mod flips;

@@ -2,6 +2,8 @@
 //! followed by hand.
 
 mod bytes;
+mod copies;
+mod faults;
 mod stories;
 
 use super::jobs::{KEY, ONE_WRITE};

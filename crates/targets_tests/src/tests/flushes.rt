@@ -2,6 +2,9 @@
 
 use super::inputs::Tell::*;
 use super::inputs::{TWO_BLOCKS, Tell, input_of, push_text};
+use super::ledger_bytes::TWO_PASS;
+use super::ledger_inputs::Block::{Flag, Unread};
+use super::ledger_inputs::{Step, ledger_behind, ledger_input};
 use super::map_inputs::Comes::{Byte, Sector as Bytes};
 use super::map_inputs::Sector::*;
 use super::map_inputs::{Comes, key_of, map_input};
@@ -11,7 +14,7 @@ use fc_base::{JobNo, RunNo};
 use std::alloc::Global;
 use std::io::BufReader;
 use std::test::Fail;
-use targets::{check_job, map_job, write_job};
+use targets::{check_job, ledger_job, map_job, write_job};
 
 /// What is told, how often the output is flushed where each byte comes by itself, and how many bytes are shown
 /// then: once before each notice is waited for, and once behind the state or the line of a refusal.
@@ -130,6 +133,91 @@ fn maps_are_flushed(rt: HostRuntime) -> Result<(), Fail> {
         }
     }
     Ok(())
+}
+
+/// What comes of two blocks in a check by a ledger that asks for nothing, its status, and the lines that are shown
+/// once it has ended, behind which a ledger stands or none does.
+static LEDGERS: [(Step, bool); 4] = [
+    (TWO_PASS, true),
+    (
+        Step {
+            target: &[Unread],
+            status: 2,
+            lines: "block 0 unread: wants write 0\n\
+                unchecked\nreport checked 0 faults 0 end read 1 first - unread 1\n",
+            ..TWO_PASS
+        },
+        false,
+    ),
+    (
+        Step {
+            target: &[Unread, Flag(2)],
+            status: 2,
+            lines: "block 0 unread: wants write 0\nrefused 94 BadNotice\n",
+            ..TWO_PASS
+        },
+        false,
+    ),
+    (
+        Step {
+            job: b"",
+            status: 2,
+            lines: "refused 6 NoJobs\n",
+            ..TWO_PASS
+        },
+        false,
+    ),
+];
+
+/// A check by this ledger, to this output.
+fn check_ledger(alloc: Global, step: &Step, ledger: &[u8], output: &mut Held) -> Option<u8> {
+    let input = ledger_input(alloc, step, ledger)?;
+    ledger_job(
+        alloc,
+        key_of(RUN, 0),
+        step.since,
+        &mut source_of(&input),
+        output,
+    )
+    .ok()
+}
+
+/// Whether a check by a ledger ends with its status, just its lines and a ledger are shown then, and nothing is kept
+/// back.
+fn shows_ledger(alloc: Global, step: &Step, has_ledger: bool) -> bool {
+    let mut output = held_output(alloc);
+    let status = check_ledger(alloc, step, b"", &mut output);
+    let is_shown = if has_ledger {
+        ledger_behind(alloc, &output.shown, step.lines).is_some()
+    } else {
+        output.shown.as_slice() == step.lines.as_bytes()
+    };
+    status == Some(step.status) && output.held.is_empty() && is_shown
+}
+
+#[test]
+fn ledgers_are_flushed(rt: HostRuntime) -> Result<(), Fail> {
+    for (number, (step, has_ledger)) in LEDGERS.iter().enumerate() {
+        if !shows_ledger(rt.alloc(), step, *has_ledger) {
+            return Err(Fail::new(number));
+        }
+    }
+    Ok(())
+}
+
+/// Whether a check by a ledger fails where the flush of its output does: that of a report, and that of a refusal of the
+/// ledger's bytes.
+fn fails_to_flush_ledgers(alloc: Global) -> bool {
+    let mut output = held_output(alloc);
+    output.fails = true;
+    check_ledger(alloc, &TWO_PASS, b"", &mut output).is_none()
+        && check_ledger(alloc, &TWO_PASS, b"no ledger", &mut output).is_none()
+        && output.flushes == 2
+}
+
+#[test]
+fn failed_flushes_of_ledgers(rt: HostRuntime) {
+    assert!(rt; fails_to_flush_ledgers(rt.alloc()));
 }
 
 #[test]

@@ -32,7 +32,7 @@ const SIXTEEN: &[(usize, u8)] = &[
 const LAST: &[(usize, u8)] = &[(511, 128)];
 
 /// One bit, many bits and few bytes, one byte too many, and a write in flight.
-static DIFFERENCES: [Row; 5] = [
+pub(super) static DIFFERENCES: [Row; 5] = [
     (
         ONE_BLOCK,
         &[],
@@ -111,7 +111,7 @@ fn how_a_block_differs(rt: HostRuntime) -> Result<(), Fail> {
 
 /// Few bytes of blocks that are of other writes: of an older one, alone and in part, of one that
 /// wasn't issued, of another run and of another job.
-static OTHERS: [Row; 5] = [
+pub(super) static OTHERS: [Row; 5] = [
     (
         MANY,
         &[],
@@ -185,7 +185,7 @@ fn how_other_writes_differ(rt: HostRuntime) -> Result<(), Fail> {
 }
 
 /// By a pattern, which every write has.
-static PATTERNS: [Row; 7] = [
+pub(super) static PATTERNS: [Row; 7] = [
     (
         PATTERN,
         &[],

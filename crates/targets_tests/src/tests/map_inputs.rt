@@ -93,7 +93,7 @@ fn turn_over(bytes: &mut Vec<u8>, places: &[(usize, u8)]) {
 }
 
 /// Adds a sector.
-fn push_sector(bytes: &mut Vec<u8>, sector: Sector) -> Result<(), AllocError> {
+pub(super) fn push_sector(bytes: &mut Vec<u8>, sector: Sector) -> Result<(), AllocError> {
     match sector {
         Stamp(run, job, write, block, place) => push_stamp(bytes, run, job, write, block, place),
         Filled(byte) => bytes.extend_from_slice(&[byte; 512]),
@@ -122,12 +122,12 @@ fn target_of(alloc: Global, target: &[Comes]) -> Result<Vec<u8>, AllocError> {
     Ok(bytes)
 }
 
-/// The state that a run of this job ends with by what is told: the last 136 bytes.
-fn state_of(alloc: Global, text: &[u8], told: &[Tell]) -> Option<Vec<u8>> {
+/// The state that this run of a job ends with by what is told: the last 136 bytes.
+pub(super) fn state_of(alloc: Global, run: u64, text: &[u8], told: &[Tell]) -> Option<Vec<u8>> {
     let input = input_of(alloc, text, told).ok()?;
     let mut page = page_with(alloc, usize::MAX);
     let mut reader = BufReader::new(alloc, source_of(&input)).ok()?;
-    let status = write_job(alloc, RunNo(RUN), JobNo(0), &mut reader, &mut page).ok()?;
+    let status = write_job(alloc, RunNo(run), JobNo(0), &mut reader, &mut page).ok()?;
     let text = page.text.as_slice();
     if status != 0 || text.len() < 136 {
         return None;
@@ -148,7 +148,7 @@ pub(super) fn map_input(
     if told.is_empty() {
         push_text(&mut input, b"").ok()?;
     } else {
-        let state = state_of(alloc, text, told)?;
+        let state = state_of(alloc, RUN, text, told)?;
         push_text(&mut input, &state).ok()?;
     }
     input

@@ -8,7 +8,7 @@ use super::stamps::RUN;
 use std::test::Fail;
 
 /// Each kind, at the first block and at the last.
-static KINDS: [Row; 17] = [
+pub(super) static KINDS: [Row; 17] = [
     (
         TWO_BLOCKS,
         TWO_DONE,

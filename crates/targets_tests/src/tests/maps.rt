@@ -11,7 +11,7 @@ use std::alloc::Global;
 use std::test::Fail;
 
 /// Blocks that aren't checked, inputs that end early, and bytes that are neither 0 nor 1.
-static ENDS: [Row; 8] = [
+pub(super) static ENDS: [Row; 8] = [
     (
         SIX_BLOCKS,
         &[Done(0), Done(3), Take],
@@ -79,7 +79,7 @@ static ENDS: [Row; 8] = [
 ];
 
 /// Writes that have failed: each is in flight, and may have come to its block or not.
-static FAILED: [Row; 4] = [
+pub(super) static FAILED: [Row; 4] = [
     (
         TWO_BLOCKS,
         &[Done(0), Failed(1), Take],

@@ -3,7 +3,7 @@
 use fc_base::{JobNo, Key, RunNo, ServerNo};
 use std::alloc::Global;
 use std::test::Fail;
-use targets::{Request, read_words};
+use targets::{Request, Since, read_words};
 
 /// The words of a command line, and the run and the job that they ask for.
 static GOOD: [(&[&str], u64, u32); 4] = [
@@ -35,7 +35,39 @@ static MAPS: [(&[&str], u32, Option<u32>); 6] = [
     ),
 ];
 
-static BAD: [&[&str]; 23] = [
+/// The words of a check by a ledger of run 7 and job 3, what has happened since the last one, and its server.
+static LEDGERS: [(&[&str], Since, u32); 8] = [
+    (&["drive", "ledger", "7", "3"], Since::Run, 0),
+    (&["drive", "ledger-lost", "7", "3"], Since::LostRun, 0),
+    (&["drive", "ledger-rest", "7", "3"], Since::Rest, 0),
+    (
+        &["drive", "ledger", "7", "3", "--server", "7"],
+        Since::Run,
+        7,
+    ),
+    (
+        &["drive", "ledger-lost", "7", "3", "--server", "1"],
+        Since::LostRun,
+        1,
+    ),
+    (
+        &["drive", "ledger-rest", "7", "3", "--server", "0"],
+        Since::Rest,
+        0,
+    ),
+    (
+        &["drive", "ledger-rest", "7", "3", "--server", "5"],
+        Since::Rest,
+        5,
+    ),
+    (
+        &["drive", "ledger", "7", "3", "--server", "0"],
+        Since::Run,
+        0,
+    ),
+];
+
+static BAD: [&[&str]; 38] = [
     &[],
     &["drive"],
     &["drive", "read", "1", "0"],
@@ -59,6 +91,30 @@ static BAD: [&[&str]; 23] = [
     &["drive", "check", "1", "0", "--server", "1"],
     &["drive", "map", "1", "0", "--unit", "4096", "--server", "1"],
     &["drive", "map", "1", "0", "--server", "1", "--server", "1"],
+    &["drive", "ledger"],
+    &["drive", "ledger", "1"],
+    &["drive", "ledger-rest", "1"],
+    &["drive", "ledger", "1", "0", "0"],
+    &["drive", "ledger", "0", "0"],
+    &["drive", "ledger-lost", "0", "0"],
+    &["drive", "ledger-rest", "1", "16"],
+    &["drive", "ledger", "1", "0", "--unit", "4096"],
+    &["drive", "ledger-lost", "1", "0", "--unit", "4096"],
+    &[
+        "drive",
+        "ledger-rest",
+        "1",
+        "0",
+        "--server",
+        "1",
+        "--unit",
+        "4096",
+    ],
+    &["drive", "ledger", "1", "0", "--server", "8"],
+    &["drive", "ledger", "1", "0", "--server"],
+    &["drive", "ledger-lost", "--server", "1", "1", "0"],
+    &["drive", "ledger-any", "1", "0"],
+    &["drive", "ledgers", "1", "0"],
 ];
 
 /// What the words ask for by their second.
@@ -96,6 +152,26 @@ fn map_of(server: u32, unit: Option<u32>) -> Option<Request> {
 fn maps(rt: HostRuntime) -> Result<(), Fail> {
     for (number, (words, server, unit)) in MAPS.iter().enumerate() {
         if read_words(rt.alloc(), words) != map_of(*server, *unit) {
+            return Err(Fail::new(number));
+        }
+    }
+    Ok(())
+}
+
+/// The check of run 7 and job 3 by a ledger, at this server.
+fn ledger_of(since: Since, server: u32) -> Option<Request> {
+    let key = Key {
+        run: RunNo(7),
+        server: ServerNo(server),
+        job: JobNo(3),
+    };
+    Some(Request::Ledger { key, since })
+}
+
+#[test]
+fn ledgers(rt: HostRuntime) -> Result<(), Fail> {
+    for (number, (words, since, server)) in LEDGERS.iter().enumerate() {
+        if read_words(rt.alloc(), words) != ledger_of(*since, *server) {
             return Err(Fail::new(number));
         }
     }
