@@ -4,23 +4,21 @@
 use Rattle.std.specs.Prelude.{◌≡◌, ℕ, List, [], ◌∷◌, length, map, replicate, Some}
 use Rattle.std.specs.List.{range_with_len}
 use Rattle.fc_base.specs.declared.report.ReportEnd.TheVariants.{Whole}
-use Rattle.diagnosis.specs.declared.content.Content.TheVariants.{Byte}
 use Rattle.ledger.specs.Examples.{two_runs, eights_and_zeros}
 use Rattle.ledger.specs.Places.{after_check}
-use Rattle.targets.specs.declared.ledger_found.Found.TheVariants.{Sound, Rest}
 use Rattle.targets.specs.Ledgers.{Cell, place_behind, report_of_cells}
 use Rattle.targets.specs.LedgerLaws.{AreRead}
 
--- Both blocks, as they came.
-abbrev pub cells : List Cell
-cells =
-    record { block = 0; bytes = Some (replicate 512 8); found = Sound }
-    ∷ record { block = 1; bytes = Some (replicate 512 0); found = Rest (Byte 0) } ∷ []
+-- Both blocks, as they came, whatever is found at each.
+abbrev pub cells : (first second : Cell) → List Cell
+cells first second =
+    record first { block = 0; bytes = Some (replicate 512 8) }
+    ∷ record second { block = 1; bytes = Some (replicate 512 0) } ∷ []
 
 -- Both were read, and block 1 is reported; the new ledger is the one behind that check.
-pub record ALossAtRestIsReported : Type 0 where
-  pub blocks : map (λ c. c.block) cells ≡ range_with_len 0 (length two_runs.entries)
-  pub read : AreRead eights_and_zeros cells
-  pub report : report_of_cells two_runs cells
+pub record ALossAtRestIsReported (first second : Cell) : Type 0 where
+  pub blocks : map (λ c. c.block) (cells first second) ≡ range_with_len 0 (length two_runs.entries)
+  pub read : AreRead eights_and_zeros (cells first second)
+  pub report : report_of_cells two_runs (cells first second)
       ≡ record { checked = 2; faults = 1; first = 1 ∷ []; end = Whole }
-  pub behind : place_behind two_runs cells ≡ after_check eights_and_zeros two_runs
+  pub behind : place_behind two_runs (cells first second) ≡ after_check eights_and_zeros two_runs

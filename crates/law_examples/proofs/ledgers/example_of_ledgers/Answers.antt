@@ -4,11 +4,11 @@ use Rattle.law_examples.specs.Ledgers.{cells}
 use Rattle.law_examples.proofs.ledgers.example_of_ledgers.Goals as goal
 
 pub returns : goal.returns
-returns c =
-    let whole = c.ledger_law.ensures two_runs eights_and_zeros cells refl (refl, refl, tt) in
+returns c first second =
+    let whole = c.ledger_law.ensures two_runs eights_and_zeros (cells first second) refl (refl, (refl, tt)) in
     record {
       blocks = refl;
-      read = (refl, refl, tt);
+      read = (refl, (refl, tt));
       report = whole.report ∙ c.examples.ensures.at_rest;
       behind = whole.behind;
     }
