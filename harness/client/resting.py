@@ -119,13 +119,12 @@ class Ledgers:
         generation, last = numbers_of(note)
         if (ledger.block_size, ledger.blocks) != (state.block_size, state.blocks):
             raise Refused(f"it is of {ledger.blocks} blocks of {ledger.block_size} bytes, and this job has {state.blocks} of {state.block_size}")
-        if (ledger.fleet, ledger.generation) != (fleet.kept.fleet, generation) or ledger.run > last:
+        runs = self.runs.since((ledger.fleet, ledger.run), fleet.kept.fleet, last)
+        if ledger.generation != generation or runs is None:
             raise Refused("it is by another note, and who may have written since isn't known")
         if ledger.place != where:
             raise Refused(f"it is of another target, {ledger.place}, and this is {where}")
-        steps = []
-        for run in range(ledger.run + 1, last + 1):
-            steps.append(self.step_of(run, note, state))
+        steps = [self.step_of(run, note, state) for run in runs]
         return steps or [("ledger-rest", state.run, self.text_of(state.run, state.run), None)]
 
     def step_of(self, run, note, state):
