@@ -7,6 +7,7 @@ import shlex
 import struct
 import subprocess
 
+from fleet_mirrors import mirror
 from fleet_rooms import fill
 from serving import FLEET, SERVER, Servers, fleet, job_file, reports
 from trying import BLOCK, LIAR, QUIET, await_text, put, read, tell, tell_has, write
@@ -19,8 +20,8 @@ LEDGERS = sorted(f"server-{server}-job-{job}.ledger" for server, job in PLACES)
 class Kept(Servers):
     """Two servers of two jobs each, whose client keeps ledgers, and what its runs and checks come to."""
 
-    def __init__(self, name):
-        self.lies = {}
+    def __init__(self, name, mirror=()):
+        self.lies, self.mirror = {}, mirror
         super().__init__(name, 2)
         self.all, self.few = job_file(f"{name}-all.fio", blocks=64, writes=128), job_file(f"{name}-few.fio", blocks=64, writes=12)
 
@@ -29,7 +30,7 @@ class Kept(Servers):
             self.start(server, self.lies.get(server))
 
     def words(self, *more, note=None):
-        return [*more, "--note", note or f"{self.name}.client", *self.links()]
+        return [*more, "--note", note or f"{self.name}.client", *self.mirror, *self.links()]
 
     def run(self, file, **more):
         """A run whose writes are all done, and its cut: its number."""
@@ -283,6 +284,29 @@ def fleet_ledgers_of_new_fleets():
     tell("the ledgers go on", (found[0], {at: it[1] for at, it in rests(found[1]).items()}, "put aside" in found[2]), (1, {it: int(it == (1, 1)) for it in PLACES}, False))
     tell("but for what the run may have written whose state is in the old note", {64 - 12 <= it[0] < 64 for it in rests(found[1]).values()}, {True})
     tell("once", [it[1] for it in rests(servers.check("fewer.fio")[1]).values()], [0] * 4)
+
+
+def fleet_ledgers_with_a_mirror():
+    """With a mirror the ledgers go on from run to run. Where the client's note is lost nobody knows which runs
+    an earlier client began, so they are put aside."""
+    servers = Kept("mirrored", mirror("mirrored.kept"))
+    servers.run(servers.all)
+    tell_rests("the first check", servers.check(servers.all), 0, all_sound())
+    for turn in range(2):
+        servers.restart()
+        servers.run(servers.few)
+        found = servers.check(servers.few)
+        tell_rests(f"a later one, {turn}", found, 0, all_sound())
+        tell("by the same ledgers", "put aside" in found[2], False)
+    os.remove("mirrored.client")
+    found = servers.check(servers.few)
+    tell_rests("without the note", found, 0, {it: (12, 0) for it in PLACES})
+    tell("the ledgers are put aside", found[2].count("put aside as .old"), 4)
+    servers.restart()
+    servers.run(servers.all)
+    found = servers.check(servers.all)
+    tell_rests("and then they go on", found, 0, all_sound())
+    tell("by the same ledgers again", "put aside" in found[2], False)
 
 
 def fleet_ledgers_flushed():
