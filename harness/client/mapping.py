@@ -55,13 +55,14 @@ class Drive:
         return True
 
     def end(self):
-        """Ends it, and returns all that it says, and its status."""
+        """Ends it, and returns all that it says."""
         try:
             self.process.stdin.close()
         except OSError:
             pass
         self.reader.join()
-        return self.said[0], self.process.wait()
+        self.process.wait()
+        return self.said[0]
 
 
 def map_job(answers, state, text, wait):
@@ -69,5 +70,5 @@ def map_job(answers, state, text, wait):
     the report, or why there is none; none where that doesn't answer."""
     it = Drive("map", state.run, state, text, state.data)
     has_all = it.give_all(answers, state, wait)
-    said, _ = it.end()
+    said = it.end()
     return said.decode().splitlines() if has_all else []

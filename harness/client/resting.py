@@ -13,9 +13,11 @@ from say import say
 from states import states_in
 from verdicts import FAULTS, NOT_WHOLE, SOUND
 
-# The lines of blocks that a run hasn't written since an earlier check, of all the lines that `drive` says.
+# Of what `drive` says: a line of a block that no run has written since an earlier check, the report, and the
+# line behind which the ledger stands; and the run whose write a block holds.
 AT_REST = re.compile(r"block \d+ (?:at-rest|unread): wants write \d+ of run \d+")
 REPORT = re.compile(r"report checked (\d+) faults (\d+) end whole ")
+LEDGER = re.compile(rb"^ledger (\d+)\n", re.M)
 HELD = re.compile(r", holds write .* of run (\d+)")
 
 
@@ -40,8 +42,9 @@ class Rest:
     """What a check by a ledger found at one place: its lines, how many blocks were checked, are lost and
     couldn't be read; or why there was none."""
 
-    def __init__(self, lines=(), checked=0, why=""):
+    def __init__(self, lines=(), checked=0, faults=0, why=""):
         self.lines, self.checked, self.why = [it for it in lines if AT_REST.match(it)], checked, why
+        self.faults = faults # with those that the last run has written
         self.lost = sum(" at-rest: " in it for it in self.lines)
         self.unread = len(self.lines) - self.lost
         self.path = self.ledger = None
@@ -160,19 +163,16 @@ class Ledgers:
             elif not drive.give_all(answers, state, self.wait):
                 drive.end()
                 return Rest(why="no blocks came"), b""
-            lines, data = cut_off(drive.end()[0])
-            if not data:
+            lines, data = cut_off(drive.end())
+            report = REPORT.match(lines[-1]) if lines else None
+            if not (data and report):
                 return Rest(why=f"run {run}: drive {command}: {lines[-1] if lines else 'it has ended'}"), b""
-        report = REPORT.match(lines[-1])
-        rest = Rest(lines, int(report[1]))
-        rest.faults = int(report[2])
-        return rest, data
+        return Rest(lines, int(report[1]), int(report[2])), data
 
 
 def cut_off(said):
     """Returns the lines that `drive` said, and the ledger behind them, no bytes where it isn't whole."""
-    at = 0 if said.startswith(b"ledger ") else said.find(b"\nledger ") + 1
-    front = re.compile(rb"ledger (\d+)\n").match(said, at) if at or said.startswith(b"ledger ") else None
+    front = LEDGER.search(said)
     data = said[front.end() :] if front else b""
-    is_whole = front and len(data) == int(front[1])
-    return said[: at if front else len(said)].decode(errors="replace").splitlines(), data if is_whole else b""
+    lines = said[: front.start() if front else len(said)].decode(errors="replace").splitlines()
+    return lines, data if front and len(data) == int(front[1]) else b""
