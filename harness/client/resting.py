@@ -38,6 +38,10 @@ def ledgers_of(of):
     return Ledgers(of)
 
 
+class Doubt(Exception):
+    """Why it isn't known what was written since a ledger was kept."""
+
+
 class Rest:
     """What a check by a ledger found at one place: its lines, how many blocks were checked, are lost and
     couldn't be read; or why there was none."""
@@ -84,7 +88,7 @@ class Ledgers:
         state = states_in(note).get((place.run, place.server, place.job))
         if not place.is_by_state() or not state:
             return None
-        self.runs = self.runs or Runs(self.note)
+        self.runs = Runs(self.note) # (each run of a series is in there by then)
         path = path_in(self.folder, place.server, place.job)
         answers = fleet.servers[place.server]
         is_flushed, where = answers.ask_flush(place.job, self.wait)
@@ -114,19 +118,19 @@ class Ledgers:
         if old:
             try:
                 return old, self.steps_since(old, fleet, note, state, where)
-            except Refused as why:
+            except Doubt as why:
                 put_aside(path, why)
         return None, [self.step_of(state.run, note, state)]
 
     def steps_since(self, ledger, fleet, note, state, where):
         generation, last = numbers_of(note)
         if (ledger.block_size, ledger.blocks) != (state.block_size, state.blocks):
-            raise Refused(f"it is of {ledger.blocks} blocks of {ledger.block_size} bytes, and this job has {state.blocks} of {state.block_size}")
+            raise Doubt(f"it is of {ledger.blocks} blocks of {ledger.block_size} bytes, and this job has {state.blocks} of {state.block_size}")
         runs = self.runs.since((ledger.fleet, ledger.run), fleet.kept.fleet, last)
         if ledger.generation != generation or runs is None:
-            raise Refused("it is by another note, and who may have written since isn't known")
+            raise Doubt("it is by another note, and who may have written since isn't known")
         if ledger.place != where:
-            raise Refused(f"it is of another target, {ledger.place}, and this is {where}")
+            raise Doubt(f"it is of another target, {ledger.place}, and this is {where}")
         steps = [self.step_of(run, note, state) for run in runs]
         return steps or [("ledger-rest", state.run, self.text_of(state.run, state.run), None)]
 
@@ -134,9 +138,9 @@ class Ledgers:
         """How a run is taken: by its state, or as one whose state was lost."""
         text = self.text_of(run, state.run)
         if text is None:
-            raise Refused(f"which job run {run} had isn't known")
-        if run != state.run and self.jobs_of(text).get(state.job) != (state.block_size, state.blocks):
-            raise Refused(f"run {run} had other blocks there")
+            raise Doubt(f"which job run {run} had isn't known")
+        if text != self.text_of(state.run, state.run) and self.jobs_of(text).get(state.job) != (state.block_size, state.blocks):
+            raise Doubt(f"run {run} had other blocks there")
         its = states_in(note).get((run, state.server, state.job))
         return ("ledger", run, text, its.data) if its else ("ledger-lost", run, text, None)
 

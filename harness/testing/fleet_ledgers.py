@@ -141,8 +141,8 @@ def fleet_cycles_by_ledgers():
     once, wherever the client is killed behind its line."""
     job_file("series.fio", jobs=1, blocks=64, writes=128)
     job_file("short.fio", jobs=1, blocks=64, writes=12)
-    start = f"{shlex.quote(SERVER)} 0 series-0-0 --note series-0.note >/dev/null 2>&1 </dev/null & echo $! >series.pid"
-    write("on", f"[ -f lie ] && export LD_PRELOAD={LIAR} LIE=forgotten:12 LIE_TARGET=series-0-0 LIE_LOG=series.log\n{start}\nunset LD_PRELOAD\nuntil [ -S series-0.note.socket ]; do sleep 0.01; done\n")
+    start = f"{shlex.quote(SERVER)} 0 series-0-0 --note series-0.note >/dev/null 2>>series.said </dev/null & echo $! >series.pid"
+    write("on", f"[ -f lie ] && export LD_PRELOAD={LIAR} LIE=$(cat lie) LIE_TARGET=series-0-0 LIE_LOG=series.log\n{start}\nunset LD_PRELOAD\nuntil [ -S series-0.note.socket ]; do sleep 0.01; done\nrm -f lie\n")
     write("off", "kill -9 $(cat series.pid); rm -f series-0.note.socket\n")
     link = f"exec {SERVER} link --note series-0.note 2>/dev/null"
     write("fleet.toml", f'servers = ["{link}"]\nnote = "series.note"\nledger = "K"\noff = "sh ./off"\non = "sh ./on"\n')
@@ -154,14 +154,24 @@ def fleet_cycles_by_ledgers():
     def rows(folder):
         return [[it["at_rest"], *(len(at["lines"]) for at in it["reports"])] for it in map(json.loads, read(f"{folder}/cycles.jsonl").splitlines())]
 
+    def by_ledger(folder):
+        return [it["reports"][0].get("by_ledger") for it in map(json.loads, read(f"{folder}/cycles.jsonl").splitlines())]
+
     subprocess.run(["sh", "./on"], check=True)
     tell("three cycles", series("series.fio", "whole", "--cycles", "3"), (0, [0, 0, 0]))
     tell("and three of few writes", series("short.fio", "short", "--cycles", "3"), (0, [0, 0, 0]))
     subprocess.run(["sh", "./off"], check=True)
-    write("lie", "")
+    write("lie", "stalled:1:4")
     write("series.log", "")
     subprocess.run(["sh", "./on"], check=True)
-    os.remove("lie")
+    killer = subprocess.Popen(["sh", "-c", "until grep -q stalled series.log; do sleep 0.01; done; kill -9 $(cat series.pid)"])
+    status, _ = series("short.fio", "killed", "--cycles", "2", "--cut-anyway", "--keep-going", "--every", "1", "--wait", "2")
+    killer.wait()
+    tell("behind a run without a state the ledger goes on", (status, by_ledger("killed")), (2, [None, 64]))
+    subprocess.run(["sh", "./off"], check=True)
+    write("lie", "forgotten:12")
+    write("series.log", "")
+    subprocess.run(["sh", "./on"], check=True)
     env = {"LD_PRELOAD": LIAR, "LIE_STOPS": "behind/server-0-job-0.ledger"}
     tell("a target that forgets, and a client that is killed", series("short.fio", "forgets", "--cycles", "1", env=env), (-9, []))
     lost = read("series.log").decode().count("forgotten")
