@@ -4,6 +4,7 @@ import os
 import random
 import time
 
+from ledger import settle_told
 from lives import begin_life, begin_with_room
 from note import Refused
 from power import run_command
@@ -38,6 +39,8 @@ class Series:
         self.folder, self.rows = of.folder, rows_of(of.folder)
         if self.rows and not of.resume:
             raise Refused(f"{of.folder}: a series is there already: --resume goes on with it")
+        if self.ledgers:
+            settle_told(of.ledger, {it["run"] for it in self.rows})
         self.seed = self.rows[0]["seed"] if self.rows else of.seed if of.seed is not None else random.SystemRandom().getrandbits(32)
         least, _, most = of.every.partition("..")
         try:
@@ -89,8 +92,8 @@ def row_of_place(place, found, rests):
 
 
 def one_cycle(of, series):
-    """A cycle, whose line it keeps and returns. The ledgers are kept behind the line: what they tell is in
-    one by then."""
+    """A cycle, whose line it keeps and returns. The ledgers are staged before the line, and stand in their
+    places behind it: so what they tell is in one line, wherever the client is killed."""
     begun, number = time.monotonic(), len(series.rows) + 1
     seconds = series.moment(number)
     written, is_cut = write_and_cut(of, seconds)
@@ -108,6 +111,8 @@ def one_cycle(of, series):
     row |= {"checked": checked, "faults": faults, "status": status, "seconds": round(time.monotonic() - begun, 1)}
     row |= {"at_rest": sum(it.lost for it in rests.values())} if series.ledgers else {}
     row["reports"] = reports
+    for it in rests.values():
+        it.stage()
     series.keep(row)
     for it in rests.values():
         it.keep()

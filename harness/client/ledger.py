@@ -41,8 +41,15 @@ def read_ledger(path, server, job):
     return ledger
 
 
-def keep_ledger(path, ledger):
-    keep_sealed(path, WHAT, FORM.format(ledger, len(ledger.data)).encode(errors="replace") + ledger.data)
+def stage_ledger(path, ledger):
+    """Keeps it beside its place, on the disk."""
+    keep_sealed(f"{path}.next", WHAT, FORM.format(ledger, len(ledger.data)).encode(errors="replace") + ledger.data)
+
+
+def settle_ledger(path):
+    """Has the one that stands beside stand in its place."""
+    os.replace(f"{path}.next", path)
+    sync_folder(path)
 
 
 def put_aside(path, why):
@@ -50,6 +57,21 @@ def put_aside(path, why):
     os.replace(path, f"{path}.old")
     sync_folder(path)
     say(f"{path}: it is put aside as .old, and a new one begins: {why}")
+
+
+def settle_told(folder, runs):
+    """Of the ledgers beside their places those stand there from now on whose runs have a line in a series;
+    the others were told to nobody, and are taken away."""
+    for name in sorted(os.listdir(folder)):
+        found = NAME.fullmatch(name.removesuffix(".next")) if name.endswith(".next") else None
+        if not found:
+            continue
+        path, at = path_in(folder, found[1], found[2]), (int(found[1]), int(found[2]))
+        staged, kept = read_ledger(f"{path}.next", *at), read_ledger(path, *at)
+        if staged.run in runs and not (kept and kept.run >= staged.run):
+            settle_ledger(path)
+        else:
+            os.remove(f"{path}.next")
 
 
 def refuse_damaged(folder):

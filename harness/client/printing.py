@@ -43,6 +43,7 @@ def print_places(verdict, reports, as_json, map_of=None, rest_of=None):
         rest = rest_of(it, report) if rest_of else None
         if rest:
             print_rest(it, rest, as_json)
+            rest.stage()
             rest.keep()
             rests.append(rest)
     return rests

@@ -5,7 +5,7 @@ import re
 import subprocess
 
 import texts
-from ledger import Ledger, keep_ledger, path_in, put_aside, read_ledger, refuse_damaged
+from ledger import Ledger, path_in, put_aside, read_ledger, refuse_damaged, settle_ledger, stage_ledger
 from mapping import Drive, find_drive
 from note import Refused, last_run, numbers_of
 from runs import Runs
@@ -56,10 +56,16 @@ class Rest:
     def status(self):
         return FAULTS if self.lost else NOT_WHOLE if self.unread or self.why else SOUND
 
-    def keep(self):
-        """Keeps the new ledger. What it told is told by then: it is told no second time."""
+    def stage(self):
+        """Keeps the new ledger beside the place of the old one."""
         if self.ledger:
-            keep_ledger(self.path, self.ledger)
+            stage_ledger(self.path, self.ledger)
+
+    def keep(self):
+        """Has the new ledger, which was staged, stand in its place. What it told is told by then: it is told no
+        second time."""
+        if self.ledger:
+            settle_ledger(self.path)
 
     def told(self):
         if self.why:

@@ -151,12 +151,6 @@ def fleet_cycles_by_ledgers():
         status, printed, _ = fleet("cycle", file, folder, "--every", "30", "--pause", "0", "--json", *more, env=env or {})
         return status, [json.loads(it)["at_rest"] for it in printed.splitlines()]
 
-    def rows(folder):
-        return [[it["at_rest"], *(len(at["lines"]) for at in it["reports"])] for it in map(json.loads, read(f"{folder}/cycles.jsonl").splitlines())]
-
-    def by_ledger(folder):
-        return [it["reports"][0].get("by_ledger") for it in map(json.loads, read(f"{folder}/cycles.jsonl").splitlines())]
-
     subprocess.run(["sh", "./on"], check=True)
     tell("three cycles", series("series.fio", "whole", "--cycles", "3"), (0, [0, 0, 0]))
     tell("and three of few writes", series("short.fio", "short", "--cycles", "3"), (0, [0, 0, 0]))
@@ -167,15 +161,34 @@ def fleet_cycles_by_ledgers():
     killer = subprocess.Popen(["sh", "-c", "until grep -q stalled series.log; do sleep 0.01; done; kill -9 $(cat series.pid)"])
     status, _ = series("short.fio", "killed", "--cycles", "2", "--cut-anyway", "--keep-going", "--every", "1", "--wait", "2")
     killer.wait()
-    tell("behind a run without a state the ledger goes on", (status, by_ledger("killed")), (2, [None, 64]))
+    tell("behind a run without a state the ledger goes on", (status, [it["reports"][0].get("by_ledger") for it in rows_in("killed")]), (2, [None, 64]))
     subprocess.run(["sh", "./off"], check=True)
     write("lie", "forgotten:12")
     write("series.log", "")
     subprocess.run(["sh", "./on"], check=True)
-    env = {"LD_PRELOAD": LIAR, "LIE_STOPS": "behind/server-0-job-0.ledger"}
+    killed_series(series)
+
+
+def rows_in(folder):
+    """The lines of a series, none where there is no file of them."""
+    lines = read(f"{folder}/cycles.jsonl").splitlines() if os.path.exists(f"{folder}/cycles.jsonl") else []
+    return [json.loads(it) for it in lines]
+
+
+def losses(folder):
+    """Of each cycle how many blocks were lost at rest, and how many have a line."""
+    return [(it["at_rest"], sum(len(at["lines"]) for at in it["reports"])) for it in rows_in(folder)]
+
+
+def killed_series(series):
+    """A target has lost a block, and the client is killed before the cycle's line, and then behind it."""
+    env = {"LD_PRELOAD": LIAR, "LIE_STOPS": "behind/server-0-job-0.ledger.next"}
     tell("a target that forgets, and a client that is killed", series("short.fio", "forgets", "--cycles", "1", env=env), (-9, []))
     lost = read("series.log").decode().count("forgotten")
-    tell("the line is in the folder by then, and each loss", (lost, rows("forgets")), (1, [[lost, lost]]))
+    tell("before the line", (lost, losses("forgets")), (1, []))
+    subprocess.run(["sh", "./off"], check=True)
+    env["LIE_STOPS"] = "before/server-0-job-0.ledger"
+    tell("what no line tells is told by the next", (series("short.fio", "forgets", "--cycles", "1", "--resume", env=env), losses("forgets")), ((-9, []), [(lost, lost)]))
     subprocess.run(["sh", "./off"], check=True)
     tell("it isn't told again", series("short.fio", "forgets", "--cycles", "2", "--resume", "--keep-going"), (1, [0]))
     subprocess.run(["sh", "./off"], check=True)
