@@ -2,14 +2,16 @@
 server and job. What is lost at rest is told once, there; and nothing is told of targets that keep all."""
 import json
 import os
+import random
 import re
 import shlex
 import struct
 import subprocess
+import time
 
 from ledger_fleets import LEDGERS, PLACES, Kept, all_sound, rests, tell_rests
 from serving import FLEET, SERVER, fleet, job_file, reports
-from trying import BLOCK, LIAR, QUIET, await_text, read, tell, write
+from trying import BLOCK, LIAR, QUIET, as_often, await_text, read, tell, write
 
 
 def fleet_ledgers():
@@ -114,6 +116,38 @@ def fleet_runs_unchecked():
     status, printed, said = fleet("check", servers.few, *servers.words("--ledger", "L", "--run", str(first)))
     servers.cut()
     tell("an earlier run", (status, printed, "is of the last run" in said), (2, "", True))
+
+
+def fleet_ledgers_of_killed_nodes():
+    """Servers and the client are killed at random moments within runs of several jobs, of which some are never
+    checked: nothing is told as lost at rest of targets that keep all."""
+    servers, chance, kills, asked = Kept("random"), random.Random(11), 0, 0
+    servers.run(servers.all)
+    tell_rests("the first check", servers.check(servers.all), 0, all_sound())
+    files = [job_file(f"random-{writes}.fio", blocks=64, writes=writes) for writes in (6, 20, 64, 100_000)]
+    servers.lies = {it: {"LD_PRELOAD": LIAR, "LIE": "slow:9", "LIE_TARGET": f"random-{it}-0"} for it in range(2)}
+    for turn in range(12 * as_often["killed"]):
+        servers.restart()
+        file = chance.choice(files)
+        writing = subprocess.Popen([FLEET, "write", file, *servers.words("--after", f"{chance.uniform(0.1, 0.6):.2f}", "--wait", "3")], **QUIET)
+        for _ in range(chance.choice((0, 0, 1, 2))):
+            time.sleep(chance.uniform(0.1, 0.8))
+            victim, kills = chance.randrange(3), kills + 1
+            if victim == 2:
+                writing.kill()
+            else:
+                servers.kill(victim)
+                servers.start(victim, servers.lies[victim])
+        writing.wait()
+        servers.cut()
+        if chance.random() < 0.3:
+            continue
+        status, printed, said = servers.check(file, "--wait", "10")
+        told = rests(printed)
+        asked += sum(it[0] for it in told.values())
+        tell(f"killed nodes, turn {turn}: nothing is lost at rest", (status is not None, {at: it[1] for at, it in told.items() if it[1]}, "put aside" in said), (True, {}, False))
+    print(f"fleet_ledgers_of_killed_nodes: {kills} kills, {asked} blocks checked by ledgers")
+    tell("ledgers asked for blocks", asked > 0, True)
 
 
 def fleet_ledgers_killed():

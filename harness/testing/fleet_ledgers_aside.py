@@ -2,11 +2,12 @@
 one."""
 import os
 import re
+import shlex
 
 from fleet_mirrors import mirror
 from fleet_rooms import fill
 from ledger_fleets import LEDGERS, PLACES, Kept, all_sound, rests, tell_rests
-from serving import fleet, job_file
+from serving import TOP, fleet, job_file
 from trying import LIAR, read, tell, write
 
 
@@ -121,6 +122,21 @@ def fleet_ledgers_with_a_mirror():
     found = servers.check(servers.all)
     tell_rests("and then they go on", found, 0, all_sound())
     tell("by the same ledgers again", "put aside" in found[2], False)
+
+
+def fleet_ledgers_over_bad_links():
+    """Over links that lose, repeat and delay frames, and end, the ledgers tell the same."""
+    servers = Kept("badly")
+    first = servers.run(servers.all)
+    tell_rests("the first check", servers.check(servers.all), 0, all_sound())
+    servers.restart()
+    servers.run(servers.few)
+    lost = servers.holders(1, 0, first)[0]
+    servers.zero(1, 0, lost)
+    servers.before_links = f"exec {shlex.quote(f'{TOP}/tools/bad-link')} --cut 0.03"
+    found = servers.check(servers.few)
+    tell_rests("over bad links", found, 1, all_sound() | {(1, 0): (64, 1)}, 1)
+    tell_rests("once", servers.check(servers.few), 0, all_sound() | {(1, 0): (63, 0)})
 
 
 def fleet_ledgers_flushed():

@@ -13,6 +13,8 @@ LEDGERS = sorted(f"server-{server}-job-{job}.ledger" for server, job in PLACES)
 class Kept(Servers):
     """Two servers of two jobs each, whose client keeps ledgers, and what its runs and checks come to."""
 
+    before_links = "exec"
+
     def __init__(self, name, mirror=()):
         self.lies, self.mirror = {}, mirror
         super().__init__(name, 2)
@@ -23,7 +25,7 @@ class Kept(Servers):
             self.start(server, self.lies.get(server))
 
     def words(self, *more, note=None):
-        return [*more, "--note", note or f"{self.name}.client", *self.mirror, *self.links()]
+        return [*more, "--note", note or f"{self.name}.client", *self.mirror, *self.links(self.before_links)]
 
     def run(self, file, **more):
         """A run whose writes are all done, and its cut: its number."""
