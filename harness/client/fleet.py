@@ -202,8 +202,7 @@ class Fleet:
 
     def begin(self, text):
         """Begins a run with this text, which is kept beside the note before a server hears of it."""
-        due = numbers_of(self.kept.read())[1] + 1
-        Runs(self.kept.path).begin(due, text)
+        Runs(self.kept.path).begin(numbers_of(self.kept.note)[1] + 1, text)
         return self.number_for(BEGIN, text, "begin")
 
     def verify(self, run, text):

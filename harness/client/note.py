@@ -82,6 +82,7 @@ class KeptNote:
 
     def __init__(self, path, whose=CLIENT):
         self.path, self.whose, self.servers, self.fleet, self.before, self.past = path, whose, 0, 0, 0, 0
+        self.note = None # as it was read or kept last
         self.lock = open(open_own(path + ".lock", os.O_WRONLY), "w", encoding="ascii")
         until = time.monotonic() + 2
         while True:
@@ -120,11 +121,13 @@ class KeptNote:
         if whose != self.whose:
             raise Refused(f"{self.path}: this is another node's note")
         self.servers, self.fleet, self.before, self.past = rest
+        self.note = note
         return note
 
     def keep(self, note):
         front = WHOSE.pack(self.whose, self.servers, self.fleet, self.before, self.past)
         keep_file(self.path, MAGIC + front + struct.pack(">I", zlib.crc32(front + note)) + note)
+        self.note = note
 
     def put_aside(self, fleet, note=b"", past=0):
         """Keeps the note beside its place, and there the first one of a fleet that takes the place of its

@@ -85,7 +85,7 @@ class Ledgers:
 
     def refuse_earlier(self, fleet, run):
         """Refuses a check of another run than the last: of the blocks as they are it says too little."""
-        if run and run != last_run(fleet.kept.read()):
+        if run and run != last_run(fleet.kept.note):
             raise Refused(f"--run {run}: a check by ledgers is of the last run: check it without --ledger")
 
     def check(self, fleet, place, report):
