@@ -1,5 +1,5 @@
 /* What the client's harness asks of this one beside the frames of the nodes: how many writes are
- * done, and what a target holds. No node hears of it, and no verdict rests on it.
+ * done, and what a target holds. No node hears of it, and no verdict of a node rests on it.
  *
  * A query, and its answer, has a head as long as a frame's: `FH`, 1, its kind, eight zeros, and how
  * long the rest is in four bytes. An answer names what it answers, so a query may be lost, and asked
