@@ -15,6 +15,9 @@ note = "client.note"
 # The link to a mirror, where there is one: it keeps a copy of each state on another machine.
 # mirror = "ssh -o BatchMode=yes root@m fleet mirror --note mirror.note"
 
+# The folder of the ledgers, where checks go by them: they ask for what an earlier check found sound, too.
+# ledger = "ledgers"
+
 # The commands that switch the servers' power.
 cut = "./relay off"
 off = "./relay off"
@@ -23,7 +26,7 @@ on = "./relay on"
 
 
 # What a book may say, the option of each, and of what kind it is.
-KEYS = {"servers": ("server", list), "note": ("note", str), "mirror": ("mirror", str), "cut": ("cut", str), "off": ("off", str), "on": ("on", str)}
+KEYS = {"servers": ("server", list), "note": ("note", str), "mirror": ("mirror", str), "ledger": ("ledger", str), "cut": ("cut", str), "off": ("off", str), "on": ("on", str)}
 MOST_SERVERS = 8
 
 

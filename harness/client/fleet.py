@@ -11,6 +11,7 @@ from note import KeptNote, Refused, drawn_fleet, first_note, has_room, new_gener
 from queries import HELLO, QUERY_HELLO, Answers, is_answer, query
 from records import BEGIN, ENDED, ENDS_OF, END_AT, END_OF_ALL, FRAME, GOOD, LOOK, MIRROR, NONE, NOTE, NUMBER, OPEN, OUTCOME, REFUSALS, REPORT, REQUESTS, SAVE, SEND, SHOW, STOP, TICK, TRIGGER, VERIFY
 from records import Report, addressee, read_record, record
+from runs import Runs
 from states import states_in
 from verdicts import Place, Verdict
 
@@ -200,6 +201,8 @@ class Fleet:
         return self.number
 
     def begin(self, text):
+        """Begins a run with this text, which is kept beside the note before a server hears of it."""
+        Runs(self.kept.path).begin(numbers_of(self.kept.note)[1] + 1, text)
         return self.number_for(BEGIN, text, "begin")
 
     def verify(self, run, text):

@@ -1,8 +1,10 @@
 """The lives of a fleet's client: how one begins, and how a new fleet does where the note is full."""
+import struct
 import time
 
 from fleet import Fleet
-from note import Refused, begin_new_fleet
+from note import KeptNote, Refused, drawn_fleet, first_note, numbers_of
+from runs import Runs
 from say import say
 
 
@@ -30,3 +32,17 @@ def begin_with_room(of):
     fleet.close()
     begin_new_fleet(of.note)
     return begin_life(of)
+
+
+def begin_new_fleet(path):
+    """Has a new fleet take the place of the one whose client's note is full. Its client begins behind the
+    runs and attempts of the old one; or with a mirror over no note, in a generation above: the mirror and
+    the servers then put their notes aside, too, as this client comes to them."""
+    kept = KeptNote(path)
+    generation, runs, attempts = struct.unpack(">QQQ", kept.read()[4:28])
+    fleet, note = drawn_fleet(), b"" if generation else first_note(max(runs, attempts))
+    if note:
+        Runs(path).follow(fleet, kept.fleet, runs, numbers_of(note)[1])
+    place = kept.put_aside(fleet, note, generation)
+    kept.close()
+    say(f"{path}: it has no room for another run: its states are in {place}, and a new fleet begins" + (", as do the mirror's note and the servers'" if generation else ""))

@@ -7,7 +7,6 @@ import struct
 import time
 import zlib
 
-from say import say
 from states import states_in
 
 CLIENT, MIRROR = 8, 9
@@ -83,6 +82,7 @@ class KeptNote:
 
     def __init__(self, path, whose=CLIENT):
         self.path, self.whose, self.servers, self.fleet, self.before, self.past = path, whose, 0, 0, 0, 0
+        self.note = None # as it was read or kept last
         self.lock = open(open_own(path + ".lock", os.O_WRONLY), "w", encoding="ascii")
         until = time.monotonic() + 2
         while True:
@@ -121,11 +121,13 @@ class KeptNote:
         if whose != self.whose:
             raise Refused(f"{self.path}: this is another node's note")
         self.servers, self.fleet, self.before, self.past = rest
+        self.note = note
         return note
 
     def keep(self, note):
         front = WHOSE.pack(self.whose, self.servers, self.fleet, self.before, self.past)
         keep_file(self.path, MAGIC + front + struct.pack(">I", zlib.crc32(front + note)) + note)
+        self.note = note
 
     def put_aside(self, fleet, note=b"", past=0):
         """Keeps the note beside its place, and there the first one of a fleet that takes the place of its
@@ -160,14 +162,3 @@ def last_run(note):
 def has_room(note, servers, jobs=16):
     """Whether a client's note has room for the states of another run."""
     return len(states_in(note)) + servers * jobs <= MOST_STATES
-
-
-def begin_new_fleet(path):
-    """Has a new fleet take the place of the one whose client's note is full. Its client begins behind the
-    runs and attempts of the old one; or with a mirror over no note, in a generation above: the mirror and
-    the servers then put their notes aside, too, as this client comes to them."""
-    kept = KeptNote(path)
-    generation, runs, attempts = struct.unpack(">QQQ", kept.read()[4:28])
-    place = kept.put_aside(drawn_fleet(), b"" if generation else first_note(max(runs, attempts)), generation)
-    kept.close()
-    say(f"{path}: it has no room for another run: its states are in {place}, and a new fleet begins" + (", as do the mirror's note and the servers'" if generation else ""))

@@ -7,7 +7,7 @@ import texts
 from mapping import map_job
 from say import say
 from states import states_in
-from stories import FAILED, SOUND
+from stories import FAILED, SOUND, worst_of
 from verdicts import UNREAD, WORDS
 
 
@@ -26,9 +26,11 @@ def print_written(written, as_json):
         print(f"run {written.run}: " + ("the states are kept" if written.is_kept else "not all states are kept") + failed, flush=True)
 
 
-def print_places(verdict, reports, as_json, map_of=None):
+def print_places(verdict, reports, as_json, map_of=None, rest_of=None):
     """Prints a line for each job at each server, how its check ended, and behind it what a map tells of its
-    blocks, where it has faults, or one that can't be read."""
+    blocks, where it has faults, or one that can't be read; and what its ledger does. Returns what the
+    ledgers told."""
+    rests = []
     for it in verdict.places:
         report = reports.get((it.server, it.job)) if it.has_report() else None
         if as_json:
@@ -38,6 +40,22 @@ def print_places(verdict, reports, as_json, map_of=None):
         for line in map_of(report, not it.is_by_state()) if report and map_of and (it.faults or it.end == UNREAD) else ():
             whose = {"run": it.run, "server": it.server, "job": it.job}
             print(json.dumps({**whose, **block_in(line), "map": line}) if as_json else f"server {it.server} job {it.job}: {line}", flush=True)
+        rest = rest_of(it, report) if rest_of else None
+        if rest:
+            print_rest(it, rest, as_json)
+            rest.stage()
+            rest.keep()
+            rests.append(rest)
+    return rests
+
+
+def print_rest(place, rest, as_json):
+    """Prints a line for each block that was lost at rest, or that had to hold something and couldn't be
+    read, and how many there are."""
+    whose = {"run": place.run, "server": place.server, "job": place.job}
+    for line in rest.lines:
+        print(json.dumps({**whose, **block_in(line), "ledger": line}) if as_json else f"server {place.server} job {place.job}: {line}")
+    print(json.dumps(whose | rest.row()) if as_json else f"server {place.server} job {place.job}: {rest.told()}", flush=True)
 
 
 def told(place, report):
@@ -78,14 +96,18 @@ def maps_of(fleet, job_file, wait=60):
     return map_of
 
 
-def print_total(verdict, as_json):
-    """Prints what a check came to, in the node's word, and returns the status that this is."""
-    words = WORDS[verdict.word]
+def print_total(verdict, as_json, rests=None):
+    """Prints what a check came to, in the node's word, or by what the ledgers told in a worse one, and returns
+    the status that this is."""
+    word = worst_of([verdict.word, *(it.status() for it in rests or ())])
+    lost = sum(it.lost for it in rests or ())
     if as_json:
-        print(json.dumps({"run": verdict.run, "verdict": words, "checked": verdict.checked, "faults": verdict.faults, "status": verdict.word}), flush=True)
+        by_ledgers = {} if rests is None else {"at_rest": lost}
+        print(json.dumps({"run": verdict.run, "verdict": WORDS[word], "checked": verdict.checked, "faults": verdict.faults, **by_ledgers, "status": word}), flush=True)
     else:
-        print(f"run {verdict.run}: {words}, {verdict.checked} checked, {verdict.faults} faults", flush=True)
-    return verdict.word
+        by_ledgers = "" if rests is None else f", {lost} lost at rest"
+        print(f"run {verdict.run}: {WORDS[word]}, {verdict.checked} checked, {verdict.faults} faults{by_ledgers}", flush=True)
+    return word
 
 
 def print_status(fleet, wait, as_json):

@@ -1,14 +1,15 @@
 """What this harness asks a server's beside the frames of the nodes, over the same link, and what it
 is answered: how many writes have ended, and what a target holds. harness/server/queries.h has the
-bytes. No node hears of it, and no verdict rests on it: what is lost is asked again. A mirror's says
-unasked how many copies its node sent."""
+bytes. No node hears of it, and no verdict of a node rests on it: what is lost is asked again. A mirror's
+says unasked how many copies its node sent."""
+import secrets
 import struct
 import threading
 import time
 
 # The kinds of queries and answers; the head, and what says which blocks are wanted.
 QUERY_ENDS, ENDS, QUERY_BLOCKS, BLOCKS, UNREAD = range(1, 6)
-QUERY_HELLO, WELCOME, QUERY_FIT, FIT = range(7, 11)
+QUERY_HELLO, WELCOME, QUERY_FIT, FIT, QUERY_FLUSH, FLUSHED, UNFLUSHED = range(7, 14)
 HEAD, WANTED = 16, 16
 # What a mirror's harness says behind a generation that is granted: this kind, the generation, and how
 # many copies were sent behind it.
@@ -17,6 +18,8 @@ COPIES, COPIES_SENT = 6, struct.Struct(">QI")
 # job: its number, its last run, and its writes that are done and failed; and what
 # is asked of one that is to be written: its number, the size of a block, and how many there are.
 ROWS, ROW, WISH = struct.Struct(">IQ"), struct.Struct(">IQQQ"), struct.Struct(">III")
+# Which job's target is to be flushed, and a number that is drawn: an answer to an earlier one is none.
+FLUSH = struct.Struct(">IQ")
 # Who says hello: the fleet, the server that it is for, how many there are, the fleet whose place it
 # takes, or 0, and whether it has a mirror, 1 or 0. Who is here: the number of a server, or of a mirror, and the fleet that it serves, 0 where
 # there is none yet.
@@ -64,6 +67,7 @@ class Answers:
     def __init__(self, link):
         self.link, self.changed = link, threading.Condition()
         self.ends, self.why, self.came, self.grew, self.blocks, self.fit = {}, "", None, None, {}, None
+        self.flushes = {}
         self.read, self.read_at = 0, None # bytes for checks, and when they grew
 
     def hear(self, answer):
@@ -75,6 +79,8 @@ class Answers:
                 self.fit = body.decode(errors="replace")
             elif kind in (BLOCKS, UNREAD):
                 self.blocks[body[:WANTED]] = kind, body[WANTED:]
+            elif kind in (FLUSHED, UNFLUSHED):
+                self.flushes[body[: FLUSH.size]] = kind == FLUSHED, body[FLUSH.size :].decode(errors="replace")
             self.changed.notify_all()
 
     def take_ends(self, body):
@@ -124,6 +130,17 @@ class Answers:
                 self.link.send(asked)
                 self.changed.wait_for(lambda: self.fit is not None, min(1, wait))
             return self.fit
+
+    def ask_flush(self, job, wait):
+        """Has the target of a job flushed. Returns whether that was done, and where it lies, or why not."""
+        until, asked = time.monotonic() + wait, FLUSH.pack(job, secrets.randbits(64))
+        with self.changed:
+            while asked not in self.flushes:
+                if time.monotonic() > until:
+                    return False, "its harness doesn't answer, or is older than this client"
+                self.link.send(query(QUERY_FLUSH, asked))
+                self.changed.wait_for(lambda: asked in self.flushes, min(AGAIN, wait))
+            return self.flushes.pop(asked)
 
     def ask_blocks(self, wanted, wait):
         """Returns the kind and the bytes of an answer to what is wanted, of no bytes where none comes."""

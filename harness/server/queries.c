@@ -1,14 +1,16 @@
 #include "queries.h"
 
+#include "flushed.h"
 #include "say.h"
 #include "wanted.h"
 
 #include <errno.h>
+#include <inttypes.h>
 #include <stdlib.h>
 #include <string.h>
 
 /* What an answer has of each job, and how many bytes a query may want at once. */
-enum { ENDS_HEAD = 12, ENDS_BYTES = 28, WISH_BYTES = 12, MOST_AT_ONCE = 4 << 20, KIND_AT = 3, LENGTH_AT = 12 };
+enum { ENDS_HEAD = 12, ENDS_BYTES = 28, WISH_BYTES = 12, FLUSH_BYTES = 12, MOST_AT_ONCE = 4 << 20, KIND_AT = 3, LENGTH_AT = 12 };
 
 /* An answer with room for so many bytes behind its head. */
 static uint8_t *answer_of(enum query_kind kind, size_t length) {
@@ -71,11 +73,22 @@ static bool tell_blocks(const struct queries *queries, const uint8_t *asked) {
     return true;
 }
 
+static void tell_flushed(const struct queries *queries, const uint8_t *asked) {
+    char words[FLUSHED_WORDS];
+    bool is_flushed = have_flushed(queries->lanes, queries->lane_count, get_32(asked), words);
+    if (!is_flushed) say("no check by a ledger of job %" PRIu32 ": %s", get_32(asked), words);
+    uint8_t *bytes = answer_of(is_flushed ? ANSWER_FLUSHED : ANSWER_UNFLUSHED, FLUSH_BYTES + strlen(words));
+    memcpy(bytes + FRAME_HEAD, asked, FLUSH_BYTES);
+    memcpy(bytes + FRAME_HEAD + FLUSH_BYTES, words, strlen(words));
+    send_answer(queries, bytes, FLUSH_BYTES + strlen(words));
+}
+
 bool answer_query(void *queries, const uint8_t *bytes, size_t length) {
     switch (bytes[KIND_AT]) {
     case QUERY_ENDS: return tell_ends(queries), true;
     case QUERY_FIT: return tell_fit(queries, bytes + FRAME_HEAD, length - FRAME_HEAD);
     case QUERY_BLOCKS: return length == FRAME_HEAD + WANTED_BYTES && tell_blocks(queries, bytes + FRAME_HEAD);
+    case QUERY_FLUSH: return length == FRAME_HEAD + FLUSH_BYTES && (tell_flushed(queries, bytes + FRAME_HEAD), true);
     default: return false;
     }
 }

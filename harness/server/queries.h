@@ -1,5 +1,5 @@
 /* What the client's harness asks of this one beside the frames of the nodes: how many writes are
- * done, and what a target holds. No node hears of it, and no verdict rests on it.
+ * done, and what a target holds. No node hears of it, and no verdict of a node rests on it.
  *
  * A query, and its answer, has a head as long as a frame's: `FH`, 1, its kind, eight zeros, and how
  * long the rest is in four bytes. An answer names what it answers, so a query may be lost, and asked
@@ -19,8 +19,11 @@
  * each its number, the size of a block and how many there are, in four bytes each; the answer says why
  * they don't, or nothing.
  * One for blocks says what is wanted, as a check does; the answer says that again, and then has the
- * bytes of whole blocks from the first one on, or, of another kind, why that one can't be read. */
-enum query_kind { QUERY_ENDS = 1, ANSWER_ENDS, QUERY_BLOCKS, ANSWER_BLOCKS, ANSWER_UNREAD, QUERY_FIT = 9, ANSWER_FIT };
+ * bytes of whole blocks from the first one on, or, of another kind, why that one can't be read.
+ * One that a target is to be flushed has the job in four bytes and a number in eight, which the client
+ * draws; the answer says both again, and then where the job's blocks lie, and on which drive; or, of
+ * another kind, why it can't be. */
+enum query_kind { QUERY_ENDS = 1, ANSWER_ENDS, QUERY_BLOCKS, ANSWER_BLOCKS, ANSWER_UNREAD, QUERY_FIT = 9, ANSWER_FIT, QUERY_FLUSH, ANSWER_FLUSHED, ANSWER_UNFLUSHED };
 
 struct queries {
     struct door *door;
