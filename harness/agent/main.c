@@ -2,12 +2,11 @@
  * nothing. docs/DRIVE.md is the manual. */
 #include "answers.h"
 #include "bytes.h"
-#include "chunk.h"
 #include "cpu.h"
 #include "executor.h"
 #include "hello.h"
 #include "local.h"
-#include "reading.h"
+#include "requests.h"
 #include "say.h"
 #include "way.h"
 #include "words.h"
@@ -97,24 +96,6 @@ static void take_last(void *hello, const void *bytes, size_t length) {
     if (((const struct hello *)hello)->is_local) tell_last_words(bytes, length);
 }
 
-static bool give_back_bytes(void *none, const void *bytes, size_t length) {
-    const struct chunk chunk = chunk_of(CHUNK_BYTES, length, bytes, length);
-    (void)none;
-    answer(&chunk, sizeof chunk);
-    answer(bytes, length);
-    return true;
-}
-
-static bool tell_missed(void *none, uint64_t block, const char *why) {
-    char words[MAX_WHY] = "";
-    (void)none;
-    snprintf(words, sizeof words, "%s", why);
-    const struct chunk chunk = chunk_of(CHUNK_MISSED, block, words, sizeof words);
-    answer(&chunk, sizeof chunk);
-    answer(words, sizeof words);
-    return true;
-}
-
 static void write_for(const struct settings *settings, struct hello *hello) {
     static struct child drive;
     int orders = STDIN_FILENO;
@@ -132,11 +113,9 @@ static void write_for(const struct settings *settings, struct hello *hello) {
 
 static void read_for(const struct settings *settings, const struct hello *hello) {
     struct target target = open_to_read(&settings->opening);
-    const struct chunk end = chunk_of(CHUNK_END, 0, NULL, 0);
     if (hello->flushes) flush_target(&target);
     welcome_witness(settings, &target, hello);
-    read_region(&target, &hello->region, &(struct sink){NULL, give_back_bytes, tell_missed});
-    answer(&end, sizeof end);
+    answer_requests(&target, &hello->region);
 }
 
 int main(int count, char **words) {

@@ -11,6 +11,7 @@ from power import run_command
 from printing import row_of
 from resting import ledgers_of
 from say import say
+from stopping import STOPS, sleep
 from stories import FAILED, SOUND, Trigger, check, worst_of, write
 
 LINES = "cycles.jsonl"
@@ -64,14 +65,14 @@ def write_and_cut(of, seconds):
     """Writes until the trigger, and has the power cut and given back; where not all is kept there is no
     cut, unless that is asked for. Returns what was written, and whether there was a cut."""
     fleet = begin_with_room(of)
-    of.stops.takes_first = True
-    written = write(fleet, of.jobfile, Trigger(of.stops, None, seconds), of.wait)
+    STOPS.count_first()
+    written = write(fleet, of.jobfile, Trigger(None, seconds), of.wait)
     fleet.close()
-    of.stops.takes_first = True
+    STOPS.count_first()
     is_cut = written.is_good() or of.cut_anyway
     if is_cut:
         run_command(of.off)
-        time.sleep(of.pause)
+        sleep(of.pause)
         run_command(of.on)
     return written, is_cut
 
@@ -134,11 +135,11 @@ def cycle(of):
     series = Series(of)
     if of.resume:
         run_command(of.on)
-    while len(series.rows) < of.cycles and not of.stops.count:
+    while len(series.rows) < of.cycles and not STOPS.count:
         row = one_cycle(of, series)
         print(told(row, of.json), flush=True)
         if row["status"] != SOUND and not of.keep_going:
             break
-    if of.stops.count:
+    if STOPS.count:
         say("the series ends, by a signal; --resume goes on with it")
     return worst_of([it["status"] for it in series.rows])

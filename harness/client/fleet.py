@@ -13,6 +13,7 @@ from records import BEGIN, ENDED, ENDS_OF, END_AT, END_OF_ALL, FRAME, GOOD, LOOK
 from records import Report, addressee, read_record, record
 from runs import Runs
 from states import states_in
+from stopping import await_within, sleep, wait_for
 from verdicts import Place, Verdict
 
 # So often what isn't answered is asked for again.
@@ -62,17 +63,19 @@ class Fleet:
 
     def name_fleet(self, mirror, wait):
         """Begins the link to the mirror. Where the note doesn't say which fleet this is, the mirror may
-        know it; else it is drawn. It is kept with the note from then on."""
+        know it; else it is drawn, and the mirror is told. It is kept with the note from then on."""
         if self.kept.servers not in (0, len(self.commands)):
             raise Refused(f"{self.kept.path}: this is the note of a fleet of {self.kept.servers} servers, and here are {len(self.commands)}")
         self.kept.servers = len(self.commands)
         if mirror:
             self.mirror = Link(mirror, self.hear_mirror, lambda: self.hello(MIRROR), self.ask_again)
         if not self.kept.fleet and mirror:
-            if not self.mirror.welcomed.wait(wait):
+            if not await_within(wait, self.mirror.welcomed.is_set):
                 raise Refused("the mirror doesn't answer, and which fleet it is of isn't known")
             self.kept.fleet = self.mirror.welcome.fleet
         self.kept.fleet = self.kept.fleet or drawn_fleet()
+        if mirror:
+            self.mirror.greet()
 
     def open(self, note, run, mirror):
         """Returns the note that the node is opened over, and how. One of no bytes is that of a client with
@@ -129,7 +132,7 @@ class Fleet:
         turn = self.tell(kind, body, True)
         with self.changed:
             while self.answers[turn] is None and not self.end:
-                self.changed.wait(1)
+                wait_for(self.changed, lambda: self.answers[turn] is not None or self.end, 1)
             if self.end:
                 raise Refused(self.end)
             return self.answers.pop(turn)
@@ -235,7 +238,7 @@ class Fleet:
                 for it in self.servers:
                     it.ask_ends()
                 asks = time.monotonic() + 1
-            time.sleep(0.02)
+            sleep(0.02)
 
     def stands(self, server, outcome, run):
         """Returns in words how a request of a run stands at a server."""

@@ -93,6 +93,10 @@ class Link:
         if stream.is_welcome: # (else it would be lost there)
             stream.send(frame)
 
+    def greet(self):
+        """Says hello at once: what it says is another thing now."""
+        self.stream.send(self.hello())
+
     def is_up(self):
         """Whether its hello is welcome, in the life that goes on."""
         return self.stream.is_welcome

@@ -12,6 +12,7 @@ from note import MIRROR, KeptNote, Refused, open_own
 from queries import COPIES, COPIES_SENT, HEAD, HELLO, QUERY_HELLO, is_answer, query, welcome
 from records import COPY, COPY_OK, ENDED, FRAME, FRAME_HEAD, GRANTED, NOTE, SAVE, SEND, enveloped, read_frame, read_record, record
 from say import say
+from stopping import wait_for
 
 # So often a mirror looks whether another has taken its place.
 LOOKS = 0.1
@@ -90,15 +91,16 @@ class Mirror:
             pass
 
     def greet(self, hello):
-        """Answers a hello, and returns whether it is welcome: a mirror is of the first fleet that it kept
-        a state of, or of the one that takes that one's place."""
+        """Answers a hello, and returns whether frames are taken behind it: a mirror is of the first fleet
+        that it kept a state of, or of the one that takes that one's place. Before it knows which fleet that
+        is it keeps nothing: that would be no fleet's."""
         fleet, _, servers, before, _ = HELLO.unpack(hello) if len(hello) == HELLO.size else (0, 0, 0, 0, 0)
         if before and fleet != self.kept.fleet and (self.kept.fleet == before or (self.has_states and not self.kept.fleet)):
             self.begin_anew(fleet)
         self.kept.fleet, self.kept.servers = self.kept.fleet or fleet, self.kept.servers or servers
         why = "this mirror keeps the states of another fleet" if fleet not in (0, self.kept.fleet) else ""
         send_frame(welcome(MIRROR, self.kept.fleet, why))
-        return not why
+        return bool(self.kept.fleet) and not why
 
     def begin_anew(self, fleet):
         """Puts the note aside for a fleet that takes the place of its own, and ends this process: the next
@@ -161,17 +163,17 @@ class Copies:
         """Waits for the grant, so long at most, and then until all have come, or nothing more has within a
         grace: then some must be lost. Returns whether they have come."""
         with self.changed:
-            self.changed.wait_for(lambda: generation in self.granted, seconds)
+            wait_for(self.changed, lambda: generation in self.granted, seconds)
             had = -1
             while not self.are_whole(generation) and len(self.came) > had:
                 had = len(self.came)
-                self.changed.wait_for(lambda: self.are_whole(generation) or len(self.came) > had, grace)
+                wait_for(self.changed, lambda: self.are_whole(generation) or len(self.came) > had, grace)
             return self.are_whole(generation)
 
     def await_kept(self, keys, seconds):
         """Waits until the mirror keeps these states, so long at most, and returns how many it does."""
         with self.changed:
-            self.changed.wait_for(lambda: keys <= self.kept, seconds)
+            wait_for(self.changed, lambda: keys <= self.kept, seconds)
             return len(keys & self.kept)
 
 

@@ -7,6 +7,7 @@ import texts
 from mapping import map_job
 from say import say
 from states import states_in
+from stopping import sleep
 from stories import FAILED, SOUND, worst_of
 from verdicts import UNREAD, WORDS
 
@@ -117,11 +118,11 @@ def print_status(fleet, wait, as_json):
     while time.monotonic() < until and not all(it.came for it in fleet.servers):
         for it in fleet.servers:
             it.ask_ends()
-        time.sleep(0.2)
-    time.sleep(1)
+        sleep(0.2)
+    sleep(1)
     for it in fleet.servers:
         it.ask_ends()
-    time.sleep(0.5)
+    sleep(0.5)
     for server, answers in enumerate(fleet.servers):
         row = {"server": server, "answers": answers.came is not None, "why": fleet.links[server].refusal or ""}
         row |= {"run": answers.last_run(), "writes": bool(answers.writes_now())}

@@ -7,6 +7,8 @@ import struct
 import threading
 import time
 
+from stopping import wait_for
+
 # The kinds of queries and answers; the head, and what says which blocks are wanted.
 QUERY_ENDS, ENDS, QUERY_BLOCKS, BLOCKS, UNREAD = range(1, 6)
 QUERY_HELLO, WELCOME, QUERY_FIT, FIT, QUERY_FLUSH, FLUSHED, UNFLUSHED = range(7, 14)
@@ -128,7 +130,7 @@ class Answers:
             self.fit = None
             while self.fit is None and time.monotonic() < until:
                 self.link.send(asked)
-                self.changed.wait_for(lambda: self.fit is not None, min(1, wait))
+                wait_for(self.changed, lambda: self.fit is not None, min(1, wait))
             return self.fit
 
     def ask_flush(self, job, wait):
@@ -139,7 +141,7 @@ class Answers:
                 if time.monotonic() > until:
                     return False, "its harness doesn't answer, or is older than this client"
                 self.link.send(query(QUERY_FLUSH, asked))
-                self.changed.wait_for(lambda: asked in self.flushes, min(AGAIN, wait))
+                wait_for(self.changed, lambda: asked in self.flushes, min(AGAIN, wait))
             return self.flushes.pop(asked)
 
     def ask_blocks(self, wanted, wait):
@@ -151,7 +153,7 @@ class Answers:
                 if time.monotonic() > until:
                     return BLOCKS, b""
                 self.link.send(query(QUERY_BLOCKS, wanted))
-                self.changed.wait_for(lambda: wanted in self.blocks, min(AGAIN, wait))
+                wait_for(self.changed, lambda: wanted in self.blocks, min(AGAIN, wait))
             return self.blocks.pop(wanted)
 
     def read_blocks(self, job, size, count, wait):

@@ -10,7 +10,7 @@ from progress import Progress
 from records import GOOD, TRIGGER
 from say import say
 from states import states_in
-from stopping import Stopped
+from stopping import STOPS, Stopped, sleep
 from verdicts import FAULTS, NOT_WHOLE, NO_VERDICT, SOUND
 
 # What counts first of several statuses: what has failed hides no fault.
@@ -26,15 +26,15 @@ class Trigger:
     """What ends the writing: a file that comes, a first SIGINT or SIGTERM, so many seconds, or so many
     writes, of all servers together, that are done; and that all are done, or one has failed."""
 
-    def __init__(self, stops, file=None, seconds=None, writes=None):
+    def __init__(self, file=None, seconds=None, writes=None):
         if file and os.path.exists(file):
             raise Refused(f"{file}: the trigger's file is there already: remove it first")
-        self.stops, self.file, self.seconds, self.writes = stops, file, seconds, writes
+        self.file, self.seconds, self.writes = file, seconds, writes
 
     def why(self, progress):
         """Returns why it is pulled by now, or None."""
         seconds, done, total = progress.seconds(), progress.total_done(), progress.total()
-        if self.stops.count:
+        if STOPS.count:
             return "by a signal"
         if progress.failed():
             return f"a write has failed: {progress.failed()}"
@@ -51,7 +51,7 @@ class Trigger:
     def wait(self, progress):
         while not (why := self.why(progress)):
             progress.step()
-            self.stops.wait(0.01)
+            sleep(0.01)
         say(f"triggered: {why}")
 
 
@@ -161,7 +161,7 @@ def repeat_until_cut(fleet, run, wait):
         if time.monotonic() > again:
             fleet.tell(TRIGGER, struct.pack(">QB", run, True))
             again += 1
-        time.sleep(0.02)
+        sleep(0.02)
 
 
 def check(fleet, job_file, run=None, wait=60):

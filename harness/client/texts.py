@@ -6,6 +6,7 @@ import subprocess
 import threading
 
 from note import Refused
+from stopping import sleep
 
 FROM_FIO = os.path.join(os.path.dirname(os.path.realpath(__file__)), "../../examples/from-fio")
 
@@ -49,7 +50,8 @@ class Total:
             self.refusal = ran.stdout.decode(errors="replace").strip()
 
     def await_jobs(self):
-        self.thread.join()
+        while self.thread.is_alive():
+            sleep(0.001)
         if self.refusal:
             raise Refused(f"the job file: {self.refusal}")
         if not self.jobs:

@@ -30,6 +30,14 @@ struct child start_drive(const char *command, uint64_t run, const struct job *jo
     return child;
 }
 
+struct child start_tour(const struct job *job) {
+    char name[] = "drive", word[] = "tour", job_word[24];
+    snprintf(job_word, sizeof job_word, "%" PRIu64, job->number);
+    struct child child = start_child(program_of("DRIVE", name), (char *[]){name, word, job_word, NULL}, CHILD_READS | CHILD_WRITES | CHILD_APART);
+    feed(&child, job->text, job->text_length);
+    return child;
+}
+
 void feed(const struct child *child, const void *bytes, size_t length) {
     uint32_t front = htobe32((uint32_t)length);
     if (write_all(child->to, &front, sizeof front) == 0) write_all(child->to, bytes, length);

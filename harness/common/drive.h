@@ -30,6 +30,9 @@ struct drive {
 /* Starts `drive COMMAND RUN JOB`, a check with the job's server and unit, and gives it the job file. */
 struct child start_drive(const char *command, uint64_t run, const struct job *job, int pipes);
 
+/* Starts `drive tour`, which orders the writes of many runs of a job at once, and gives it the job file. */
+struct child start_tour(const struct job *job);
+
 /* Gives `drive` a text or a state, behind its length. Where it reads no more, that is for its
  * answer to say. */
 void feed(const struct child *child, const void *bytes, size_t length);

@@ -24,6 +24,14 @@ static void read_wanted(const char *words, struct faulty *faulty) {
     }
 }
 
+/* Asks for these blocks of a region. */
+static void ask_for_blocks(struct dump *dump, uint64_t blocks) {
+    uint8_t *bits = calloc(bytes_of_bits(blocks), 1);
+    if (!bits) give_up("memory", strerror(ENOMEM));
+    for (size_t one = 0; one < dump->count; one++) bits[dump->blocks[one].block / 8] |= (uint8_t)(1 << dump->blocks[one].block % 8);
+    dump->asked = (struct asked){0, blocks, bits};
+}
+
 struct dump open_dump(const char *place, const struct map *map, uint64_t most) {
     struct dump dump = {.place = place, .size = map->region.block_size};
     size_t room = most < map->total ? (size_t)most : (size_t)map->total;
@@ -38,13 +46,8 @@ struct dump open_dump(const char *place, const struct map *map, uint64_t most) {
         if (strcmp(kind, "at-rest")) read_wanted(line + used, &faulty); /* (what those want is of other runs) */
         if (strcmp(kind, "unread")) dump.blocks[dump.count++] = faulty;
     }
+    ask_for_blocks(&dump, map->region.blocks);
     return dump;
-}
-
-struct region region_of_dump(struct dump *dump, const struct region *region) {
-    uint64_t first = dump->blocks[0].block, last = dump->blocks[dump->count - 1].block;
-    dump->next = first;
-    return (struct region){region->block_size, last - first + 1, place_of(region, first), region->stride};
 }
 
 static void keep_block(const struct dump *dump, const char *ending, const void *bytes) {
@@ -55,12 +58,11 @@ static void keep_block(const struct dump *dump, const char *ending, const void *
 
 static bool take_blocks(void *given, const void *bytes, size_t length) {
     struct dump *dump = given;
-    for (size_t at = 0; at < length; at += dump->size, dump->next++)
-        for (size_t one = 0; one < dump->count; one++) {
-            char ending[64];
-            snprintf(ending, sizeof ending, ".block-%" PRIu64, dump->next);
-            if (dump->blocks[one].block == dump->next) keep_block(dump, ending, (const uint8_t *)bytes + at);
-        }
+    for (size_t at = 0; at < length; at += dump->size) {
+        char ending[64];
+        snprintf(ending, sizeof ending, ".block-%" PRIu64, dump->blocks[dump->next++].block);
+        keep_block(dump, ending, (const uint8_t *)bytes + at);
+    }
     return true;
 }
 
@@ -108,5 +110,6 @@ void keep_wanted(const struct dump *dump, uint64_t run, const struct job *job) {
 }
 
 void free_dump(struct dump *dump) {
+    free_asked(&dump->asked);
     free(dump->blocks);
 }

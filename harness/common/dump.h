@@ -20,18 +20,16 @@ struct faulty {
 /* The first faulty blocks that a map tells of, but for those that can't be read. */
 struct dump {
     const char *place; /* how the names of its files begin */
-    uint64_t size, next; /* of a block, and which one of the target comes next */
+    uint64_t size;     /* of a block */
     struct faulty *blocks;
-    size_t count;
+    size_t count, next; /* how many there are, and which of them comes next */
+    struct asked asked; /* these blocks of the region */
 };
 
 /* Finds as many of them as there are, up to `most`. Where there is none, there is nothing to keep. */
 struct dump open_dump(const char *place, const struct map *map, uint64_t most);
 
-/* The part of a region from the first of them to the last. */
-struct region region_of_dump(struct dump *dump, const struct region *region);
-
-/* What takes the bytes of that part, and keeps those of a faulty block in PLACE.block-B. */
+/* What takes the bytes of these blocks, and keeps each in PLACE.block-B. */
 struct sink sink_of_dump(struct dump *dump);
 
 /* Keeps the bytes of each write W that they may hold in PLACE.block-B.write-W, as `drive` orders

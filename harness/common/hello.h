@@ -12,8 +12,8 @@
 #include <stdint.h>
 
 /* The last byte of each magic is the version of all that goes over the link. */
-#define HELLO_MAGIC "FCHELLO5"
-#define WELCOME_MAGIC "FCAGENT5"
+#define HELLO_MAGIC "FCHELLO6"
+#define WELCOME_MAGIC "FCAGENT6"
 
 enum { MAGIC = 8, HELLO_NUMBERS = 11, WELCOME_NUMBERS = 10, MAX_WHY = 256 };
 enum { SUM = 4, HELLO_BYTES = MAGIC + 8 * HELLO_NUMBERS + MAX_DRIVE + SUM, WELCOME_BYTES = MAGIC + 8 * WELCOME_NUMBERS + MAX_WHY + MAX_DRIVE + MAX_BOOT + MAX_WAY + SUM };

@@ -62,6 +62,7 @@ static void read_fields(const char *row, struct job *job) {
     job->blocks = field(row, &at[2]), job->total = field(row, &at[3]);
     job->block_size = field(row, &at[4]), job->seed = field(row, &at[5]), job->depth = field(row, &at[6]);
     job->is_random = row[at[1].rm_so] != 's'; /* (sequential) */
+    job->writes_all = row[at[1].rm_so] != 'n' && job->total >= job->blocks; /* (norandommap) */
 }
 
 struct job job_in(const char *file, const char *text, size_t length, uint64_t number) {

@@ -8,7 +8,8 @@
 
 struct job {
     uint64_t number, blocks, total, block_size, depth;
-    bool is_random; /* its order is drawn, from this seed on */
+    bool is_random;  /* its order is drawn, from this seed on */
+    bool writes_all; /* once it is whole, each block was written */
     uint64_t seed;
     uint64_t unit; /* what a map of it takes the target to write whole; 0: a block */
     uint64_t server; /* that of a fleet which wrote it; 0 where none did, too */

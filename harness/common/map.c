@@ -15,7 +15,9 @@
 #include <time.h>
 #include <unistd.h>
 
-enum { AT_ONCE = 512, STEP = 1 << 16, SHORT_LINE = 200 };
+/* So many pieces are written at once, and a block has three at most: those before it that aren't asked for, a
+ * byte, and its own. */
+enum { MOST_PIECES = 1024, OF_A_BLOCK = 3, STEP = 1 << 16, SHORT_LINE = 200 };
 
 static void *read_all_lines(void *given) {
     struct map *map = given;
@@ -37,7 +39,7 @@ static void *read_all_lines(void *given) {
 void open_map(struct map *map, const struct job *job, const struct region *region, const struct basis *basis) {
     const struct kept *kept = basis->kept;
     const struct ledger *ledger = basis->ledger;
-    *map = (struct map){.region = *region, .total = region->blocks, .next_line = time(NULL) + 2, .basis = *basis};
+    *map = (struct map){.region = *region, .total = region->blocks, .next_line = time(NULL) + 2, .basis = *basis, .asked = {.count = region->blocks}};
     struct job its = *job;
     its.server = is_state(kept->state, kept->length) ? server_of_state(kept->state) : 0;
     map->drive = start_drive(basis->command, kept->run, &its, CHILD_READS | CHILD_WRITES);
@@ -66,26 +68,56 @@ static bool write_pieces(int to, struct iovec *pieces, int count) {
     return true;
 }
 
+/* What is told of blocks that aren't read: a 0 of each. */
+static const uint8_t not_read[1 << 16];
+
+/* Puts there what is told of the blocks before the next one that is asked for, as far as that goes at once, and
+ * returns in how many pieces. */
+static int put_gap(struct map *map, struct iovec *piece) {
+    uint64_t gap = next_asked(&map->asked, map->seen) - map->seen;
+    if (gap > sizeof not_read) gap = sizeof not_read;
+    *piece = (struct iovec){(void *)(uintptr_t)not_read, (size_t)gap};
+    map->seen += gap;
+    return gap > 0;
+}
+
 bool map_blocks(struct map *map, const void *bytes, size_t length) {
     static uint8_t is_read = 1;
     size_t size = map->region.block_size;
     for (size_t at = 0; at < length;) {
-        struct iovec pieces[2 * AT_ONCE];
+        struct iovec pieces[MOST_PIECES];
         int count = 0;
-        for (; count < 2 * AT_ONCE && at < length; at += size) {
+        while (count + OF_A_BLOCK <= MOST_PIECES && at < length) {
+            count += put_gap(map, pieces + count);
+            if (!is_asked(&map->asked, map->seen)) continue;
             pieces[count++] = (struct iovec){&is_read, 1};
             pieces[count++] = (struct iovec){(uint8_t *)(uintptr_t)bytes + at, size};
+            map->seen++, at += size;
         }
-        map->seen += (uint64_t)count / 2;
         if (!write_pieces(map->drive.to, pieces, count)) return false;
     }
     say_progress(map);
     return true;
 }
 
+/* Tells it that so many blocks aren't read. */
+static bool pass_over(struct map *map, uint64_t count) {
+    bool goes_on = true;
+    map->seen += count;
+    while (goes_on && count) {
+        size_t part = count < sizeof not_read ? (size_t)count : sizeof not_read;
+        goes_on = write_all(map->drive.to, not_read, part) == 0;
+        count -= part;
+    }
+    return goes_on;
+}
+
 bool map_missed(struct map *map) {
-    map->seen++;
-    return write_all(map->drive.to, "", 1) == 0;
+    return pass_over(map, next_asked(&map->asked, map->seen) + 1 - map->seen);
+}
+
+bool map_all_missed(struct map *map) {
+    return pass_over(map, map->total - map->seen);
 }
 
 /* Cuts the ledger off, whose bytes may be any, and which stands behind a line that says how many. */
@@ -105,6 +137,7 @@ static void cut_ledger_off(struct map *map) {
 }
 
 void await_map(struct map *map) {
+    pass_over(map, next_asked(&map->asked, map->seen) - map->seen);
     end_input(&map->drive);
     pthread_join(map->reader, NULL);
     if (wait_for(&map->drive) < 0) give_up("drive", "it was killed");

@@ -3,6 +3,7 @@
 #ifndef MAP_H
 #define MAP_H
 
+#include "asked.h"
 #include "child.h"
 #include "job.h"
 #include "ledger.h"
@@ -22,20 +23,23 @@ struct map {
     struct basis basis;
     const uint8_t *ledger; /* the one behind the check, where `drive` gave one, or NULL */
     size_t ledger_length;
-    uint64_t seen, total; /* blocks that were given, and those of the region */
+    struct asked asked;   /* the blocks that it is given, from the region's first on: of the others it is told that they aren't read */
+    uint64_t seen, total; /* blocks that it was told of, and those of the region */
     int64_t next_line;    /* when it is said next how far it is */
 };
 
 /* Starts `drive`, and gives it the job file and what it checks by, which stays there until the map is
- * awaited. */
+ * awaited. All blocks are asked for, until `asked` is set, whose bits stay there, too. */
 void open_map(struct map *map, const struct job *job, const struct region *region, const struct basis *basis);
 
-/* Gives it the next blocks, whole; and tells it that the next one can't be read. False once it
- * reads no more. */
+/* Gives it the next blocks that are asked for, whole; tells it that the next one can't be read; or that none can
+ * from here on. False once it reads no more. */
 bool map_blocks(struct map *map, const void *bytes, size_t length);
 bool map_missed(struct map *map);
+bool map_all_missed(struct map *map);
 
-/* Ends its input, and waits for all that it says. Where a signal ended it, the harness gives up. */
+/* Ends its input, behind those blocks that aren't asked for, and waits for all that it says. Where a signal
+ * ended it, the harness gives up. */
 void await_map(struct map *map);
 
 /* Prints it: the whole of it, and on a terminal a picture of the region before it; or else a long line

@@ -1,33 +1,83 @@
 #include "reading.h"
 
-#include "say.h"
-
 #include <errno.h>
-#include <stdlib.h>
 #include <string.h>
 #include <unistd.h>
 
-/* So many bytes are read at once, where blocks lie one behind the other. */
-enum { AT_ONCE = 1 << 20, PAGE = 4096 };
+/* So many bytes are read in one go where blocks lie one behind the other, and so many are handed on at once, but for
+ * one larger block each time. As many are in memory as MOST_READS blocks have, but from LEAST on to MOST: more of
+ * neighbouring blocks would make what is read from memory slower, and a drive no faster. */
+enum { IN_ONE_GO = 1 << 18, AT_ONCE = 1 << 20, LEAST = 2 << 20, MOST = 8 << 20 };
 
-/* Reads one block, and hands it on. */
-static bool read_block(const struct target *target, const struct region *region, const struct sink *sink, void *bytes, uint64_t block) {
-    ssize_t count = pread(target->fd, bytes, region->block_size, (off_t)place_of(region, block));
-    if (count == (ssize_t)region->block_size) return sink->take(sink->whose, bytes, region->block_size);
-    return sink->miss(sink->whose, block, count < 0 ? strerror(errno) : "the target ends there");
+static uint64_t between(uint64_t least, uint64_t number, uint64_t most) {
+    return number < least ? least : number < most ? number : most;
 }
 
-void read_region(const struct target *target, const struct region *region, const struct sink *sink) {
-    uint64_t at_once = region->stride == region->block_size && region->block_size < AT_ONCE ? AT_ONCE / region->block_size : 1;
-    void *bytes;
-    if (posix_memalign(&bytes, PAGE, at_once * region->block_size)) give_up("memory", strerror(ENOMEM));
-    bool goes_on = true;
-    for (uint64_t block = 0; goes_on && block < region->blocks; block += at_once) {
-        uint64_t blocks = region->blocks - block < at_once ? region->blocks - block : at_once, length = blocks * region->block_size;
-        ssize_t count = pread(target->fd, bytes, length, (off_t)place_of(region, block));
-        if (count == (ssize_t)length) goes_on = sink->take(sink->whose, bytes, length);
-        else
-            for (uint64_t one = block; goes_on && one < block + blocks; one++) goes_on = read_block(target, region, sink, bytes, one);
+void open_reader(struct reader *reader, const struct target *target, const struct region *region) {
+    const uint64_t size = region->block_size, memory = between(LEAST, MOST_READS * size, MOST);
+    reader->target = target, reader->region = *region;
+    reader->most = region->stride == size && size < IN_ONE_GO ? IN_ONE_GO / size : 1;
+    open_reads(&reader->reads, target->fd, (size_t)(memory < size ? size : memory));
+}
+
+/* How many blocks from this one on, which is asked for, are read in one go. */
+static uint64_t blocks_in_one_go(const struct reader *reader, const struct asked *asked, uint64_t block) {
+    const uint64_t left = asked->first + asked->count - block, most = left < reader->most ? left : reader->most;
+    uint64_t blocks = 1;
+    while (blocks < most && is_asked(asked, block + blocks)) blocks++;
+    return blocks;
+}
+
+/* Begins as many reads as there is room for, of the blocks that are asked for from this one on, and returns
+ * where the next one begins. */
+static uint64_t begin_reads(struct reader *reader, const struct asked *asked, uint64_t block) {
+    while (block < asked->first + asked->count) {
+        const uint64_t blocks = blocks_in_one_go(reader, asked, block);
+        const size_t length = (size_t)(blocks * reader->region.block_size);
+        if (!has_room(&reader->reads, length)) break;
+        begin_read(&reader->reads, (struct a_read){.block = block, .blocks = blocks, .place = place_of(&reader->region, block), .length = length});
+        block = next_asked(asked, block + blocks);
     }
-    free(bytes);
+    return block;
+}
+
+/* Reads the blocks of a read that failed, or brought too little, one by one, and hands them on. */
+static bool hand_on_one_by_one(const struct reader *reader, const struct a_read *read, const struct sink *sink) {
+    const size_t size = (size_t)reader->region.block_size;
+    bool goes_on = true;
+    for (uint64_t block = read->block; goes_on && block < read->block + read->blocks; block++) {
+        ssize_t count = pread(reader->target->fd, read->bytes, size, (off_t)place_of(&reader->region, block));
+        if (count == (ssize_t)size) goes_on = sink->take(sink->whose, read->bytes, size);
+        else goes_on = sink->miss(sink->whose, block, count < 0 ? strerror(errno) : "the target ends there");
+    }
+    return goes_on;
+}
+
+/* Whether all came that was asked for. */
+static bool is_whole(const struct a_read *read) {
+    return read->answer == (long)read->length;
+}
+
+/* Hands on what the oldest reads have brought: of several whose bytes lie one behind the other all at once, but of
+ * half of them at most, so that the target has something to do meanwhile. */
+static bool hand_on(struct reader *reader, const struct sink *sink) {
+    struct reads *reads = &reader->reads;
+    const struct a_read *oldest = await_oldest(reads), *next = oldest;
+    size_t length = 0, count = 0;
+    for (; count < MOST_READS / 2 && next && is_whole(next) && (!count || length + next->length <= AT_ONCE); next = next_in_memory(reads, count)) length += next->length, count++;
+    bool goes_on = count ? sink->take(sink->whose, oldest->bytes, length) : hand_on_one_by_one(reader, oldest, sink);
+    end_reads(reads, count ? count : 1);
+    return goes_on;
+}
+
+void read_asked(struct reader *reader, const struct asked *asked, const struct sink *sink) {
+    struct reads *reads = &reader->reads;
+    uint64_t block = next_asked(asked, asked->first);
+    bool goes_on = true;
+    while (goes_on && (block = begin_reads(reader, asked, block), reads->begun > reads->ended)) goes_on = hand_on(reader, sink);
+    while (reads->begun > reads->ended) await_oldest(reads), end_reads(reads, 1);
+}
+
+void close_reader(struct reader *reader) {
+    close_reads(&reader->reads);
 }

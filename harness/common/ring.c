@@ -71,6 +71,11 @@ void put_read(struct ring *ring, uint64_t what, int fd, const struct iovec *piec
     call->addr = (uintptr_t)pieces, call->len = (unsigned)count, call->off = (uint64_t)-1;
 }
 
+void put_read_at(struct ring *ring, uint64_t what, int fd, void *bytes, uint64_t length, uint64_t at) {
+    struct io_uring_sqe *call = next_call(ring, what, fd, ring->has_memory ? IORING_OP_READ_FIXED : IORING_OP_READ);
+    call->addr = (uintptr_t)bytes, call->len = (unsigned)length, call->off = at;
+}
+
 void put_write(struct ring *ring, uint64_t what, int fd, const void *bytes, uint64_t length, uint64_t at, bool is_atomic) {
     bool is_known = ring->has_memory && !is_atomic; /* (Linux makes no atomic write from memory that it knows) */
     struct io_uring_sqe *call = next_call(ring, what, fd, is_known ? IORING_OP_WRITE_FIXED : IORING_OP_WRITE);

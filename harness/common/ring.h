@@ -22,7 +22,7 @@ struct ring {
     struct iovec mapped[2];     /* where the above lies */
 };
 
-/* Opens a ring for at most so many calls at once, which write from this memory. False where the
+/* Opens a ring for at most so many calls at once, which write from this memory, or read into it. False where the
  * kernel has none, or gives none. What uses it has to be the thread that opened it. */
 bool open_ring(struct ring *ring, unsigned entries, void *memory, size_t length);
 
@@ -31,6 +31,7 @@ void close_ring(struct ring *ring);
 
 /* Puts a call there; `what` is told again once it has ended. */
 void put_read(struct ring *ring, uint64_t what, int fd, const struct iovec *pieces, int count);
+void put_read_at(struct ring *ring, uint64_t what, int fd, void *bytes, uint64_t length, uint64_t at);
 void put_write(struct ring *ring, uint64_t what, int fd, const void *bytes, uint64_t length, uint64_t at, bool is_atomic);
 void put_flush(struct ring *ring, uint64_t what, int fd);
 

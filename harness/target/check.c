@@ -62,13 +62,20 @@ static bool is_of_server_0(const struct kept *kept) {
     return !is_state(kept->state, kept->length) || server_of_state(kept->state) == 0;
 }
 
+/* Reads these blocks of the target. */
+static void read_target(const struct subject *subject, const struct asked *asked, const struct sink *sink) {
+    static struct reader reader;
+    open_reader(&reader, &subject->target, &subject->region);
+    read_asked(&reader, asked, sink);
+    close_reader(&reader);
+}
+
 /* Keeps what the faulty blocks hold, and what they may. */
 static void dump_target(struct subject *subject, const struct options *options) {
     struct dump dump = open_dump(options->state, &subject->map, options->dump);
     if (dump.count) {
-        const struct region part = region_of_dump(&dump, &subject->region);
         const struct sink sink = sink_of_dump(&dump);
-        read_region(&subject->target, &part, &sink);
+        read_target(subject, &dump.asked, &sink);
         if (is_of_server_0(&subject->kept)) keep_wanted(&dump, subject->kept.run, &subject->job);
         else say("what the blocks may hold isn't kept: the state is one of a fleet's, and `drive` makes the writes of its server 0 alone");
     }
@@ -79,8 +86,10 @@ int check_target(const struct options *options, const struct job *job) {
     static struct subject subject;
     char boot[MAX_BOOT];
     open_subject(&subject, options, job);
-    open_map(&subject.map, &subject.job, &subject.region, &subject.basis);
-    read_region(&subject.target, &subject.region, &(struct sink){&subject, give_blocks, pass_over});
+    struct child asking = start_asking(&subject.job, &subject.region, &subject.basis);
+    open_map(&subject.map, &subject.job, &subject.region, &subject.basis); /* (both at once: each goes through the job) */
+    subject.map.asked = end_asking(&asking, subject.region.blocks);
+    read_target(&subject, &subject.map.asked, &(struct sink){&subject, give_blocks, pass_over});
     await_map(&subject.map);
     print_map(&subject.map, options->command == MAP);
     tell_boot(boot);
@@ -88,6 +97,7 @@ int check_target(const struct options *options, const struct job *job) {
     dump_target(&subject, options);
     if (options->ledger) keep_ledger_of(&subject.map, subject.drive);
     free_ledger(&subject.ledger);
+    free_asked(&subject.map.asked);
     free_map(&subject.map);
     return status;
 }

@@ -115,7 +115,7 @@ def busy_servers():
     says = order(7, 0, 0) + order(7, 1, 1) + order(7, 2, 5) + state_frame(7, 3, 0, done=[1])
     for name, options in (("mine", ()), ("flushed", ("--flush", "2")), ("cached", ("--cached",))):
         servers = taken(name, says, options=options)
-        await_that(lambda: rows(f"{name}.made").count((5, 2)) > 5, "a write in flight")
+        await_that(lambda: (1, 1) in rows(f"{name}.made") and rows(f"{name}.made").count((5, 2)) > 5, "a write in flight, and the one that is done")
         tell(f"{name}: the one that is done came once", (set(rows(f"{name}.made")), rows(f"{name}.made").count((1, 1))), ({(0, 0), (1, 1), (5, 2)}, 1))
         tell_has(f"{name}: it is said", read(servers.said(0)).decode(), f"job 0: of 2 writes in flight 2 {AGAIN}")
         servers.cut()
@@ -130,6 +130,7 @@ def busy_servers():
     servers.cut()
     strange = record(ORDER, name_of(7, 3) + struct.pack(">I", 9) + stamp(7, 0, 4, 9))
     servers = taken("strange", order(7, 0, 0) + strange + state_frame(7, 4, 0, done=[1, 2]))
+    await_that(lambda: (9, 4) in rows("strange.made"), "the order with another write's bytes")
     await_more("strange", 10)
     tell("an order with another write's bytes isn't written again", rows("strange.made").count((9, 4)), 1)
     servers.cut()

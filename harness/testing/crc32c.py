@@ -1,9 +1,9 @@
 """CRC32C, Castagnoli's sum, bit by bit."""
 
 
-def crc32c(data):
-    """Returns the sum of these bytes."""
-    total = 0xFFFFFFFF
+def crc32c(data, before=0):
+    """Returns the sum of what has the sum `before`, with these bytes behind it."""
+    total = before ^ 0xFFFFFFFF
     for byte in data:
         total ^= byte
         for _ in range(8):

@@ -4,10 +4,11 @@ import os
 import re
 import signal
 import subprocess
+import sys
 import time
 
 from serving import FLEET, Servers, fleet, job_file
-from trying import HANG, LIAR, await_text, comes, read, tell, write
+from trying import HANG, HERE, LIAR, await_text, await_that, comes, read, run, tell, write
 
 CUT = ("--cut", "touch cut-was-made")
 
@@ -98,12 +99,58 @@ def stopped_fleets():
         with open("said", "wb") as said:
             writing = subprocess.Popen(words, stdin=subprocess.DEVNULL, stdout=subprocess.DEVNULL, stderr=said)
         await_text("said", "is begun")
-        for _ in range(signals):
+        servers.signal(signal.SIGSTOP if signals == 2 else signal.SIGCONT) # (else the states are kept before the second)
+        writing.send_signal(signal.SIGINT)
+        if signals == 2:
+            await_text("said", "triggered")
             writing.send_signal(signal.SIGINT)
-            time.sleep(0.02)
         tell(f"{signals} signals", (writing.wait(HANG), b"is stopped" in read("said")), (due, signals == 2))
+        servers.signal(signal.SIGCONT)
         fleet("stop", "--note", "stop.note", "--wait", "5", *servers.links())
     servers.cut()
+
+
+def signals_within_locks():
+    """A signal may come while the client has just taken any of its locks: it then does what another does."""
+    job_file("locks.fio", jobs=1, blocks=64, writes=1_000_000)
+    servers = Servers("locks", 2, jobs=1)
+    words = [FLEET, "write", "locks.fio", "--note", "locks.note", "--after", "600", "--wait", str(HANG), *servers.links()]
+    for turns, due in (*((str(at), 0) for at in range(200, 208)), ("200,201", 2), ("200,203", 2), ("201,206", 2)):
+        status, _, said = run(f"{HERE}/signalled.py", turns, *words, program=sys.executable)
+        tell(f"signals at the locks {turns}", (status, "is stopped" in said), (due, due == 2))
+    servers.cut()
+
+
+def signals_unlooked_at():
+    """A third signal ends a client that waits for what never comes."""
+    os.mkfifo("never.fio")
+    with open("said", "wb") as said:
+        waiting = subprocess.Popen([FLEET, "write", "never.fio", "--note", "never.note", "--server", "cat"], stdin=subprocess.DEVNULL, stdout=subprocess.DEVNULL, stderr=said)
+    await_that(lambda: is_read("never.fio"), "who reads the job file")
+    for _ in range(2):
+        waiting.send_signal(signal.SIGINT)
+        time.sleep(0.2)
+        tell("it waits behind two signals", waiting.poll(), None)
+    tell("it ends behind a third one", (comes(lambda: has_ended_by_another(waiting)), waiting.poll()), (True, 2))
+    tell("what it says", b"ended at once by a third signal" in read("said"), True)
+    waiting.kill()
+
+
+def is_read(path):
+    """Whether somebody reads this pipe. Then it has a writer, which says nothing, until this process ends."""
+    try:
+        os.open(path, os.O_WRONLY | os.O_NONBLOCK)
+    except OSError:
+        return False
+    return True
+
+
+def has_ended_by_another(ran):
+    """Sends a signal to a program, and tells whether it has ended. (Two that come close together are one.)"""
+    if ran.poll() is None:
+        ran.send_signal(signal.SIGINT)
+        time.sleep(0.2)
+    return ran.poll() is not None
 
 
 def orphans():

@@ -1,5 +1,6 @@
 """What comes over a fleet's links: frames, whole or not at all, and no part of one over a later
 link."""
+import fcntl
 import glob
 import io
 import os
@@ -8,10 +9,11 @@ import socket
 import struct
 import subprocess
 import sys
+import termios
 import time
 
 from serving import TOP, Servers, fleet, job_file
-from trying import BLOCK, HANG, HERE, read, tell
+from trying import BLOCK, HANG, HERE, comes, read, tell
 
 sys.path.insert(0, f"{TOP}/harness/client")
 
@@ -23,14 +25,14 @@ from records import enveloped, read_frame
 FLEET_NUMBER = 4711
 
 
-def bare(body, magic=b"FC", kind=1):
-    """A frame as a node has it."""
-    return magic + bytes([1, kind]) + bytes(8) + struct.pack(">I", len(body)) + body
+def bare(body, magic=b"FC", kind=1, way=(0, 0)):
+    """A frame as a node has it, from one node to another."""
+    return magic + bytes([1, kind]) + struct.pack(">III", *way, len(body)) + body
 
 
-def frame(body, magic=b"FC", kind=1):
+def frame(body, magic=b"FC", kind=1, way=(0, 0)):
     """A frame as it goes over a link."""
-    return enveloped(bare(body, magic, kind))
+    return enveloped(bare(body, magic, kind, way))
 
 
 def hello(server=0, fleet=FLEET_NUMBER, before=0, has_mirror=False):
@@ -64,7 +66,7 @@ def frames_in(data):
 
 def cut_links():
     """Links that end at each byte of a frame, at a server, and at the client; the next ones begin with
-    a frame."""
+    a frame. A frame that comes byte by byte is one."""
     whole, cut = frame(b"whole"), frame(b"another one", kind=2)
     job_file("cut.fio", jobs=1, blocks=64, writes=64)
     servers = Servers("cut", 0, jobs=1)
@@ -74,6 +76,8 @@ def cut_links():
         with door("cut-0.note.socket") as link:
             tell(f"a link that ends after {length} bytes of a frame", ended_by(link, whole + cut[:length], True), True)
     tell("what a server's node is given", frames_given("cut.log", len(cut) - 1), [bare(b"whole").hex()] * (len(cut) - 1))
+    with door("cut-0.note.socket") as link:
+        tell("a frame that comes byte by byte", (sent_by_bytes(link, cut), frames_given("cut.log", len(cut))[len(cut) - 1 :]), (True, [bare(b"another one", kind=2).hex()]))
     servers.cut()
     tell("what the client's is", [frames_in(whole + cut[:length]) for length in range(len(cut) + 1)], [[whole]] * len(cut) + [[whole, cut]])
     next_links()
@@ -117,6 +121,17 @@ def next_links():
     fronts = [data for data in map(read, glob.glob("fronts/*")) if len(data) == 165]
     tell("links that ended in the middle of a frame", len(fronts) > 2, True)
     tell("each began with a frame, and had whole ones", [data for data in fronts if not set(frames_in(data)) <= set(map(enveloped, sent)) or len(frames_in(data)) != 2], [])
+
+
+def sent_by_bytes(link, data):
+    """Sends bytes, each once the other end has read those before, and returns whether it took all."""
+    try:
+        for at in range(len(data)):
+            link.sendall(data[at : at + 1])
+            comes(lambda: not any(fcntl.ioctl(link, termios.TIOCOUTQ, bytes(4))))
+    except OSError:
+        return False # (the link has ended)
+    return True
 
 
 def ended_by(link, data, is_last=False):

@@ -6,11 +6,13 @@ import re
 import shlex
 import shutil
 import signal
+import struct
 import subprocess
 import sys
 import time
 
-from fleet_links import hello
+from fleet_links import frame, hello
+from note import CLIENT, MIRROR, KeptNote
 from serving import FLEET, TOP, Servers, earliest, fleet, job_file, jobs_left_out, reports
 from trying import BLOCK, HANG, QUIET, as_often, comes, read, tell, tell_has, write
 
@@ -66,23 +68,35 @@ def lost_with_a_mirror():
     servers.cut()
 
 
+def checked_by_copies(*words):
+    """Checks lossy.fio by the copies of its mirror alone: the status, of each job how many blocks were checked
+    and how many are faulty, and whether more than one life was wanted."""
+    if os.path.exists("lossy.note"):
+        os.remove("lossy.note")
+    status, printed, said = fleet("check", "lossy.fio", "--note", "lossy.note", *words)
+    return (status, [it[:2] for it in reports(printed).values()]), "copies of the mirror were lost" in said
+
+
 def lossy_mirrors():
-    """A mirror's link loses four frames in ten: hardly any life of the client has all copies, and what came in
-    one counts in the next."""
+    """A mirror's link loses half of the copies in each life of the client, or four frames in ten: then hardly
+    any life has all copies. What came in one counts in the next."""
     job_file("lossy.fio", jobs=4, blocks=64, writes=64)
     servers = Servers("lossy", 2, jobs=4)
     for _ in range(3):
         status, _, _ = fleet("write", "lossy.fio", "--note", "lossy.note", "--after-writes", "512", *mirror("lossy.kept"), *servers.links())
         tell("a fleet writes", status, 0)
+    sound, were_lost = (0, [(64, 0)] * 8), False
+    half = mirror("lossy.kept", f"exec {shlex.quote(sys.executable)} {shlex.quote(f'{TOP}/harness/testing/halving_link.py')}")
     bad = mirror("lossy.kept", f"{BAD_LINK} --lose 0.4 --repeat 0 --late 0 --cut 0")
-    said, found = "", []
+    first = checked_by_copies(*half, *servers.links())
+    tell("a check by copies of which half come in each life", first, (sound, True))
+    found = [first[0]]
     # (while the grant is lost each copy is sent again, so that one life in ten gets all of them)
-    while len(found) < 8 and "copies of the mirror were lost" not in said:
-        os.remove("lossy.note")
-        status, printed, said = fleet("check", "lossy.fio", "--note", "lossy.note", *bad, *servers.links())
-        found.append((status, [it[:2] for it in reports(printed).values()]))
-    tell("a check by copies that come bit by bit", found, [(0, [(64, 0)] * 8)] * len(found))
-    tell("more than one life was wanted", "copies of the mirror were lost" in said, True)
+    while len(found) < 9 and not were_lost and found.count(sound) == len(found):
+        came, were_lost = checked_by_copies(*bad, *servers.links())
+        found.append(came)
+    tell("a check by copies that come bit by bit", found, [sound] * len(found))
+    tell("more than one life was wanted", were_lost, True)
     servers.cut()
 
 
@@ -160,6 +174,37 @@ def taken_places():
         shutil.copy("place.kept", "torn.kept")
         write("torn.kept", read("torn.kept")[:-1])
         tell_has(f"a mirror on {what}", fleet("mirror", "--note", note)[2], why)
+
+
+def mirrors_of_a_fleet():
+    """A mirror keeps nothing before it knows of which fleet it is, so that what it keeps says so: also of a
+    run that is over in less than a second."""
+    it = subprocess.Popen([FLEET, "mirror", "--note", "whose.kept"], stdin=subprocess.PIPE, stdout=subprocess.PIPE, stderr=subprocess.DEVNULL)
+    fetch = lambda generation: frame(struct.pack(">Q", generation), kind=20, way=(8, 9))
+    for fleet_number, generation, is_kept in ((0, 5, False), (4711, 6, True)):
+        it.stdin.write(hello(9, fleet=fleet_number) + fetch(generation))
+        it.stdin.flush()
+        until = time.monotonic() + (HANG if is_kept else 2)
+        while not os.path.exists("whose.kept") and time.monotonic() < until:
+            time.sleep(0.01)
+        tell(f"behind a hello of fleet {fleet_number} it keeps its note", os.path.exists("whose.kept"), is_kept)
+    it.stdin.close()
+    it.wait(HANG)
+    job_file("whose.fio", jobs=1, blocks=64, writes=64)
+    servers = Servers("whose", 1, jobs=1)
+    status, _, said = fleet("write", "whose.fio", "--note", "whose.note", *mirror("brief.kept"), *servers.links())
+    servers.cut()
+    tell("a short run", (status, "the mirror keeps 1 of 1 states" in said), (0, True))
+    fleets = [fleet_of(*it) for it in (("whose.kept", MIRROR), ("brief.kept", MIRROR), ("whose.note", CLIENT))]
+    tell("what each note says of its fleet", (fleets[0], fleets[1] == fleets[2] > 0), (4711, True))
+
+
+def fleet_of(path, whose):
+    """The fleet of which a note is, by its file."""
+    kept = KeptNote(path, whose)
+    kept.read()
+    kept.close()
+    return kept.fleet
 
 
 def untaken_words():

@@ -11,7 +11,6 @@ import struct
 import subprocess
 import sys
 import time
-from types import SimpleNamespace
 
 from serving import SERVER, TOP, Servers
 from trying import HANG, HERE, LIAR, read, tell, write
@@ -70,8 +69,7 @@ class Story:
 
     def play(self, reading):
         fleet = client.Fleet("world.note", [self.link])
-        stops = SimpleNamespace(count=0, wait=time.sleep)
-        written = stories.write(fleet, "world.fio", stories.Trigger(stops, writes=2), wait=10, acts=True)
+        written = stories.write(fleet, "world.fio", stories.Trigger(writes=2), wait=10, acts=True)
         stories.cut(fleet, written, None, True, False, 10)
         self.servers.running[0].wait(HANG)
         self.servers.start(0, options=["--cached"])

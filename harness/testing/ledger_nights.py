@@ -2,6 +2,7 @@
 is stopped; and nothing is told of a drive that keeps all."""
 import os
 import random
+import re
 import shutil
 import signal
 import subprocess
@@ -50,6 +51,13 @@ def blocks_in(report, kind):
     return {int(it.split()[1]) for it in read(report).decode().splitlines() if it.startswith("block ") and f" {kind}: " in it}
 
 
+def runs_named(report):
+    """What the lines of blocks at rest call the runs of the writes that they want, and what they have to."""
+    cycles = {it["run"]: it["cycle"] for it in rows_of("night")}
+    named = [it for line in read(report).decode().splitlines() if " at-rest: " in line for it in re.findall(r" of run (\d+)( \(cycle \d+\))?", line.partition(", ")[0])]
+    return [name for _, name in named], [f" (cycle {cycles[its]})" for its, _ in named]
+
+
 def cycle_of(model, number, lie, every, folder="night", target="fg", *words, stops=None):
     """One more cycle of a series over a target that lies so: what has to be told of it at rest, and in
     flight."""
@@ -77,6 +85,7 @@ def nights_by_ledgers():
         row = rows_of("night")[-1]
         tell(f"cycle {number}, {lie}: faults, and those at rest", (row["cycle"], row["faults"], row["at_rest"]), (number, len(rest | flight), len(rest)))
         tell(f"cycle {number}: which blocks", blocks_in(f"night/cycle-{number:06d}.report", "at-rest"), rest)
+        tell(f"cycle {number}: each line at rest names the cycle of each run", *runs_named(f"night/cycle-{number:06d}.report"))
         tell_has(f"cycle {number}: its line", cycles_in(printed)[0], f" {len(rest | flight)} faults")
         tell_has(f"cycle {number}: its line tells those at rest", cycles_in(printed)[0], f", {len(rest)} lost at rest, ")
         tell(f"cycle {number}: some are lost at rest, by a target that forgets", bool(rest), bool(lie and lie.startswith("forgotten")))

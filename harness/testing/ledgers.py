@@ -240,7 +240,7 @@ def whole_reports():
         ("it is killed", '"$REAL" "$@" >/dev/null; kill -KILL $$', "", "it was killed"),
         ("it refuses", "cat >/dev/null; echo refused 101 Damaged; exit 2", "not checked whole", "the one before it stands"),
     ):
-        write("own-drive", f"#!/bin/sh\n{text}\n")
+        write("own-drive", f'#!/bin/sh\ncase $1 in wanted*) exec "$REAL" "$@" ;; esac\n{text}\n')
         os.chmod("own-drive", 0o755)
         status, printed, said = by("L", "two.fio", "t", "n", env={"DRIVE": os.path.abspath("own-drive"), "REAL": os.environ["DRIVE"]})
         tell(f"a drive: {what}", (status, last in printed, why in said, read("L") == kept), (2, True, True, True))

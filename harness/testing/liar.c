@@ -13,9 +13,8 @@
  * ends, it loses the rest. LIE_FLUSH_FAILS=N has the Nth fdatasync of the target empty nothing and
  * fail, and LIE_SYNC_FAILS each fsync of it. LIE_LOG=FILE has a line for each: `KIND BLOCK WRITE`,
  * in the order in which they were told: `made` or `atomic` for one that isn't harmed; LIE_SYNCS has
- * it tell each fsync, too: `synced PATH`, and LIE_READS each read of the target: `read PATH`.
- * LIE_UNREADABLE=BYTE fails each read of the target that has this byte, and LIE_READS_FALL each one
- * while the file LIE_UNTIL is there. LIE_TARGET=NAME is the end of the target's path. LIE_PIECES
+ * it tell each fsync, too: `synced PATH`, and LIE_READS and LIE_PLACES each read of the target, of which
+ * more may be harmed (reading_liar.c). LIE_TARGET=NAME is the end of the target's path. LIE_PIECES
  * has standard output take five bytes at a time, with other threads' turn behind them. The kernel's
  * io_uring passes a library by: LIE_RING has one of this library's own in its place (ring_liar.c),
  * and without it there is none, so that the harness writes by threads. LIE_DIES=N kills the process
@@ -53,7 +52,7 @@ static int held_count;
 
 __attribute__((constructor)) static void begin(void) {
     *(void **)&real_write = dlsym(RTLD_NEXT, "pwrite64");
-    *(void **)&real_read = dlsym(RTLD_NEXT, "pread64");
+    *(void **)&real_read = dlsym(RTLD_NEXT, "pread64"); /* (of forgetting.c) */
     const char *lie = getenv("LIE"), *file = getenv("LIE_LOG");
     if (lie) sscanf(lie, "%31[^:]:%ld:%ld", kind, &every, &from);
     if (file && (noted = fopen(file, "ae"))) setvbuf(noted, NULL, _IOLBF, 4096);
@@ -72,6 +71,10 @@ bool is_target(int fd) {
     const char *name = getenv("LIE_TARGET");
     path_of(fd, path);
     return name && strlen(path) >= strlen(name) && strcmp(path + strlen(path) - strlen(name), name) == 0;
+}
+
+void note_line(const char *line) {
+    if (noted) fprintf(noted, "%s\n", line);
 }
 
 static void note(const char *what, const void *bytes, size_t length, off_t at) {
@@ -270,12 +273,4 @@ ssize_t pwrite64(int fd, const void *bytes, size_t length, off_t at) {
     ssize_t told = write_or_lie(fd, bytes, length, at, false, &never);
     while (never) sleep(1000);
     return told;
-}
-
-ssize_t pread64(int fd, void *bytes, size_t length, off_t at) {
-    const char *bad = getenv("LIE_UNREADABLE"), *until = getenv("LIE_UNTIL"), *name = getenv("LIE_TARGET");
-    if (noted && getenv("LIE_READS") && is_target(fd)) fprintf(noted, "read %s\n", name);
-    if (getenv("LIE_READS_FALL") && until && is_target(fd) && access(until, F_OK) == 0) return errno = EIO, -1;
-    if (bad && is_target(fd) && at <= atoll(bad) && atoll(bad) < at + (off_t)length) return errno = EIO, -1;
-    return real_read(fd, bytes, length, at);
 }

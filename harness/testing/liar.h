@@ -10,6 +10,9 @@ enum { ATOMIC = 0x40 };
 
 bool is_target(int fd);
 
+/* Notes a line, in one piece. */
+void note_line(const char *line);
+
 typedef ssize_t writer(int, const void *, size_t, off_t);
 typedef ssize_t reader(int, void *, size_t, off_t);
 typedef void teller(const char *what, const void *bytes, size_t length, off_t at);
@@ -25,6 +28,9 @@ ssize_t write_or_lie(int fd, const void *bytes, size_t length, off_t at, bool is
 /* What Linux answers to an atomic write, by what is told of such writes: 0, or an error with which
  * it makes none. */
 int refuse_atomic(int fd, size_t length, off_t at);
+
+/* Makes a read as pread does, or harms it. */
+ssize_t read_or_lie(int fd, void *bytes, size_t length, off_t at);
 
 /* Whether a system call is one of io_uring, which this library answers by itself; and its answer. */
 bool answers_for_ring(long number, const long words[6], long *answer);

@@ -110,9 +110,9 @@ class Machine:
         self.disks_said.clear()
         shutil.copy(f"{self.work}/base.cpio", f"{self.work}/initrd")
 
-    def give_new_disk(self, has_files=False):
+    def give_new_disk(self, size, has_files=False):
         with open(f"{self.work}/disk", "wb") as it:
-            it.truncate(DISK_BYTES)
+            it.truncate(size)
         if has_files:
             subprocess.run(["mkfs.ext4", "-q", f"{self.work}/disk"], check=True)
 

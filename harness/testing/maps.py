@@ -95,9 +95,9 @@ def maps():
     ):
         tell(f"an unreadable block costs no other, by {what}", (status, printed), (1, mapped(due, 63, f"{KINDS} unread 1")))
         tell_has(f"and why, by {what}", said, "block 10 can't be read: Input/output error")
-    write("killed", "#!/bin/sh\nkill -KILL $$\n")
+    write("killed", '#!/bin/sh\ncase $1 in wanted*) exec "$REAL" "$@" ;; esac\nkill -KILL $$\n')
     os.chmod("killed", 0o755)
-    status, printed, said = run("map", "two.fio", "mapped", "ms", env={"DRIVE": os.path.abspath("killed")})
+    status, printed, said = run("map", "two.fio", "mapped", "ms", env={"DRIVE": os.path.abspath("killed"), "REAL": os.environ["DRIVE"]})
     tell("a map whose drive is killed", (status, printed, "it was killed" in said), (2, "", True))
     pictures(due)
     unchecked()

@@ -66,6 +66,11 @@ def last_lines(printed):
     return [it for it in printed.splitlines() if not it.startswith("cycle ")]
 
 
+def last_line(printed):
+    """What a series says last; nothing where it was killed before."""
+    return "".join(last_lines(printed)[-1:])
+
+
 def rows_of(folder):
     """The lines of a series, of what is none nothing."""
     def row(line):

@@ -20,7 +20,7 @@ def edit(name, *seen, path=KEEPING, old=None):
 
 def plants_told():
     """An edit is refused by its line of its part, and by nothing else; edits of one part don't go
-    together; and one whose text is gone is told."""
+    together; and one whose text is gone is told, as is one that leaves no Python."""
     lines = ["why: a, b", f"file: {KEEPING}", "old: one", "old:   two", "new: three", "old: four", "new:", "new: five"]
     tell("an edit's lines", swaps_of(lines), [(KEEPING, "one\n  two", "three"), (KEEPING, "four", "\nfive")])
     found = lines_by_part(SAID)
@@ -39,5 +39,7 @@ def plants_told():
     tell("each changes its file", [text.count(f"/* {it} */") for it, text in zip("ac", next_group([a, c], set())[1].values())], [1, 1])
     gone = edit("e", ("x", ""), old="#include \"nothing.h\"")
     tell("an edit whose text is gone", "0 times" in (wrong_with(gone, {"x"}) or ""), True)
+    unparsed = edit("f", ("x", ""), path="harness/testing/pass_on.py", old="sys.dont_write_bytecode = True")
+    tell("an edit that leaves no Python", "doesn't parse" in (wrong_with(unparsed, {"x"}) or ""), True)
     tell("an edit of no part", "there is no part x" in (wrong_with(a, {"y"}) or ""), True)
     tell("an edit that can be tried", (wrong_with(a, {"x"}), texts_with(a)[KEEPING].count("/* a */")), (None, 1))

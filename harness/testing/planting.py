@@ -65,7 +65,7 @@ def all_edits():
 
 def texts_with(edit):
     """Returns the texts that an edit makes, by their paths. Raises ValueError where what it replaces
-    isn't there once."""
+    isn't there once, or what it makes is no Python any more: that any part refuses."""
     made = {}
     for path, old, new in edit.swaps:
         if path not in made:
@@ -74,12 +74,23 @@ def texts_with(edit):
         if made[path].count(old) != 1:
             raise ValueError(f"{edit.name}: {path} has this {made[path].count(old)} times, and not once: {old}")
         made[path] = made[path].replace(old, new)
+    for path, text in made.items():
+        if path.endswith(".py") or text.split("\n")[0].endswith("python3"):
+            check_parses(edit, path, text)
     return made
 
 
+def check_parses(edit, path, text):
+    """Raises ValueError where a text isn't Python."""
+    try:
+        compile(text, path, "exec")
+    except SyntaxError as error:
+        raise ValueError(f"{edit.name}: {path} doesn't parse with it: {error}") from None
+
+
 def wrong_with(edit, parts):
-    """Returns what is wrong with an edit, where it can't be tried: what it replaces isn't there, or no
-    part has that name; or None."""
+    """Returns what is wrong with an edit, where it can't be tried: what it replaces isn't there, it makes
+    what doesn't parse, or no part has that name; or None."""
     try:
         texts_with(edit)
     except (OSError, ValueError) as error:

@@ -1,7 +1,8 @@
 /* An io_uring of the liar's own, so that what it does to writes and flushes meets an executor that
- * writes by a ring. A few writes are made each time that the executor comes, and a flush begins as it
+ * writes by a ring, or reads. A few writes are made each time that the executor comes, and a flush begins as it
  * is given, and ends only once nothing else has: so writes end behind its front and before its end,
- * and it doesn't cover them. */
+ * and it doesn't cover them. Reads at a place of the target are made once they are waited for, a few each time and the
+ * last one first; LIE_PLACES has a line tell how many were out then: `together N`. */
 #include "liar.h"
 
 #include <errno.h>
@@ -11,6 +12,7 @@
 #include <signal.h>
 #include <stdatomic.h>
 #include <stdint.h>
+#include <stdio.h>
 #include <stdlib.h>
 #include <string.h>
 #include <sys/mman.h>
@@ -28,7 +30,8 @@ struct ring {
     struct io_uring_sqe *calls;
     unsigned entries;
     struct io_uring_sqe read, flush, *writes; /* those that are out; the writes stand in a ring, too */
-    unsigned first, writing;
+    struct io_uring_sqe *placed;              /* reads at a place of the target */
+    unsigned first, writing, placed_count;
     bool reads, flushes;
     int flushed;                     /* what the flush will answer */
 };
@@ -70,10 +73,10 @@ static long set_up(unsigned wanted, struct io_uring_params *params) {
     if (fd < 0 || ftruncate(fd, (off_t)(IORING_OFF_SQES + entries * sizeof(struct io_uring_sqe)))) return -1;
     struct ring *ring = place_for(fd);
     ring->entries = entries;
-    ring->writes = calloc(entries, sizeof *ring->writes);
+    ring->writes = calloc(entries, sizeof *ring->writes), ring->placed = calloc(entries, sizeof *ring->placed);
     ring->calls = mmap(NULL, entries * sizeof *ring->calls, PROT_READ | PROT_WRITE, MAP_SHARED, fd, IORING_OFF_SQES);
     ring->memory = mmap(NULL, length, PROT_READ | PROT_WRITE, MAP_SHARED, fd, IORING_OFF_SQ_RING);
-    if (!ring->writes || (void *)ring->calls == MAP_FAILED || (void *)ring->memory == MAP_FAILED) abort();
+    if (!ring->writes || !ring->placed || (void *)ring->calls == MAP_FAILED || (void *)ring->memory == MAP_FAILED) abort();
     *field(ring, GIVEN_MASK) = entries - 1, *field(ring, ENDED_MASK) = 2 * entries - 1;
     params->features = IORING_FEAT_SINGLE_MMAP | IORING_FEAT_NODROP;
     params->sq_entries = entries, params->cq_entries = 2 * entries;
@@ -114,8 +117,21 @@ static void make_writes(struct ring *ring) {
     }
 }
 
+/* Makes a few reads of the target that are out, the last one first. */
+static void make_placed(struct ring *ring) {
+    char line[32];
+    snprintf(line, sizeof line, "together %u", ring->placed_count);
+    if (ring->placed_count && getenv("LIE_PLACES")) note_line(line);
+    for (int made = 0; made < A_FEW && ring->placed_count; made++, ring->placed_count--) {
+        const struct io_uring_sqe *call = ring->placed + ring->placed_count - 1;
+        end_call(ring, call, or_error(read_or_lie(call->fd, (void *)(uintptr_t)call->addr, call->len, (off_t)call->off)));
+    }
+}
+
 static void begin_call(struct ring *ring, const struct io_uring_sqe *call) {
-    if (call->opcode == IORING_OP_READV) {
+    if (call->opcode == IORING_OP_READ || call->opcode == IORING_OP_READ_FIXED) {
+        ring->placed[ring->placed_count++] = *call;
+    } else if (call->opcode == IORING_OP_READV) {
         ring->read = *call, ring->reads = true;
     } else if (call->opcode == IORING_OP_FSYNC) {
         ring->flushed = or_error(call->fsync_flags & IORING_FSYNC_DATASYNC ? fdatasync(call->fd) : fsync(call->fd));
@@ -148,6 +164,7 @@ static long enter(struct ring *ring, unsigned count, bool waits) {
     }
     *field(ring, GIVEN_HEAD) = head + count;
     make_writes(ring);
+    if (waits) make_placed(ring);
     end_read(ring, ring->flushes && !has_ends(ring) ? A_WHILE : 0);
     if (ring->flushes && !has_ends(ring)) end_call(ring, &ring->flush, ring->flushed), ring->flushes = false, ended_flushes++;
     while (waits && !has_ends(ring)) {

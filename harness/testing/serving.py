@@ -54,6 +54,10 @@ class Servers:
         if wait:
             await_file(f"{self.note(server)}.socket")
 
+    def signal(self, number):
+        for it in self.running:
+            it.send_signal(number)
+
     def kill(self, server):
         self.running[server].kill()
         self.running[server].wait()

@@ -1,78 +1,82 @@
 #include "run.h"
 
-#include "bytes.h"
-#include "chunk.h"
+#include "asking.h"
 #include "clock.h"
 #include "dump.h"
 #include "map.h"
-#include "reading.h"
 #include "say.h"
 #include "verdict.h"
 
-#include <endian.h>
 #include <inttypes.h>
 #include <stdio.h>
 #include <stdlib.h>
 #include <string.h>
 
-enum { MAX_CHUNK = 1 << 20 };
-
 /* So long a drive whose power is there again may answer no read: milliseconds. */
 enum { READY_WITHIN = 60000 };
 
-/* What a link brings, each piece within so many milliseconds. */
-struct source {
-    struct link *link;
-    uint64_t quiet;
+/* A check of a part of a region, which begins at this block of it. */
+struct part {
+    struct map *map;
+    uint64_t first;
 };
 
-static bool read_piece(const struct source *source, void *bytes, size_t length) {
-    return read_until(source->link->child.from, bytes, length, milliseconds() + source->quiet) == length;
+static bool give_blocks(void *part, const void *bytes, size_t length) {
+    return map_blocks(((const struct part *)part)->map, bytes, length);
 }
 
-/* What stands behind the head of a part. False where the link ends before it does, or it is other
- * bytes than were sent. */
-static bool read_rest(const struct source *source, const struct chunk *chunk, uint8_t *bytes, size_t *length) {
-    uint64_t kind = be64toh(chunk->kind), number = be64toh(chunk->number);
-    *length = kind == CHUNK_BYTES ? (size_t)number : kind == CHUNK_MISSED ? MAX_WHY : 0;
-    if (*length > MAX_CHUNK || !read_piece(source, bytes, *length)) return false;
-    return chunk_of((enum chunk_kind)kind, number, bytes, *length).sum == chunk->sum;
-}
-
-/* Hands all that the agent reads on, until no more is wanted. False where the link ends, falls silent
- * or brings other bytes than were sent before the region ends. */
-static bool pass_region_on(const struct source *source, const struct sink *sink) {
-    static uint8_t bytes[MAX_CHUNK];
-    struct chunk chunk;
-    size_t length;
-    bool goes_on = true;
-    while (goes_on && read_piece(source, &chunk, sizeof chunk) && read_rest(source, &chunk, bytes, &length)) {
-        uint64_t kind = be64toh(chunk.kind), number = be64toh(chunk.number);
-        if (kind == CHUNK_END) return true;
-        if (kind == CHUNK_MISSED) say("block %" PRIu64 " can't be read: %.*s", number, MAX_WHY - 1, (const char *)bytes);
-        goes_on = kind == CHUNK_MISSED ? sink->miss(sink->whose, number, "") : kind == CHUNK_BYTES && sink->take(sink->whose, bytes, length);
-    }
-    return !goes_on;
-}
-
-static bool give_blocks(void *map, const void *bytes, size_t length) {
-    return map_blocks(map, bytes, length);
-}
-
-static bool pass_over(void *map, uint64_t block, const char *why) {
-    (void)block, (void)why;
-    return map_missed(map);
+static bool pass_over(void *given, uint64_t block, const char *why) {
+    const struct part *part = given;
+    say("block %" PRIu64 " can't be read: %s", block - part->first, why);
+    return map_missed(part->map);
 }
 
 static uint64_t quiet_of(const struct options *options) {
     return options->quiet ? options->quiet : options->wait * 1000;
 }
 
-static bool map_once(const struct options *options, const struct job *job, struct link *link, const struct basis *basis, struct map *map) {
-    open_map(map, job, &link->hello.region, basis);
-    bool is_whole = pass_region_on(&(struct source){link, quiet_of(options)}, &(struct sink){map, give_blocks, pass_over});
+/* What `drive` is asked, once for all tries of a check, while the link is awaited. */
+struct question {
+    struct child drive;
+    struct asked asked; /* what it said, */
+    bool is_answered;   /* once it was heard */
+};
+
+static const struct asked *answer_to(struct question *question, uint64_t blocks) {
+    if (!question->is_answered) question->asked = end_asking(&question->drive, blocks);
+    question->is_answered = true;
+    return &question->asked;
+}
+
+/* Reads these blocks by an agent, and hands them on. Returns whether all came, or no more is wanted. */
+static bool read_by_link(const struct options *options, const struct link *link, const struct asked *asked, const struct sink *sink) {
+    return ask_blocks(link, asked) && hear_blocks(link, quiet_of(options), asked, sink);
+}
+
+void end_sitting(struct sitting *sitting) {
+    if (sitting->is_open) end_link(&sitting->link);
+    sitting->is_open = false;
+}
+
+/* A check that is to be made, of a part of a sitting's region. */
+struct checking {
+    const struct options *options;
+    const struct job *job;
+    struct region region; /* of the part, */
+    uint64_t first;       /* which begins at this block of the sitting's */
+    const struct basis *basis;
+    struct question question;
+};
+
+static bool map_once(struct checking *checking, struct sitting *sitting, struct map *map) {
+    open_map(map, checking->job, &checking->region, checking->basis);
+    map->asked = *answer_to(&checking->question, map->total);
+    struct asked asked = map->asked;
+    asked.first += checking->first;
+    struct part part = {map, checking->first};
+    bool is_whole = read_by_link(checking->options, &sitting->link, &asked, &(struct sink){&part, give_blocks, pass_over});
     await_map(map);
-    end_link(link);
+    if (!is_whole) end_sitting(sitting);
     return is_whole;
 }
 
@@ -84,24 +88,26 @@ static bool may_be_early(const struct options *options, const struct map *map, u
 }
 
 /* Each block of a target that isn't there any more is one that can't be read. */
-static void map_nothing(const struct job *job, const struct region *region, const struct basis *basis, const char *why, struct map *map) {
+static void map_nothing(const struct checking *checking, const char *why, struct map *map) {
     say("the target can't be read: %s", why);
-    open_map(map, job, region, basis);
-    for (uint64_t block = 0; block < region->blocks && map_missed(map); block++) {}
+    open_map(map, checking->job, &checking->region, checking->basis);
+    map_all_missed(map);
     await_map(map);
 }
 
-void check_by_link(const struct options *options, const struct job *job, const struct region *region, const struct basis *basis, struct map *map, struct welcome *welcome) {
-    struct hello hello = {.depth = job->depth, .region = *region, .flushes = basis->ledger != NULL};
-    struct link link;
+static void check_asked(struct checking *checking, struct sitting *sitting, struct map *map, struct welcome *welcome) {
+    const struct options *options = checking->options;
+    struct hello hello = {.depth = checking->job->depth, .region = sitting->region, .flushes = checking->basis->ledger != NULL};
     char why[MAX_WHY];
     const uint64_t since = milliseconds(), until = since + options->wait * 1000;
-    if (!options->other_drive) memcpy(hello.drive, basis->kept->drive, MAX_DRIVE);
-    while (try_link(&link, options->link, &hello, job, until, why)) {
-        *welcome = link.welcome;
-        bool is_whole = map_once(options, job, &link, basis, map), has_time = milliseconds() + 1000 < until;
+    if (!options->other_drive) memcpy(hello.drive, checking->basis->kept->drive, MAX_DRIVE);
+    while (sitting->is_open || try_link(&sitting->link, options->link, &hello, checking->job, until, why)) {
+        sitting->is_open = true;
+        *welcome = sitting->link.welcome;
+        bool is_whole = map_once(checking, sitting, map), has_time = milliseconds() + 1000 < until;
         if (is_whole && !(has_time && may_be_early(options, map, since))) return;
         free_map(map);
+        end_sitting(sitting);
         if (!has_time) give_up("the link", "it ended before the region did: nothing was checked");
         say(is_whole ? "blocks can't be read, as the drive may not be ready yet: the check begins anew" : "the link ended before the region did: the check begins anew");
         if (is_whole) pause_for(1000);
@@ -109,17 +115,33 @@ void check_by_link(const struct options *options, const struct job *job, const s
     if (!*why) give_up("the link", "no agent answers");
     if (!*hello.drive || strstr(why, "another drive") || strstr(why, "in use") || strstr(why, "at work") || strstr(why, CANT_FLUSH)) give_up("the agent refuses", why);
     *welcome = (struct welcome){0};
-    map_nothing(job, region, basis, why, map);
+    map_nothing(checking, why, map);
 }
 
-/* Reads a region by an agent, once, and hands its blocks on. Returns whether all came. */
-static bool read_by_link(const struct options *options, const struct job *job, const struct region *region, const struct kept *kept, const struct sink *sink) {
+void check_part(const struct options *options, const struct job *job, struct sitting *sitting, uint64_t first, const struct basis *basis, struct map *map, struct welcome *welcome) {
+    struct checking checking = {.options = options, .job = job, .region = sitting->region, .first = first, .basis = basis};
+    checking.region.offset = place_of(&sitting->region, first), checking.region.blocks = job->blocks;
+    checking.question.drive = start_asking(job, &checking.region, basis);
+    check_asked(&checking, sitting, map, welcome);
+    answer_to(&checking.question, job->blocks);
+    free_asked(&checking.question.asked);
+}
+
+void check_by_link(const struct options *options, const struct job *job, const struct region *region, const struct basis *basis, struct map *map, struct welcome *welcome) {
+    struct sitting sitting = {.region = *region};
+    check_part(options, job, &sitting, 0, basis, map, welcome);
+    end_sitting(&sitting);
+}
+
+/* Reads the blocks of a dump by an agent, once, and keeps them. Returns whether all came. */
+static bool dump_once(const struct options *options, const struct job *job, const struct region *region, const struct kept *kept, struct dump *dump) {
     struct hello hello = {.depth = job->depth, .region = *region};
     struct link link;
     char why[MAX_WHY];
+    const struct sink sink = sink_of_dump(dump);
     if (!options->other_drive) memcpy(hello.drive, kept->drive, MAX_DRIVE);
     if (!try_link(&link, options->link, &hello, job, milliseconds() + options->wait * 1000, why)) return false;
-    bool is_whole = pass_region_on(&(struct source){&link, quiet_of(options)}, sink);
+    bool is_whole = read_by_link(options, &link, &dump->asked, &sink);
     end_link(&link);
     return is_whole;
 }
@@ -127,9 +149,7 @@ static bool read_by_link(const struct options *options, const struct job *job, c
 void dump_by_link(const struct options *options, const struct job *job, const struct region *region, const struct kept *kept, const char *place, const struct map *map) {
     struct dump dump = open_dump(place, map, options->dump);
     if (dump.count) {
-        const struct region part = region_of_dump(&dump, region);
-        const struct sink sink = sink_of_dump(&dump);
-        if (!read_by_link(options, job, &part, kept, &sink)) say("the bytes of the faulty blocks could not be kept");
+        if (!dump_once(options, job, region, kept, &dump)) say("the bytes of the faulty blocks could not be kept");
         keep_wanted(&dump, kept->run, job);
     }
     free_dump(&dump);

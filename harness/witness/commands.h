@@ -12,4 +12,7 @@ int map_by_agent(const struct options *options, const struct job *job);
 /* A series of one drive. Where it isn't -1, `words` is the way to who cuts the power for several. */
 int cycle_by_agent(const struct options *options, const struct job *job, int words);
 
+/* A tour of a drive: regions of the job all over it. */
+int tour_by_agent(const struct options *options, const struct job *job);
+
 #endif

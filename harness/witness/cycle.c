@@ -13,21 +13,16 @@
 #include <string.h>
 #include <unistd.h>
 
-/* Keeps what is told of each faulty block, and the report. */
+/* Keeps what is told of each faulty block, with the cycle of each earlier run, and the report. */
 static void keep_report(const struct folder *folder, const struct cycle *cycle, const struct map *map) {
     char name[PATH_MAX];
+    struct known_runs runs = runs_of_cycles(folder);
     name_of(folder, cycle->number, "report", name);
     FILE *kept = fopen(name, "w");
-    if (!kept || fputs(map->text, kept) < 0 || fflush(kept) || fsync(fileno(kept)) || fclose(kept)) give_up_by_errno(name);
-}
-
-/* What shows that the power was cut. Until the machine is there again, its old start is known
- * alone. */
-static enum cut shown_cut(const struct options *options, const struct tally *tally, const char *before, const char *behind) {
-    if (!tally->is_cut || tally->was_early) return NO_CUT;
-    if (*before && *behind && strcmp(before, behind)) return CUT_BY_START;
-    if (options->drive_only && tally->has_fallen) return CUT_BY_FALL;
-    return options->trust_off ? CUT_BY_WORD : NO_CUT;
+    if (!kept) give_up_by_errno(name);
+    write_with_runs(kept, map->text, map->length, &runs, cycle->number);
+    if (ferror(kept) || fflush(kept) || fsync(fileno(kept)) || fclose(kept)) give_up_by_errno(name);
+    free_runs(&runs);
 }
 
 /* A series, and its cycle that is under way. */
@@ -208,7 +203,7 @@ int cycle_by_agent(const struct options *options, const struct job *job, int wor
     static struct series series;
     int status = STATUS_SOUND;
     series = (struct series){.options = options, .job = job, .region = region_of(job, options->offset, options->stride)};
-    series.folder = open_folder(options, job, &series.region, draws_orders(options, job));
+    series.folder = open_folder(options, job, &series.region, draws_orders(options, job), (struct cover){0});
     series.power = (struct power){.off = options->off, .on = options->on, .words = words};
     begin_ledger(&series);
     if (options->resume && !resume(&series, &status)) return end_series(&series.folder, status, options);

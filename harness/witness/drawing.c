@@ -15,6 +15,10 @@ uint64_t moment_of(const struct options *options, const struct folder *folder, u
     return options->least + drawn(folder->seed, cycle) % (options->most - options->least + 1);
 }
 
+uint64_t drawn_below(const struct folder *folder, uint64_t cycle, uint64_t number, uint64_t below) {
+    return drawn(drawn(drawn(folder->seed, 0), 0) + cycle, number) % below;
+}
+
 bool draws_orders(const struct options *options, const struct job *job) {
     static char text[MAX_JOB_TEXT];
     if (options->same_order || !job->is_random) return false;

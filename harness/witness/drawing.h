@@ -14,6 +14,10 @@
 /* The milliseconds from its first order to its cut. */
 uint64_t moment_of(const struct options *options, const struct folder *folder, uint64_t cycle);
 
+/* A number below another one: which one depends on the cycle's number and on how many were drawn for it
+ * before, too. */
+uint64_t drawn_below(const struct folder *folder, uint64_t cycle, uint64_t number, uint64_t below);
+
 /* Whether a new series of this job draws the orders of its runs: not where that isn't asked for, nor where
  * the job file says the order, which is said. */
 bool draws_orders(const struct options *options, const struct job *job);

@@ -31,10 +31,16 @@ void name_file(const struct folder *folder, const char *file, char name[PATH_MAX
 /* Stands behind the seed where the orders are drawn by it. */
 static const char DRAWN[] = "orders drawn\n";
 
+/* And behind that where it is a tour: of so many tiles. */
+#define TILED "tour of tiles "
+#define BYTES " of bytes "
+
 /* What has to be the same for all cycles of a series: its job file and its region. What is drawn stands
  * before it. */
 static size_t settings_of(const struct job *job, const struct region *region, const struct folder *folder, char *text) {
-    int front = snprintf(text, MAX_LINE, "seed %" PRIu64 "\n%sjob %" PRIu64 " offset %" PRIu64 " stride %" PRIu64 "\n", folder->seed, folder->draws_orders ? DRAWN : "", job->number, region->offset, region->stride);
+    char tiles[80] = "";
+    if (folder->tour.tiles) snprintf(tiles, sizeof tiles, TILED "%" PRIu64 BYTES "%" PRIu64 " unit %" PRIu64 "\n", folder->tour.tiles, folder->tour.bytes, job->unit);
+    int front = snprintf(text, MAX_LINE, "seed %" PRIu64 "\n%s%sjob %" PRIu64 " offset %" PRIu64 " stride %" PRIu64 "\n", folder->seed, folder->draws_orders ? DRAWN : "", tiles, job->number, region->offset, region->stride);
     memcpy(text + front, job->text, job->text_length);
     return (size_t)front + job->text_length;
 }
@@ -46,6 +52,17 @@ uint64_t number_in(const char *line, const char *name) {
 
 /* What a line says of its cut. */
 static const char *const SHOWN[] = {"none", "word", "fall", "start"};
+
+enum cut shown_cut(const struct options *options, const struct tally *tally, const char *before, const char *behind) {
+    if (!tally->is_cut || tally->was_early) return NO_CUT;
+    if (*before && *behind && strcmp(before, behind)) return CUT_BY_START;
+    if (options->drive_only && tally->has_fallen) return CUT_BY_FALL;
+    return options->trust_off ? CUT_BY_WORD : NO_CUT;
+}
+
+const char *word_of_cut(enum cut cut) {
+    return SHOWN[cut];
+}
 
 static enum cut cut_in(const char *line) {
     const char *found = strstr(line, "\"cut\": \"");
@@ -62,6 +79,7 @@ static void count_line(struct totals *totals, const char *line) {
     totals->faulty += faults > 0, totals->unchecked += checked == 0;
     totals->cuts += cut != NO_CUT, totals->trusted += cut == CUT_BY_WORD;
     totals->judged += cut != NO_CUT && checked;
+    if (cut != NO_CUT) totals->last_cut = totals->cycles;
     totals->flying_cuts += cut != NO_CUT && flying, totals->in_flight += cut != NO_CUT ? flying : 0;
 }
 
@@ -81,6 +99,18 @@ static void count_cycles(struct folder *folder) {
     }
     if (lines && (ftruncate(fileno(lines), end) || fsync(fileno(lines)))) give_up_by_errno(name);
     if (lines) fclose(lines);
+}
+
+struct known_runs runs_of_cycles(const struct folder *folder) {
+    char name[PATH_MAX], line[MAX_LINE];
+    struct known_runs runs = {.word = "cycle"};
+    name_file(folder, LINES, name);
+    FILE *lines = fopen(name, "r");
+    if (!lines && errno != ENOENT) give_up_by_errno(name);
+    while (lines && fgets(line, sizeof line, lines)) add_run(&runs, number_in(line, "\"run\": \""), number_in(line, "\"cycle\": "));
+    if (lines) fclose(lines);
+    sort_runs(&runs);
+    return runs;
 }
 
 static void read_drive(struct folder *folder) {
@@ -127,10 +157,22 @@ static void take_draws(struct folder *folder, const char *name, const char *kept
     folder->draws_orders = kept[used] == '\n' && !strncmp(kept + used + 1, DRAWN, strlen(DRAWN));
 }
 
-struct folder open_folder(const struct options *options, const struct job *job, const struct region *region, bool draws_orders) {
+struct cover cover_in_folder(const char *path) {
+    static char kept[MAX_SETTINGS];
+    char name[PATH_MAX];
+    name_file(&(struct folder){.path = path}, SETTINGS, name);
+    ssize_t length = read_file(name, kept, MAX_SETTINGS - 1);
+    if (length < 0) give_up_by_errno(name);
+    kept[length] = 0;
+    const char *line = strstr(kept, "\n" TILED), *job = strstr(kept, "\njob "); /* (behind that stands the job file) */
+    if (!line || !job || line > job) give_up(name, "that is a series of cycles, and no tour");
+    return (struct cover){number_in(line, TILED), number_in(line, BYTES)};
+}
+
+struct folder open_folder(const struct options *options, const struct job *job, const struct region *region, bool draws_orders, struct cover tour) {
     static char text[MAX_SETTINGS], kept[MAX_SETTINGS];
     char name[PATH_MAX];
-    struct folder folder = {.path = options->place, .seed = options->seed ? options->seed : draw_number(), .draws_orders = draws_orders};
+    struct folder folder = {.path = options->place, .seed = options->seed ? options->seed : draw_number(), .draws_orders = draws_orders, .tour = tour};
     if (job->text_length > MAX_SETTINGS - MAX_LINE) give_up(options->job_file, "it is too long");
     if (mkdir(folder.path, 0755) && errno != EEXIST) give_up_by_errno(folder.path);
     name_file(&folder, SETTINGS, name);

@@ -68,6 +68,7 @@ int main(int count, char **words) {
     case WRITE: return write_by_agent(&options, &job);
     case CHECK:
     case MAP: return check_by_agent(&options, &job);
+    case TOUR: return tour_by_agent(&options, &job);
     default: return options.links[1] ? cycle_by_agents(&options, &job) : cycle_by_agent(&options, &job, -1);
     }
 }

@@ -16,10 +16,28 @@ enum { ORDER_COMES = 5000 };
 enum { STILL_THERE = 5000 };
 
 void take(struct course *course) {
-    uint8_t notice[NOTICE_BYTES];
-    put_notice(notice, TAKE, 0);
-    if (!course->is_taken) write_all(course->drive.to, notice, sizeof notice);
+    uint8_t words[MOST_OPEN * TILE_WORD];
+    if (course->is_taken) return;
     course->is_taken = true;
+    if (!course->tiling) put_notice(words, TAKE, 0);
+    write_all(course->drive.to, words, course->tiling ? take_tiles(course->tiling, words) : NOTICE_BYTES);
+    if (course->tiling) end_tiles(course);
+}
+
+void end_tiles(struct course *course) {
+    if (course->is_taken && !course->tiling->count) end_input(&course->drive);
+}
+
+void open_more(struct course *course) {
+    uint8_t words[MOST_OPEN * TILE_WORD];
+    write_all(course->drive.to, words, begin_tiles(course->tiling, words));
+}
+
+/* Spells what `drive` is told of a write that has ended, and returns how long that is. */
+static size_t spell_end(struct course *course, struct told told, uint8_t words[MOST_WORDS]) {
+    if (course->tiling) return spell_end_of_write(course->tiling, told, words);
+    put_notice(words, told.kind, told.write);
+    return NOTICE_BYTES;
 }
 
 void note_cut(struct course *course, const char *why) {
@@ -39,7 +57,8 @@ static bool count_notice(struct course *course, struct told told) {
         course->tally->has_fallen = true; /* (it may have been made: it stays in flight) */
         return false;
     }
-    course->tally->told += told.kind == DONE;
+    const bool is_counted = !course->tiling || !is_once_more(course->tiling, told.write);
+    course->tally->told += is_counted && told.kind == DONE;
     course->tally->failed += told.kind == FAILED;
     if (told.kind == FAILED) say("write %" PRIu64 " to block %" PRIu64 " failed at the agent", told.write, told.block);
     return true;
@@ -53,15 +72,14 @@ static void note_unknown(struct course *course) {
 }
 
 void hand_on(struct course *course) {
-    uint8_t notices[NOTICES * NOTICE_BYTES];
+    uint8_t notices[NOTICES * MOST_WORDS];
     size_t at = 0, length = 0; /* of what was heard, and of what `drive` is told of it */
     bool is_known = true, is_last = false;
     while (is_known && !is_last && at + TOLD_BYTES <= course->heard_length) {
         const struct told told = read_told(course->heard + at);
         is_known = count_notice(course, told);
         if (!is_known) break;
-        put_notice(notices + length, told.kind, told.write);
-        at += TOLD_BYTES, length += NOTICE_BYTES;
+        at += TOLD_BYTES, length += spell_end(course, told, notices + length);
         is_last = course->tally->failed || course->tally->told == course->goal;
     }
     write_all(course->drive.to, notices, length);

@@ -7,7 +7,10 @@
 #include <stdbool.h>
 #include <stdint.h>
 
-enum command { WRITE = 1, CHECK = 2, MAP = 4, CYCLE = 8 };
+/* So many regions are written at once, at most. */
+enum { MOST_TILES = 64 };
+
+enum command { WRITE = 1, CHECK = 2, MAP = 4, CYCLE = 8, TOUR = 16 };
 
 struct options {
     enum command command;
@@ -32,6 +35,11 @@ struct options {
     bool lost;          /* the run's state was lost */
     bool no_ledger;     /* a cycle keeps none */
     bool same_order;    /* and all cycles have the order of the job file */
+    const char *cover_word; /* of a tour: so much of the drive, as it was said; */
+    uint64_t cover;     /* as a number of bytes, or 0: all */
+    uint64_t tiles;     /* so many tiles are open at once */
+    uint64_t again;     /* so many that were checked are checked again, behind each cut */
+    uint64_t tries;     /* so many runs of a tile are ended by a cut before it is left as it is */
     /* What shows a cut: the word of `off` alone, or that the drive fell, and else that the agent's
      * machine was started anew. */
     bool trust_off, drive_only;

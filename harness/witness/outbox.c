@@ -3,6 +3,7 @@
 #include "say.h"
 #include "slots.h"
 #include "sum.h"
+#include "tiling.h"
 
 #include <endian.h>
 #include <errno.h>
@@ -16,14 +17,19 @@ static size_t frame_of(const struct outbox *outbox) {
     return PLAIN_HEAD + outbox->block_size;
 }
 
+/* What `drive` says of an order: with tiles the number of its tile stands in front. */
+static size_t said_frame_of(const struct outbox *outbox) {
+    return frame_of(outbox) + (outbox->tiling ? 8 : 0);
+}
+
 static size_t summed_frame_of(const struct outbox *outbox) {
     return SUMMED_HEAD + outbox->block_size;
 }
 
-void make_outbox(struct outbox *outbox, uint64_t block_size, uint64_t depth, bool sends) {
-    *outbox = (struct outbox){.block_size = block_size, .depth = depth, .sends = sends};
+void make_outbox(struct outbox *outbox, uint64_t block_size, uint64_t depth, bool sends, struct tiling *tiling) {
+    *outbox = (struct outbox){.block_size = block_size, .depth = depth, .sends = sends, .tiling = tiling};
     /* (no more orders than `depth` are open) */
-    outbox->room = (depth + 1) * frame_of(outbox) + MAX_LAST;
+    outbox->room = (depth + 1) * said_frame_of(outbox) + MAX_LAST;
     outbox->out_room = sends ? (depth + 1) * summed_frame_of(outbox) : 1;
     outbox->bytes = malloc(outbox->room), outbox->out = malloc(outbox->out_room);
     outbox->open = calloc(depth, sizeof *outbox->open);
@@ -47,21 +53,36 @@ static void put_out(struct outbox *outbox, const uint8_t *frame) {
     outbox->out_end += summed_frame_of(outbox);
 }
 
-/* Notes the orders that are whole by now. What doesn't begin with 0 is what `drive` says last. */
-static void see_orders(struct outbox *outbox) {
-    while (outbox->end - outbox->seen >= frame_of(outbox) && outbox->bytes[outbox->seen] == 0) {
-        uint64_t words[2];
-        memcpy(words, outbox->bytes + outbox->seen, sizeof words);
-        if (outbox->open_count == outbox->depth) give_up("drive", "it has more writes out than the job's depth");
-        outbox->open[outbox->open_count++] = (struct open_order){be64toh(words[0]), be64toh(words[1])};
-        if (outbox->sends) put_out(outbox, outbox->bytes + outbox->seen);
-        outbox->seen += frame_of(outbox);
-        outbox->ordered++;
-    }
+/* Takes the state of a tile, where it comes next and is whole. */
+static bool see_state(struct outbox *outbox) {
+    const uint8_t *next = outbox->bytes + outbox->seen;
+    if (!outbox->tiling || outbox->end - outbox->seen < TILE_STATE || *next != 'F') return false;
+    end_tile(outbox->tiling, next);
+    outbox->seen += TILE_STATE;
+    return true;
+}
+
+void order_again(struct outbox *outbox, const uint8_t *order) {
+    uint64_t words[2];
+    memcpy(words, order, sizeof words);
+    outbox->open[outbox->open_count++] = (struct open_order){be64toh(words[0]), be64toh(words[1])};
+    if (outbox->sends) put_out(outbox, order);
+}
+
+/* Takes an order, likewise. What doesn't begin with 0 is what `drive` says last. */
+static bool see_order(struct outbox *outbox) {
+    uint8_t *next = outbox->bytes + outbox->seen;
+    if (outbox->end - outbox->seen < said_frame_of(outbox) || *next != 0) return false;
+    if (outbox->open_count == outbox->depth) give_up("drive", "it has more writes out than the job's depth");
+    if (outbox->tiling) next = order_of_tile(outbox->tiling, next);
+    order_again(outbox, next);
+    outbox->seen += said_frame_of(outbox);
+    outbox->ordered++;
+    return true;
 }
 
 bool read_orders(struct outbox *outbox, int from) {
-    if (outbox->seen && outbox->room - outbox->end < frame_of(outbox) + MAX_LAST) {
+    if (outbox->seen && outbox->room - outbox->end < said_frame_of(outbox) + MAX_LAST) {
         memmove(outbox->bytes, outbox->bytes + outbox->seen, outbox->end - outbox->seen);
         outbox->end -= outbox->seen, outbox->seen = 0;
     }
@@ -70,7 +91,7 @@ bool read_orders(struct outbox *outbox, int from) {
     if (count < 0 && errno == EINTR) return true;
     if (count <= 0) return false;
     outbox->end += (size_t)count;
-    see_orders(outbox);
+    while (see_state(outbox) || see_order(outbox)) {}
     if (outbox->seen == outbox->end) outbox->seen = outbox->end = 0;
     return true;
 }
@@ -97,16 +118,25 @@ bool close_order(struct outbox *outbox, uint64_t write, uint64_t *block) {
     return false;
 }
 
-size_t take_state(struct outbox *outbox, int status, uint8_t state[MAX_STATE]) {
-    size_t length = outbox->end - outbox->seen;
+/* Why `drive` gave no state, by how it ended. */
+static _Noreturn void give_up_by_last(const struct outbox *outbox, int status) {
     char line[MAX_LAST + 1] = "";
+    size_t length = outbox->end - outbox->seen;
     if (status < 0) give_up("drive", "it was killed, and there is no state");
-    if (status == 0 && length >= 4 && length <= MAX_STATE && !memcmp(outbox->bytes + outbox->seen, "FCV", 3)) {
-        memcpy(state, outbox->bytes + outbox->seen, length);
-        return length;
-    }
     if (length > MAX_LAST) length = MAX_LAST;
     memcpy(line, outbox->bytes + outbox->seen, length);
     line[strcspn(line, "\n")] = 0;
     give_up("drive", status && *line ? line : "it ended without a state");
+}
+
+size_t take_state(struct outbox *outbox, int status, uint8_t state[MAX_STATE]) {
+    const size_t length = outbox->end - outbox->seen;
+    const bool is_state = status == 0 && length >= 4 && length <= MAX_STATE && !memcmp(outbox->bytes + outbox->seen, "FCV", 3);
+    if (!is_state) give_up_by_last(outbox, status);
+    memcpy(state, outbox->bytes + outbox->seen, length);
+    return length;
+}
+
+void take_end(struct outbox *outbox, int status) {
+    if (status || outbox->end != outbox->seen || outbox->tiling->count) give_up_by_last(outbox, status);
 }

@@ -36,12 +36,32 @@ struct hello hello_to_write(const struct options *options, const struct job *job
  * taken once enough writes are done. The state stays in the tally, for the caller to keep. */
 struct tally run_job(const struct options *options, const struct job *job, struct link *link, struct power *power);
 
-/* Checks by a state, or a ledger, too, what an agent gives back of the region, and keeps what `drive`
+/* Writes tiles of a tour over a link, which it ends, until the power is cut: as many at once as the tiling
+ * has, and behind each the next. Their states stand in the tiles' file then. */
+struct tiling;
+struct tally run_tiles(const struct options *options, struct tiling *tiling, struct link *link, struct power *power);
+
+/* A link over which checks are made: of parts of this region, as many as one likes. It is open once the first
+ * was begun. */
+struct sitting {
+    struct region region;
+    struct link link;
+    bool is_open;
+};
+
+/* Ends it, where it is open: then the agent lets its target go. */
+void end_sitting(struct sitting *sitting);
+
+/* Checks by a state, or a ledger, too, what an agent gives back of the part of a sitting's region that
+ * begins at this block and is as large as the job's, and keeps what `drive`
  * says of each faulty block. Where the link ends or falls silent within that, it is tried again, until the options'
  * wait is over; a target of the run's that isn't there by then counts as blocks that can't be read.
  * The welcome is the agent's, and empty where it had no target. */
 struct map;
 struct basis;
+void check_part(const struct options *options, const struct job *job, struct sitting *sitting, uint64_t first, const struct basis *basis, struct map *map, struct welcome *welcome);
+
+/* The same of a region, over a link of its own. */
 void check_by_link(const struct options *options, const struct job *job, const struct region *region, const struct basis *basis, struct map *map, struct welcome *welcome);
 
 /* Keeps the bytes of as many faulty blocks as the options say, which an agent reads once more, and of
