@@ -7,9 +7,9 @@ use Rattle.std.specs.List.{flat_map}
 use Rattle.fc_base.specs.declared.fault.Fault.{Fault}
 use Rattle.fc_base.specs.declared.fault.Fault.TheVariants.{Down, Misdirected}
 use Rattle.fc_base.specs.Faults.{when}
-use Rattle.disk_model.specs.declared.left.Left.{Left}
-use Rattle.disk_model.specs.declared.left.Left.TheVariants as lefts
-use Rattle.disk_model.specs.Left.{is_lost}
+use Rattle.disk_model.specs.declared.save_outcome.SaveOutcome.{SaveOutcome}
+use Rattle.disk_model.specs.declared.save_outcome.SaveOutcome.TheVariants as lefts
+use Rattle.disk_model.specs.SaveOutcome.{is_lost}
 use Rattle.messages.specs.declared.frame.Frame.{Frame}
 use Rattle.messages.specs.declared.frame.Frame.TheVariants.{Whole, Piece}
 use Rattle.messages.specs.declared.node.Node.{Node}
@@ -85,7 +85,7 @@ to_me o past (Piece q) h =
 
 -- ---- what is refused, or whose save failed, sends nothing
 
-no_answer : (x : Option Addition) (left : Left) → is_lost left ≡ true → is_answer x left ≡ false
+no_answer : (x : Option Addition) (left : SaveOutcome) → is_lost left ≡ true → is_answer x left ≡ false
 no_answer None lefts.NoSave h = cc
 no_answer None lefts.Saved h = cc
 no_answer None lefts.LostNew h = refl
@@ -95,25 +95,25 @@ no_answer (Some addition) lefts.Saved h = cc
 no_answer (Some addition) lefts.LostNew h = refl
 no_answer (Some addition) lefts.LostOld h = refl
 
-unanswered : (x : Option Fault) (y : Option Addition) (left : Left) → Quiet (is_lost left) x → (is_none x && is_answer y left) ≡ false
+unanswered : (x : Option Fault) (y : Option Addition) (left : SaveOutcome) → Quiet (is_lost left) x → (is_none x && is_answer y left) ≡ false
 unanswered (Some fault) y left h = refl
 unanswered None y left (inl h) = no_answer y left h
 unanswered None y left (inr h) = cc
 
-call_quiet : (o : Opening) (list : List history.Entry) (c : PacketInput) (left : Left) → Quiet (is_lost left) (words.refusal o list c)
+call_quiet : (o : Opening) (list : List history.Entry) (c : PacketInput) (left : SaveOutcome) → Quiet (is_lost left) (words.refusal o list c)
     → frames_by (packets o) list (Some (history.Met c left)) ≡ []
 call_quiet o list c left h =
     ap (λ b. flat_map frames_of (if b then packets_for (words.peers o list) (words_noted o list) (life o list) c else []))
     (unanswered (words.refusal o list c) (words.due o list c) left h)
 
-sense_quiet : (o : Opening) (list : List history.Entry) (left : Left) (x : Sense PacketInput) → Quiet (is_lost left) (refusal_of_sense (hearing o) list x)
+sense_quiet : (o : Opening) (list : List history.Entry) (left : SaveOutcome) (x : Sense PacketInput) → Quiet (is_lost left) (refusal_of_sense (hearing o) list x)
     → frames_by (packets o) list (entry_by (hearing o) left x) ≡ []
 sense_quiet o list left (Hears c) h = call_quiet o list c left h
 sense_quiet o list left Keeps h = refl
 sense_quiet o list left Drops h = refl
 sense_quiet o list left Misses h = refl
 
-quiet : (o : Opening) (past : List FrameEntry) (e : FrameInput) (left : Left) → Quiet (is_lost left) (answers.refusal o past e)
+quiet : (o : Opening) (past : List FrameEntry) (e : FrameInput) (left : SaveOutcome) → Quiet (is_lost left) (answers.refusal o past e)
     → answers.frames o past (Met e left) ≡ []
 quiet o past e left h =
     ap (frames_by (packets o) (packets_heard o past)) (entry_is (hearing o) (heard_at o past) (arrival e) left)
@@ -134,7 +134,7 @@ IsAsked ask (Restart mirror) = mirror ≡ false
 IsAsked ask (Renew g left) = ⊥
 IsAsked ask Lose = ⊥
 
-met_asked : (o : Opening) (past : List FrameEntry) (e : FrameInput) (left : Left) → MayPass (answers.refusal o past e) → IsAsked (Meets e) (Met e left)
+met_asked : (o : Opening) (past : List FrameEntry) (e : FrameInput) (left : SaveOutcome) → MayPass (answers.refusal o past e) → IsAsked (Meets e) (Met e left)
 unfolding IsAsked
 met_asked o past (inputs.Deliver f) left h = (refl, to_me o past f h)
 met_asked o past (inputs.Begin text) left h = tt

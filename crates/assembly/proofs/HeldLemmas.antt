@@ -1,7 +1,7 @@
 -- Nodes that are one trace hear a trace of packets, and hold one state of each job.
 use Rattle.std.proofs.Common.{◌≡◌, refl, sym, ◌∙◌, ap, subst, ℕ, ◌≤◌, Bool, true, false, List, [], ◌∷◌, length, Some}
 use Rattle.std.specs.Prelude.{◌++◌, ◌==◌, if◌then◌else◌}
-use Rattle.disk_model.specs.declared.left.Left.{Left}
+use Rattle.disk_model.specs.declared.save_outcome.SaveOutcome.{SaveOutcome}
 use Rattle.messages.specs.Hearing.{Coming, heard}
 use Rattle.server_core.specs.History as server
 use Rattle.server_core.specs.Accepted.{IsTaking}
@@ -73,9 +73,9 @@ pub assembled_are_heard : OnlySentIsHeard → NodesHearTheirOwn → AssembledAre
 assembled_are_heard only own n frames servers list trace is = record {
   legal = only (without_mirror n) trace is.legal is.fits;
   servers_are =
-      λ s. (own (without_mirror n) trace).servers s ∙ ap (λ (past : List (Coming server.Entry Left)). (heard (at_server s) past).entries) (is.servers_are s);
+      λ s. (own (without_mirror n) trace).servers s ∙ ap (λ (past : List (Coming server.Entry SaveOutcome)). (heard (at_server s) past).entries) (is.servers_are s);
   client_is = (own (without_mirror n) trace).client ∙ ap
-      (λ (past : List (Coming client.Entry Left)). (heard (at_client (without_mirror n)) past).entries) is.client_is;
+      (λ (past : List (Coming client.Entry SaveOutcome)). (heard (at_client (without_mirror n)) past).entries) is.client_is;
 }
 
 -- The verdict theorem of all traces.

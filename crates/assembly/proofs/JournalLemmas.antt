@@ -5,10 +5,10 @@ use Rattle.std.proofs.lemmas.List.{length-reverse, reverse-append, reverse-rever
 use Rattle.std.proofs.lemmas.Option.{slice_get_within, get_or_from_slice_get, slice_get_read}
 use Rattle.messages.specs.declared.node.Node.{Node}
 use Rattle.messages.specs.Nodes.{is_node}
-use Rattle.hub.specs.declared.line.Line.{Line}
-use Rattle.hub.specs.Network.{Network}
-use Rattle.hub.specs.Waiting.{is_same_node}
-use Rattle.hub.specs.Journal.{count_sent}
+use Rattle.messages.specs.declared.line.Line.{Line}
+use Rattle.messages.specs.Network.{Network}
+use Rattle.messages.specs.Waiting.{is_same_node}
+use Rattle.messages.specs.Journal.{count_sent}
 use Rattle.cells.specs.declared.entry.HistoryEntry.{HistoryEntry}
 use Rattle.assembly.specs.Marks.{Mark, mark_of_line, marks_in, marks_of}
 use Rattle.assembly.specs.Orders.{places_between, next_place, up_to_last}
@@ -18,7 +18,7 @@ use Rattle.assembly.specs.declared.fault.AssembleFault.TheVariants.{Unlike, NoMe
 use Rattle.assembly.specs.Ran.{Ran, history_of}
 use Rattle.assembly.specs.Unlike.{GoesOn, DifferAt}
 use Rattle.assembly.specs.Order.{Followed, next_of, with_next, nothing_followed, IsTold, IsFollowed, IsUntold, Differs}
-use Rattle.hub.proofs.NodeLemmas.{same_node, is_same_as_itself}
+use Rattle.messages.proofs.NodeLemmas.{same_node, is_same_as_itself}
 use Rattle.assembly.proofs.NextLemmas.{has_place, long_with, next_same, next_other, next_none}
 
 -- ---- entries, and those before and behind them

@@ -4,15 +4,15 @@ use Rattle.std.specs.Prelude.{map, if◌then◌else◌}
 use Rattle.std.proofs.lemmas.Bool.Decides.{nat_tests}
 use Rattle.messages.specs.declared.node.Node.{Node}
 use Rattle.messages.specs.declared.node.Node.TheVariants.{Server, Client, Mirror}
-use Rattle.hub.specs.declared.line.Line.{Line}
-use Rattle.hub.specs.Waiting.{is_same_node}
+use Rattle.messages.specs.declared.line.Line.{Line}
+use Rattle.messages.specs.Waiting.{is_same_node}
 use Rattle.cells.specs.declared.entry.HistoryEntry.{HistoryEntry}
 use Rattle.assembly.specs.declared.place.Place.{Place}
-use Rattle.hub.specs.Journal.{count_sent}
+use Rattle.messages.specs.Journal.{count_sent}
 use Rattle.assembly.specs.Marks.{Mark, mark_of_line, marks_in, marks_of}
 use Rattle.assembly.specs.Lists.{EndAt}
 use Rattle.assembly.specs.Orders.{IsWithin, place_of, places_of, standing_places}
-use Rattle.hub.proofs.NodeLemmas.{same_node}
+use Rattle.messages.proofs.NodeLemmas.{same_node}
 use Rattle.assembly.proofs.PlaceLemmas.{IsIn, Falls, in_falls, own_places, other_places, standing_falls}
 use Rattle.assembly.proofs.MergedLemmas.{below_or_not, marked_at, marks_fall}
 use Rattle.assembly.proofs.NodeLemmas.{IsBelow, with_history}

@@ -7,14 +7,14 @@ use Rattle.std.proofs.lemmas.Bool.{eqb-true}
 use Rattle.std.proofs.lemmas.Bool.Decides.{nat_tests}
 use Rattle.messages.specs.declared.node.Node.{Node}
 use Rattle.messages.specs.declared.node.Node.TheVariants.{Server, Client, Mirror}
-use Rattle.hub.specs.declared.line.Line.{Line}
-use Rattle.hub.specs.Network.{Network}
-use Rattle.hub.specs.Waiting.{is_same_node}
+use Rattle.messages.specs.declared.line.Line.{Line}
+use Rattle.messages.specs.Network.{Network}
+use Rattle.messages.specs.Waiting.{is_same_node}
 use Rattle.cells.specs.declared.entry.HistoryEntry.{HistoryEntry}
 use Rattle.cells.specs.AtHub.{is_left_out}
 use Rattle.assembly.specs.declared.place.Place.{Place}
 use Rattle.assembly.specs.Marks.{Mark, mark_of_line, marks_in, marks_if, marks_of, frame_of}
-use Rattle.hub.specs.Journal.{count_sent}
+use Rattle.messages.specs.Journal.{count_sent}
 use Rattle.assembly.specs.Orders.{standing_places, places_of, IsWithin, place_of, next_place, up_to_last, left_of, left_below, merged_order}
 use Rattle.assembly.specs.Laws.{Agree, MergedOrdersAreMerges}
 use Rattle.assembly.proofs.MarkLemmas.{HasNone, none_or_one}

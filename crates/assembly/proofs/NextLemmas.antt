@@ -9,8 +9,8 @@ use Rattle.messages.specs.declared.limits.TheConstants.{MAX_NODES}
 use Rattle.messages.specs.declared.node.Node.{Node}
 use Rattle.messages.specs.declared.node.Node.TheVariants.{Server, Client, Mirror}
 use Rattle.messages.specs.Nodes.{node_number, is_node}
-use Rattle.hub.specs.Waiting.{is_same_node}
-use Rattle.hub.proofs.NodeLemmas.{number_below, other_number}
+use Rattle.messages.specs.Waiting.{is_same_node}
+use Rattle.messages.proofs.NodeLemmas.{number_below, other_number}
 use Rattle.cells.specs.declared.entry.HistoryEntry.{HistoryEntry}
 use Rattle.assembly.specs.Ran.{Ran, history_of}
 use Rattle.assembly.specs.Order.{next_of, with_next}

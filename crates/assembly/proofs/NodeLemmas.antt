@@ -4,14 +4,14 @@ use Rattle.std.specs.Prelude.{map, if◌then◌else◌}
 use Rattle.std.proofs.lemmas.Bool.{eqb-true}
 use Rattle.std.proofs.lemmas.Bool.Decides.{nat_tests}
 use Rattle.fc_base.specs.declared.fault.Fault.TheVariants.{Misdirected}
-use Rattle.disk_model.specs.declared.left.Left.{Left}
+use Rattle.disk_model.specs.declared.save_outcome.SaveOutcome.{SaveOutcome}
 use Rattle.messages.specs.declared.node.Node.{Node}
 use Rattle.messages.specs.declared.node.Node.TheVariants.{Server, Client, Mirror}
 use Rattle.messages.specs.declared.frame.Frame.{Frame}
 use Rattle.messages.specs.declared.refusal.Act.TheVariants as acts
 use Rattle.messages.specs.FrameBytes.{frame_spelling}
 use Rattle.messages.specs.Hearing.{Coming, entry_of, frames_by, heard}
-use Rattle.hub.specs.Waiting.{is_same_node}
+use Rattle.messages.specs.Waiting.{is_same_node}
 use Rattle.server_core.specs.History as server
 use Rattle.server_core.specs.Answers.{packets as server_packets}
 use Rattle.server_core.specs.Inputs.{FrameInput as ServerInput}
@@ -51,8 +51,8 @@ InputOf Client = ClientInput
 InputOf Mirror = ⊥
 
 abbrev pub ComingTo : Node → Type 0
-ComingTo (Server s) = Coming server.Entry Left
-ComingTo Client = Coming client.Entry Left
+ComingTo (Server s) = Coming server.Entry SaveOutcome
+ComingTo Client = Coming client.Entry SaveOutcome
 ComingTo Mirror = ⊥
 
 -- The rules of a node that isn't there: nothing is asked of it.
@@ -127,10 +127,10 @@ opens n Mirror = refl
 pub frames_at : (n : ℕ) (node : Node) (t : List FrameStep) (past : List (EntryOf node)) (e : EntryOf node) → happened_to n node t ≡ map (coming_to node) past
     → frames_of_step (without_mirror n) t (step_at node (coming_to node e)) ≡ (rules_of n node).frames past e
 frames_at n (Server s) t past e h =
-    ap (λ (list : List (Coming server.Entry Left)). frames_by (server_packets (opening_of s)) (heard (at_server s) list).entries
+    ap (λ (list : List (Coming server.Entry SaveOutcome)). frames_by (server_packets (opening_of s)) (heard (at_server s) list).entries
     (entry_of (at_server s) (heard (at_server s) list) (server_coming e))) h
 frames_at n Client t past e h =
-    ap (λ (list : List (Coming client.Entry Left)). frames_by (client_packets (client_opening (without_mirror n)))
+    ap (λ (list : List (Coming client.Entry SaveOutcome)). frames_by (client_packets (client_opening (without_mirror n)))
     (heard (at_client (without_mirror n)) list).entries
     (entry_of (at_client (without_mirror n)) (heard (at_client (without_mirror n)) list) (client_coming e))) h
 frames_at n Mirror t past e h = absurd e

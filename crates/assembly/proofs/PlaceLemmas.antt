@@ -3,9 +3,9 @@ use Rattle.std.proofs.Common.{◌≡◌, refl, sym, ◌∙◌, ap, subst, ◌⊎
 use Rattle.std.specs.Prelude.{map, filter, if◌then◌else◌, nat_le, nat_lt}
 use Rattle.std.proofs.lemmas.Bool.{ltb-true, ltb-false, lt-ltb, le-ltb, le-leb, lt-leb}
 use Rattle.messages.specs.declared.node.Node.{Node}
-use Rattle.hub.specs.declared.line.Line.{Line}
-use Rattle.hub.specs.Waiting.{is_same_node}
-use Rattle.hub.proofs.NodeLemmas.{same_node, is_same_as_itself}
+use Rattle.messages.specs.declared.line.Line.{Line}
+use Rattle.messages.specs.Waiting.{is_same_node}
+use Rattle.messages.proofs.NodeLemmas.{same_node, is_same_as_itself}
 use Rattle.cells.specs.declared.entry.HistoryEntry.{HistoryEntry}
 use Rattle.cells.specs.AtHub.{is_left_out}
 use Rattle.assembly.specs.declared.place.Place.{Place}

@@ -10,9 +10,9 @@ use Rattle.fc_base.specs.declared.fault.Fault.{Fault}
 use Rattle.fc_base.specs.declared.fault.Fault.TheVariants.{Down, Misdirected, NumbersSpent}
 use Rattle.fc_base.specs.declared.report.ReportParts.{ReportParts}
 use Rattle.fc_base.specs.Report.{is_report}
-use Rattle.disk_model.specs.declared.left.Left.{Left}
-use Rattle.disk_model.specs.declared.left.Left.TheVariants as lefts
-use Rattle.disk_model.specs.Left.{is_lost}
+use Rattle.disk_model.specs.declared.save_outcome.SaveOutcome.{SaveOutcome}
+use Rattle.disk_model.specs.declared.save_outcome.SaveOutcome.TheVariants as lefts
+use Rattle.disk_model.specs.SaveOutcome.{is_lost}
 use Rattle.messages.specs.declared.body.Body.{Body}
 use Rattle.messages.specs.declared.frame.Frame.{Frame}
 use Rattle.messages.specs.declared.frame.Frame.TheVariants.{Whole, Piece}
@@ -85,18 +85,18 @@ none_sent me gone (Some fault) bodies h = refl
 none_sent me gone None bodies (inl h) = ap (λ b. flat_map frames_of (to_client me (if b then [] else bodies))) h
 none_sent me gone None bodies (inr h) = cc
 
-event_quiet : (o : Opening) (list : List history.Entry) (e : PacketInput) (left : Left) → Quiet (is_lost left) (words.refusal o list e)
+event_quiet : (o : Opening) (list : List history.Entry) (e : PacketInput) (left : SaveOutcome) → Quiet (is_lost left) (words.refusal o list e)
     → frames_by (words.packets o) list (Some (history.Met e left)) ≡ []
 event_quiet o list e left h = none_sent o.me (is_lost left) (words.refusal o list e) (replies (words.now o list) (requests.request_of o.me e)) h
 
-sense_quiet : (o : Opening) (list : List history.Entry) (left : Left) (x : Sense PacketInput) → Quiet (is_lost left) (refusal_of_sense (hearing o) list x)
+sense_quiet : (o : Opening) (list : List history.Entry) (left : SaveOutcome) (x : Sense PacketInput) → Quiet (is_lost left) (refusal_of_sense (hearing o) list x)
     → frames_by (words.packets o) list (entry_by (hearing o) left x) ≡ []
 sense_quiet o list left (Hears e) h = event_quiet o list e left h
 sense_quiet o list left Keeps h = refl
 sense_quiet o list left Drops h = refl
 sense_quiet o list left Misses h = refl
 
-quiet : (o : Opening) (past : List FrameEntry) (e : FrameInput) (left : Left) → Quiet (is_lost left) (answers.refusal o past e)
+quiet : (o : Opening) (past : List FrameEntry) (e : FrameInput) (left : SaveOutcome) → Quiet (is_lost left) (answers.refusal o past e)
     → answers.frames o past (Met e left) ≡ []
 quiet o past e left h =
     ap (frames_by (words.packets o) (packets_heard o past)) (entry_is (hearing o) (heard_at o past) (arrival e) left)
@@ -113,7 +113,7 @@ IsAsked o ask (Met (inputs.CheckDone boot a j report) left) = ask ≡ Meets (inp
 IsAsked o ask Cut = Unit {0}
 IsAsked o ask (Restart left) = Unit {0}
 
-met_asked : (o : Opening) (past : List FrameEntry) (e : FrameInput) (left : Left) → MayPass (answers.refusal o past e) → IsAsked o (Meets e) (Met e left)
+met_asked : (o : Opening) (past : List FrameEntry) (e : FrameInput) (left : SaveOutcome) → MayPass (answers.refusal o past e) → IsAsked o (Meets e) (Met e left)
 unfolding IsAsked
 met_asked o past (inputs.Deliver f) left h = (refl, to_me o past f h)
 met_asked o past (inputs.Issue j) left h = tt

@@ -5,7 +5,7 @@ use Rattle.std.specs.List.{AllByRecursion}
 use Rattle.std.proofs.lemmas.List.{map-append}
 use Rattle.messages.specs.declared.node.Node.{Node}
 use Rattle.messages.specs.FrameBytes.{frame_spelling}
-use Rattle.hub.specs.Waiting.{is_same_node}
+use Rattle.messages.specs.Waiting.{is_same_node}
 use Rattle.cells.specs.declared.entry.HistoryEntry.{HistoryEntry}
 use Rattle.cells.specs.AtHub.{is_left_out}
 use Rattle.cells.specs.Replay.{Ends, Makes}
@@ -16,7 +16,7 @@ use Rattle.assembly.specs.declared.place.Place.{Place}
 use Rattle.assembly.specs.Marks.{frame_of, mark_of, marks_if, marks_of}
 use Rattle.assembly.specs.Orders.{standing_places}
 use Rattle.assembly.specs.Names.{node_of}
-use Rattle.hub.proofs.NodeLemmas.{same_node}
+use Rattle.messages.proofs.NodeLemmas.{same_node}
 use Rattle.assembly.proofs.NodeLemmas.{EntryOf, Goes, coming_to, frames_at, happened_to, node_at, other_list}
 use Rattle.assembly.proofs.NodeLemmas.{other_step, own_list, own_step, rules_of, stays, step_at, with_list}
 

@@ -5,15 +5,15 @@ use Rattle.std.proofs.Math.Seq.{take-add}
 use Rattle.std.proofs.lemmas.List.{append-nil, take_all}
 use Rattle.messages.specs.declared.node.Node.{Node}
 use Rattle.messages.specs.declared.node.Node.TheVariants.{Server, Client, Mirror}
-use Rattle.hub.specs.declared.line.Line.{Line}
-use Rattle.hub.specs.Waiting.{is_same_node}
+use Rattle.messages.specs.declared.line.Line.{Line}
+use Rattle.messages.specs.Waiting.{is_same_node}
 use Rattle.cells.specs.declared.entry.HistoryEntry.{HistoryEntry}
 use Rattle.cells.specs.Replay.{Makes}
 use Rattle.net_world.specs.Setup.{without_mirror}
 use Rattle.net_world.specs.Frames.{frames_sent}
 use Rattle.net_world.specs.InRange.{FitsFrames}
 use Rattle.assembly.specs.declared.place.Place.{Place}
-use Rattle.hub.specs.Journal.{count_sent, AreSentBefore}
+use Rattle.messages.specs.Journal.{count_sent, AreSentBefore}
 use Rattle.assembly.specs.Marks.{Mark, frame_of, mark_of_line, marks_if, marks_in, marks_of}
 use Rattle.assembly.specs.Lists.{EndAt, Lists}
 use Rattle.assembly.specs.Orders.{IsWithin, place_of, places_of, standing_places}
@@ -21,7 +21,7 @@ use Rattle.assembly.specs.Laws.{MergesNameATrace, MergedOrdersAreMerges, Agreein
 use Rattle.assembly.proofs.MarkLemmas.{HasNone, none_or_one}
 use Rattle.assembly.proofs.RefusalLemmas.{CameOf}
 use Rattle.assembly.proofs.ReadBackLemmas.{Laws, taken_was_sent}
-use Rattle.hub.proofs.NodeLemmas.{same_node, is_same_as_itself}
+use Rattle.messages.proofs.NodeLemmas.{same_node, is_same_as_itself}
 use Rattle.assembly.proofs.PlaceLemmas.{own_places}
 use Rattle.assembly.proofs.NodeLemmas.{EntryOf, IsBelow, AreMade, goes, made_with, opens, coming_to, rules_of, with_history, with_list}
 use Rattle.assembly.proofs.TellLemmas.{Newest, Told, more, newest_of, none_sent, opened_still}

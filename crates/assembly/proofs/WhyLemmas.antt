@@ -1,6 +1,6 @@
 -- Why there is no list of events.
 use Rattle.std.proofs.Common.{inr, List}
-use Rattle.hub.specs.Network.{Network}
+use Rattle.messages.specs.Network.{Network}
 use Rattle.cells.specs.Seated.{Seated}
 use Rattle.assembly.specs.Marks.{marks_in, marks_of}
 use Rattle.assembly.specs.declared.fault.AssembleFault.{AssembleFault}

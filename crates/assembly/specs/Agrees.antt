@@ -4,7 +4,7 @@ use Rattle.std.specs.Option.{ForSome}
 use Rattle.fc_base.specs.declared.limits.TheConstants.{MAX_SERVERS}
 use Rattle.messages.specs.declared.node.Node.{Node}
 use Rattle.messages.specs.declared.node.Node.TheVariants.{Server, Client, Mirror}
-use Rattle.hub.specs.Network.{Network}
+use Rattle.messages.specs.Network.{Network}
 use Rattle.client_core.specs.Note.{is_blank}
 use Rattle.cells.specs.Seated.{Seated}
 use Rattle.cells.specs.Seats.{times}
@@ -38,6 +38,6 @@ pub record Agrees (r : Ran) (net : Network) (seats : List Seated) (node : Node) 
   pub seated : All (IsSeatOf r node) seats
   pub marked : IsMarked r net node
 
--- Every node agrees.
+-- Every node agrees with the journal of the frames.
 abbrev pub AllAgree : Ran → Network → List Seated → Type 0
 AllAgree r net seats = (node : Node) → Agrees r net seats node

@@ -5,7 +5,7 @@ use Rattle.fc_base.specs.declared.fault.Fault.TheVariants.{NodeOff}
 use Rattle.messages.specs.declared.node.Node.{Node}
 use Rattle.messages.specs.declared.node.Node.TheVariants.{Server, Client, Mirror}
 use Rattle.messages.specs.declared.refusal.Act.TheVariants as acts
-use Rattle.hub.specs.Network.{Network}
+use Rattle.messages.specs.Network.{Network}
 use Rattle.cells.specs.declared.answer.Answer.TheVariants.{Plain}
 use Rattle.cells.specs.declared.answer.Reply.{Reply}
 use Rattle.cells.specs.declared.input.NodeInput.{NodeInput}
@@ -27,7 +27,7 @@ reply_bytes = 8 ∷ []
 abbrev pub event : NodeInput → Result Reply Fault → List (List ℕ) → HistoryEntry
 event came answer sent = record { by = None; came = came; answer = answer; sent = sent }
 
--- A plain answer.
+-- The answer of an event that is done, which tells nothing and asks for no act.
 abbrev pub good : Result Reply Fault
 good = Ok (record { answer = Plain; act = acts.None })
 
@@ -54,7 +54,7 @@ net = record {
       ∷ record { node = Client; at = 0; taken = None; sent = 1 } ∷ [];
 }
 
--- They agree with it.
+-- The marks of the client's history and of server 0's are those that the journal tells of them.
 abbrev pub AgreeWithIt : Type 0
 AgreeWithIt =
     (marks_of (history_of Client) ≡ marks_in net.frames Client net.journal)

@@ -2,13 +2,13 @@
 use Rattle.std.specs.Prelude.{◌≤◌, ℕ, List}
 use Rattle.fc_base.specs.declared.limits.TheConstants.{MAX_SERVERS}
 use Rattle.messages.specs.declared.node.Node.{Node}
-use Rattle.hub.specs.Network.{Network}
+use Rattle.messages.specs.Network.{Network}
 use Rattle.server_core.specs.Hearing.{FrameEntry as ServerEntry}
 use Rattle.client_core.specs.Hearing.{FrameEntry as ClientEntry}
 use Rattle.cells.specs.declared.entry.HistoryEntry.{HistoryEntry}
 use Rattle.net_world.specs.Frames.{FrameStep}
 use Rattle.assembly.specs.declared.place.Place.{Place}
-use Rattle.hub.specs.Journal.{IsLegal}
+use Rattle.messages.specs.Journal.{IsLegal}
 use Rattle.assembly.specs.Marks.{AreMarked}
 use Rattle.assembly.specs.Lists.{EndAt}
 use Rattle.assembly.specs.Orders.{IsMerge, merged_order}
@@ -34,7 +34,7 @@ MergedOrdersAreMerges =
     (n : ℕ) (net : Network) (ran : Node → List HistoryEntry) →
     Agree n net ran → IsMerge ran net.journal (merged_order n ran net.journal)
 
--- So it names one trace.
+-- The order that the journal gives to the histories of nodes that agree names one trace.
 abbrev pub AgreeingNodesAreATrace : Type 0
 AgreeingNodesAreATrace =
     (n : ℕ) (net : Network) (ran : Node → List HistoryEntry) →

@@ -3,14 +3,14 @@
 use Rattle.std.specs.Prelude.{◌≡◌, ℕ, if◌then◌else◌, List, [], ◌∷◌, ◌++◌, length, take, drop, Option, Some, None, slice_get}
 use Rattle.std.specs.Option.{option_and_then}
 use Rattle.messages.specs.declared.node.Node.{Node}
-use Rattle.hub.specs.declared.line.Line.{Line}
-use Rattle.hub.specs.Network.{Network}
-use Rattle.hub.specs.Waiting.{is_same_node}
+use Rattle.messages.specs.declared.line.Line.{Line}
+use Rattle.messages.specs.Network.{Network}
+use Rattle.messages.specs.Waiting.{is_same_node}
 use Rattle.cells.specs.declared.input.NodeInput.{NodeInput}
 use Rattle.cells.specs.declared.input.NodeInput.TheVariants.{Frame}
 use Rattle.cells.specs.declared.entry.HistoryEntry.{HistoryEntry}
 use Rattle.cells.specs.AtHub.{is_left_out}
-use Rattle.hub.specs.Journal.{count_sent}
+use Rattle.messages.specs.Journal.{count_sent}
 
 -- The mark of an event: its place in its node's history, the frame that it took, and those that it
 -- sent.
@@ -45,8 +45,8 @@ marks_if at None [] = []
 marks_if at None (f ∷ fs) = record { at = at; taken = None; sent = f ∷ fs } ∷ []
 marks_if at (Some bytes) sent = record { at = at; taken = Some bytes; sent = sent } ∷ []
 
--- So is the event at a place of a history, unless it is left out: a frame that is refused isn't
--- taken.
+-- The mark of the event at a place of a history. There is none where it took and sent no frame, nor
+-- where it is left out: a frame that is refused isn't taken.
 abbrev pub mark_of : ℕ → HistoryEntry → List Mark
 mark_of at l = if is_left_out l.answer then [] else marks_if at (frame_of l.came) l.sent
 

@@ -7,7 +7,7 @@ use Rattle.messages.specs.FrameBytes.{frame_spelling}
 use Rattle.server_core.specs.Hearing.{FrameEntry as ServerEntry, coming_of as server_coming}
 use Rattle.client_core.specs.Hearing.{FrameEntry as ClientEntry, coming_of as client_coming}
 use Rattle.cells.specs.declared.entry.HistoryEntry.{HistoryEntry}
-use Rattle.hub.specs.Network.{Network}
+use Rattle.messages.specs.Network.{Network}
 use Rattle.net_world.specs.Setup.{without_mirror}
 use Rattle.net_world.specs.Frames.{FrameStep, OfServer, OfClient, OfMirror, of_server, of_client, frames_sent, IsFrameTrace}
 use Rattle.net_world.specs.InRange.{FitsFrames}

@@ -5,8 +5,8 @@ use Rattle.std.specs.Prelude.{reverse, Option, Some, slice_index_or, slice_set, 
 use Rattle.messages.specs.declared.node.Node.{Node}
 use Rattle.messages.specs.declared.limits.TheConstants.{MAX_NODES}
 use Rattle.messages.specs.Nodes.{node_number, is_node}
-use Rattle.hub.specs.declared.line.Line.{Line}
-use Rattle.hub.specs.Network.{Network}
+use Rattle.messages.specs.declared.line.Line.{Line}
+use Rattle.messages.specs.Network.{Network}
 use Rattle.cells.specs.declared.entry.HistoryEntry.{HistoryEntry}
 use Rattle.assembly.specs.declared.place.Place.{Place}
 use Rattle.assembly.specs.Marks.{Mark, frame_of, marks_in, marks_of}

@@ -2,8 +2,8 @@
 use Rattle.std.specs.Prelude.{◌≡◌, ◌⊎◌, ℕ, zero, suc, ◌+◌, ◌&&◌, nat_le, nat_lt, if◌then◌else◌, List, [], ◌∷◌, ◌++◌, length, map, filter}
 use Rattle.messages.specs.declared.node.Node.{Node}
 use Rattle.messages.specs.declared.node.Node.TheVariants.{Server, Client}
-use Rattle.hub.specs.declared.line.Line.{Line}
-use Rattle.hub.specs.Waiting.{is_same_node}
+use Rattle.messages.specs.declared.line.Line.{Line}
+use Rattle.messages.specs.Waiting.{is_same_node}
 use Rattle.cells.specs.declared.entry.HistoryEntry.{HistoryEntry}
 use Rattle.cells.specs.AtHub.{is_left_out}
 use Rattle.assembly.specs.declared.place.Place.{Place}

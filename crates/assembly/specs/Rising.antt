@@ -29,6 +29,7 @@ pub record MarksRise (h : List HistoryEntry) : Type 0 where
       → marks_before (at + 1) h ≡ mark_of at l ++ marks_before at h
   pub all : marks_before (length h) h ≡ marks_of h
 
--- So it is in every history.
+-- In every history, places and marks rise as `PlacesRise` and `MarksRise` say: one event more adds
+-- at most its own.
 abbrev pub HistoriesRise : Type 0
 HistoriesRise = (node : Node) (h : List HistoryEntry) → PlacesRise node h × MarksRise h

@@ -1,7 +1,7 @@
 -- What is told of a node that doesn't agree with the journal. Lists of marks are newest first.
 use Rattle.std.specs.Prelude.{◌≡◌, ◌≢◌, ◌⊎◌, ℕ, min, List, ◌∷◌, ◌++◌, Option, Some, None, All}
 use Rattle.messages.specs.declared.node.Node.{Node}
-use Rattle.hub.specs.Network.{Network}
+use Rattle.messages.specs.Network.{Network}
 use Rattle.cells.specs.Seated.{Seated}
 use Rattle.assembly.specs.Marks.{Mark, marks_in, marks_of}
 use Rattle.assembly.specs.declared.fault.AssembleFault.{AssembleFault}

@@ -3,7 +3,7 @@
 use Rattle.std.specs.Prelude.{◌≡◌, ◌≤◌, ℕ, List, [], ◌∷◌, ◌++◌, length, Some}
 use Rattle.fc_base.specs.declared.numbers.Key.{Key}
 use Rattle.verify_state.specs.State.{State}
-use Rattle.hub.specs.Network.{Network}
+use Rattle.messages.specs.Network.{Network}
 use Rattle.server_core.specs.History as server_history
 use Rattle.server_core.specs.Hearing.{FrameEntry as ServerEntry, packets_heard as server_heard}
 use Rattle.server_core.specs.Accepted.{IsTaking}

@@ -15,7 +15,7 @@ use crate::place::Place;
 use crate::told::told;
 use cells::{ClientCell, Seat, ServerCell};
 use disk_model::Notes;
-use hub::Hub;
+use messages::Hub;
 use std::alloc::Global;
 
 /// All events that stand in the nodes' lists, the oldest first.

@@ -6,8 +6,7 @@ ghost use Rattle.assembly.specs.Marks.{frame_of, mark_of, mark_of_line};
 ghost use Rattle.assembly.specs.Order.{whole_mark};
 
 use cells::{HistoryEntry, NodeInput, is_left_out};
-use hub::{Hub, Line};
-use messages::Frames;
+use messages::{Frames, Hub, Line};
 
 /// Whether an event took a frame or sent some.
 pub(crate) fn is_marked(event: &HistoryEntry) -> bool

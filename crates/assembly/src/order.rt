@@ -11,8 +11,7 @@ use crate::law::histories_rise;
 use crate::marks::{is_marked, is_told_by};
 use crate::place::Place;
 use cells::History;
-use hub::{Hub, Line};
-use messages::{MAX_NODES, Node};
+use messages::{Hub, Line, MAX_NODES, Node};
 use std::alloc::Global;
 use std::marker::Model;
 

@@ -1,7 +1,7 @@
 //! All events, told in the order of the journal.
 
 ghost use Rattle.std.specs.Prelude.{◌≡◌, ◌≤◌, [], length, reverse, IfOk, IfErr, OnOk};
-ghost use Rattle.hub.specs.Journal.{IsLegal};
+ghost use Rattle.messages.specs.Journal.{IsLegal};
 ghost use Rattle.assembly.specs.Laws.{Agree};
 ghost use Rattle.assembly.specs.Orders.{merged_order};
 ghost use Rattle.messages.specs.declared.node.Node.{Node as Name};
@@ -16,8 +16,7 @@ use crate::place::Place;
 use cells::{ClientCell, History, ServerCell};
 use disk_model::Notes;
 use fc_base::{MAX_SERVERS, ServerNo};
-use hub::Hub;
-use messages::Node;
+use messages::{Hub, Node};
 use std::alloc::Global;
 
 /// The events of nodes that were opened rightly, in the order that the journal gives. A node and the journal

@@ -4,12 +4,12 @@ use Rattle.std.proofs.Common.{◌≡◌, refl, sym, ap, subst, ◌∙◌, ℕ, B
 use Rattle.std.specs.Prelude.{is_some, is_none, nat_lt, slice_get, filter_map, not, IsTrue}
 use Rattle.std.specs.List.{cons_option, AllByRecursion}
 use Rattle.fc_base.specs.declared.fault.Fault.{Fault}
-use Rattle.disk_model.specs.declared.left.Left.{Left}
-use Rattle.disk_model.specs.declared.left.Left.TheVariants as lefts
-use Rattle.disk_model.specs.Left.{is_lost}
+use Rattle.disk_model.specs.declared.save_outcome.SaveOutcome.{SaveOutcome}
+use Rattle.disk_model.specs.declared.save_outcome.SaveOutcome.TheVariants as lefts
+use Rattle.disk_model.specs.SaveOutcome.{is_lost}
 use Rattle.job_file.specs.declared.job.Job.{Job}
 use Rattle.verify_state.specs.State.{State}
-use Rattle.state_table.specs.Kept.{kept_of}
+use Rattle.verify_state.specs.StateTable.{kept_of}
 use Rattle.client_core.specs.Inputs.{PacketInput, Begin, Trigger, Stop, Verify, Deliver, Tick}
 use Rattle.client_core.specs.declared.note.ClientNote.{ClientNote}
 use Rattle.client_core.specs.History.{Opening, Entry, Met, Cut, Restart, Renew, Lose}
@@ -25,7 +25,7 @@ use Rattle.attempt_ends.specs.Attempts.{attempt_by, attempts_made}
 
 -- ---- what is shown
 
-lost_unanswered : (d : Option Addition) (left : Left) → is_lost left ≡ true → is_answer d left ≡ false
+lost_unanswered : (d : Option Addition) (left : SaveOutcome) → is_lost left ≡ true → is_answer d left ≡ false
 lost_unanswered None lefts.NoSave lost = cc
 lost_unanswered None lefts.Saved lost = cc
 lost_unanswered None lefts.LostNew lost = refl
@@ -39,24 +39,24 @@ and_false : (b : Bool) → (b && false) ≡ false
 and_false true = refl
 and_false false = refl
 
-by_lost : (o : Opening) (past : List Entry) (c : PacketInput) (left : Left) (lost : Bool) → is_lost left ≡ lost
+by_lost : (o : Opening) (past : List Entry) (c : PacketInput) (left : SaveOutcome) (lost : Bool) → is_lost left ≡ lost
     → attempts_made o (if lost then past else Met c left ∷ past) ≡ attempts_made o (Met c left ∷ past)
 by_lost o past c left true is =
     ap (λ b. if b then attempts_made o past ++ attempt_by o.servers (words_noted o past) c else attempts_made o past)
     (sym (ap (λ b. is_none (refusal o past c) && b) (lost_unanswered (due o past c) left is) ∙ and_false (is_none (refusal o past c))))
 by_lost o past c left false is = refl
 
-off_refused : (o : Opening) (past : List Entry) (c : PacketInput) (left : Left) → is_on past ≡ false → is_answered o past c left ≡ false
+off_refused : (o : Opening) (past : List Entry) (c : PacketInput) (left : SaveOutcome) → is_on past ≡ false → is_answered o past c left ≡ false
 off_refused o past c left off = rw off refl
 
-by_on : (o : Opening) (past : List Entry) (c : PacketInput) (left : Left) (on : Bool) → is_on past ≡ on
+by_on : (o : Opening) (past : List Entry) (c : PacketInput) (left : SaveOutcome) (on : Bool) → is_on past ≡ on
     → attempts_made o (shown_entries past) ≡ attempts_made o past
     → attempts_made o (if on then (if is_lost left then past else Met c left ∷ past) else shown_entries past) ≡ attempts_made o (Met c left ∷ past)
 by_on o past c left true is h = by_lost o past c left (is_lost left) refl
 by_on o past c left false is h =
     h ∙ ap (λ b. if b then attempts_made o past ++ attempt_by o.servers (words_noted o past) c else attempts_made o past) (sym (off_refused o past c left is))
 
-by_saved : (o : Opening) (past : List Entry) (g : ℕ) (left : Left) (b : Bool) → attempts_made o (if b then Renew g left ∷ past else []) ≡ []
+by_saved : (o : Opening) (past : List Entry) (g : ℕ) (left : SaveOutcome) (b : Bool) → attempts_made o (if b then Renew g left ∷ past else []) ≡ []
 by_saved o past g left true = refl
 by_saved o past g left false = refl
 

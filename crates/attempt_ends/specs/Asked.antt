@@ -3,7 +3,7 @@ use Rattle.std.specs.Prelude.{ℕ, Bool, ◌&&◌, nat_lt, if◌then◌else◌, 
 use Rattle.job_file.specs.declared.job.Job.{Job}
 use Rattle.job_file.specs.JobSet.{jobs_of, refusal_of}
 use Rattle.verify_state.specs.State.{State}
-use Rattle.state_table.specs.Kept.{kept_of}
+use Rattle.verify_state.specs.StateTable.{kept_of}
 use Rattle.attempt_ends.specs.declared.place.Place.{Place}
 use Rattle.attempt_ends.specs.declared.asked.AskedPlace.{AskedPlace}
 use Rattle.attempt_ends.specs.Places.{all_places, key_at, is_same_place}

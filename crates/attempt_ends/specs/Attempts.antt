@@ -34,7 +34,7 @@ attempts_made opening (Restart mirror ∷ past) = []
 attempts_made opening (Renew g left ∷ past) = []
 attempts_made opening (Lose ∷ past) = []
 
--- It is the attempt with this number, and verifies this run.
+-- An attempt has this number, and verifies this run.
 abbrev pub is_attempt_of : ℕ → ℕ → Attempted → Bool
 is_attempt_of run attempt made = (made.attempt == attempt) && (made.run == run)
 

@@ -2,11 +2,11 @@
 use Rattle.std.specs.Prelude.{◌≡◌, ℕ, true, false, List, [], ◌∷◌, ◌++◌, map, codes, is_some, if◌then◌else◌, Some, None}
 use Rattle.fc_base.specs.declared.report.ReportEnd.{ReportEnd}
 use Rattle.fc_base.specs.declared.report.ReportEnd.TheVariants.{Whole, AtFault, ReadFault}
-use Rattle.disk_model.specs.declared.left.Left.TheVariants.{NoSave, Saved}
+use Rattle.disk_model.specs.declared.save_outcome.SaveOutcome.TheVariants.{NoSave, Saved}
 use Rattle.verify_state.specs.State.{State}
 use Rattle.messages.specs.declared.body.Body.TheVariants.{Report}
 use Rattle.messages.specs.declared.refusal.Reason.TheVariants.{Overwritten, Misfit}
-use Rattle.state_table.specs.Examples.{state}
+use Rattle.verify_state.specs.Examples.{state}
 use Rattle.client_core.specs.declared.outcome.Outcome.TheVariants as outcomes
 use Rattle.client_core.specs.declared.received.Received.{Received}
 use Rattle.client_core.specs.Inputs.{PacketInput, Verify, Deliver}
@@ -22,7 +22,7 @@ use Rattle.attempt_ends.specs.declared.place_end.PlaceEnd.TheVariants.{Refused, 
 use Rattle.attempt_ends.specs.PlaceEnds.{asked_end, made_end, end_by}
 use Rattle.attempt_ends.specs.AttemptEnds.{attempt_end, ends_told}
 
--- So many blocks, of which so many are at fault.
+-- The counts of a check: how many blocks it checked, and how many of these are at fault.
 abbrev pub counts : ℕ → ℕ → Counts
 counts checked faults = record { checked = checked; faults = faults }
 
@@ -36,7 +36,7 @@ report_with checked faults end = record {
   report = record { checked = checked; faults = faults; first = []; end = end };
 }
 
--- The first place.
+-- The first place of an attempt: job 0 of server 0.
 abbrev pub first_place : Place
 first_place = record { server = 0; job = 0 }
 

@@ -54,8 +54,8 @@ IsGiven opening past made asked =
     (WantState made.run made.attempt asked.place.job)
     ≡ to_server (Saved made.attempt state) asked.place.server ∷ [])
 
--- So it is from the attempt on, whatever comes but the loss of the note, of each attempt of the
--- life in which it was made.
+-- Each state by which an attempt of this life checks is kept from the attempt on, and given to the
+-- server that wants it for the attempt, whatever comes but the loss of the note.
 abbrev pub StatesAreGiven : Type 0
 StatesAreGiven =
     (opening : Opening) (newer past : List Entry) → IsTrue (loses_nothing newer) →

@@ -51,7 +51,7 @@ end_by_report by_state r = if by_state then end_by_state r else InFull (counts_o
 
 -- ---- at a place of which none has come
 
--- It is refused where the attempt was refused at the server; and else this.
+-- A place ends as refused where the attempt was refused at its server, and else as is said here.
 abbrev pub or_refused : Outcome → PlaceEnd → PlaceEnd
 or_refused (outcomes.Refused reason) end = Refused reason
 or_refused outcomes.None end = end
@@ -85,7 +85,7 @@ end_by (Some made) place kept outcome report =
     made_end (asked_in place made.asked) kept outcome report
 end_by None place kept outcome report = unmade_end kept
 
--- It is the report of this attempt and place.
+-- A report is the one of this attempt and place.
 abbrev pub is_report_of : ℕ → Place → Received → Bool
 is_report_of attempt place r =
     (r.attempt == attempt) && ((r.server == place.server) && (r.job == place.job))
@@ -132,7 +132,7 @@ is_left_out Unanswered = true
 is_left_out (Unread c block) = true
 is_left_out _ = false
 
--- Its check says nothing of what was written.
+-- The check of a place says nothing of what was written: it was in full, or no block was checked.
 abbrev pub says_nothing : PlaceEnd → Bool
 says_nothing (InFull c) = true
 says_nothing Nothing = true

@@ -1,5 +1,5 @@
-//! What no clause shows of `fc_base`, `job_file`, `window`, `write_order`, `verify_state`, `engine`, `disk_model`, `recheck`,
-//! `diagnosis`, `ledger` and `parallel_checks`.
+//! What no clause shows of `fc_base`, `job_file`, `write_order`, `verify_state`, `engine`, `disk_model`, `recheck`,
+//! `diagnosis`, `ledger` and `messages`.
 
 mod diagnoses;
 mod disks;
@@ -7,9 +7,10 @@ mod engines;
 mod job_files;
 mod jobs;
 mod ledgers;
+mod network;
 mod numbers;
 mod orders;
-mod parallel;
+mod packets;
 mod rechecks;
 mod states;
 mod windows;

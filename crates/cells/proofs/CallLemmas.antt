@@ -8,8 +8,8 @@ use Rattle.fc_base.specs.declared.fault.Fault.TheVariants.{NoMemory, NoFrame, No
 use Rattle.messages.specs.declared.node.Node.{Node}
 use Rattle.messages.specs.declared.frame.Frame.{Frame}
 use Rattle.messages.specs.FrameBytes.{frame_at}
-use Rattle.hub.specs.Network.{Network}
-use Rattle.cells.specs.declared.answer.CallerAnswer.{CallerAnswer}
+use Rattle.messages.specs.Network.{Network}
+use Rattle.cells.specs.declared.answer.Receipt.{Receipt}
 use Rattle.cells.specs.declared.input.NodeInput.{NodeInput}
 use Rattle.cells.specs.declared.input.NodeInput.TheVariants as came
 use Rattle.cells.specs.declared.entry.HistoryEntry.{HistoryEntry}
@@ -69,7 +69,7 @@ why_not_there rules history past net position _ made on h = absurd h
 
 -- Why a frame that comes isn't answered is by its bytes.
 pub why_there : {E X : Type 0} (rules : Rules E X) (history : List HistoryEntry) (net : Network) (position : ℕ) (it : NodeInput × Frame)
-    (result : Result CallerAnswer Fault) (delivers : Frame → Ask E)
+    (result : Result Receipt Fault) (delivers : Frame → Ask E)
     → ((bytes : List ℕ) → frame_at bytes ≡ Some it.1 → rules.asked (came.Frame bytes) ≡ delivers it.1)
     → Comes net position (Ok it) → IfErr result (HasWhy rules history (delivers it.1)) → IfErr result (IsWhyNot rules history (slice_get net.frames position))
 why_there rules history net position it (Ok told) delivers asks there h = tt

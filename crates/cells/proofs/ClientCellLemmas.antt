@@ -11,7 +11,7 @@ use Rattle.client_core.specs.Hearing.{FrameEntry, Restart}
 use Rattle.client_core.specs.FrameEnds.{StandsFor, Opens}
 use Rattle.cells.specs.ClientKind.{client_kind}
 use Rattle.cells.specs.declared.answer.Reply.{Reply}
-use Rattle.cells.specs.declared.answer.CallerAnswer.{CallerAnswer}
+use Rattle.cells.specs.declared.answer.Receipt.{Receipt}
 use Rattle.cells.specs.declared.input.NodeInput.{NodeInput}
 use Rattle.cells.specs.declared.entry.HistoryEntry.{HistoryEntry}
 use Rattle.cells.specs.ClientRules.{ask_of}
@@ -90,7 +90,7 @@ pub replayed : {T : Type 0} (note : T → Note) (log : ClientLog) (power new : P
 replayed note log power new failures came answer cell m = (m.after, (cell.kept.past, cell.kept.made, m.ends))
 
 -- So a call ends that was entered.
-pub applied : (old : ClientLog) (task : ClientTask) (answer : Result Reply Fault) (new : ClientLog) (result : Result CallerAnswer Fault)
+pub applied : (old : ClientLog) (task : ClientTask) (answer : Result Reply Fault) (new : ClientLog) (result : Result Receipt Fault)
     → lacks_memory answer ≡ false → new.opening ≡ old.opening → new.history ≡ logged_by (came_by task) answer ∷ old.history
     → Counts (loads_note task) old.failures new.failures answer → result ≡ told_by answer → Applies old task new result
 applied old task answer new result kept opening history counted told =

@@ -12,8 +12,8 @@ use Rattle.disk_model.specs.Notes.{Note}
 use Rattle.messages.specs.declared.node.Node.TheVariants as nodes
 use Rattle.messages.specs.FrameBytes.{frame_spelling}
 use Rattle.messages.specs.Hearing.{frames_by, with_entry}
-use Rattle.hub.specs.Laws.{FramesAreSpelled}
-use Rattle.hub.specs.Network.{Network, Room, HasRoom, IsSpelled}
+use Rattle.messages.specs.NetworkLaws.{FramesAreSpelled}
+use Rattle.messages.specs.Network.{Network, Room, HasRoom, IsSpelled}
 use Rattle.client_core.specs.Inputs.{FrameInput}
 use Rattle.client_core.specs.declared.client.Client.{Client}
 use Rattle.client_core.specs.Bounds.{AreShort}
@@ -25,7 +25,7 @@ use Rattle.client_core.specs.Ranges.{OpensInRange, CameInRange}
 use Rattle.client_core.specs.Hearing.{FrameEntry, packets_heard, is_up}
 use Rattle.client_core.specs.FrameAnswers.{answered_entry, entry_heard}
 use Rattle.client_core.specs.FrameEnds.{StandsFor, most_packets, words_of}
-use Rattle.cells.specs.declared.answer.CallerAnswer.{CallerAnswer}
+use Rattle.cells.specs.declared.answer.Receipt.{Receipt}
 use Rattle.cells.specs.declared.input.NodeInput.{NodeInput}
 use Rattle.cells.specs.declared.entry.HistoryEntry.{HistoryEntry}
 use Rattle.cells.specs.Rules.{Meets}
@@ -38,7 +38,7 @@ use Rattle.cells.specs.Powers.{IsReady}
 use Rattle.cells.proofs.CallLemmas.{why_not_there}
 use Rattle.cells.proofs.HubLemmas as hub
 use Rattle.cells.proofs.MoveLemmas.{off_where}
-use Rattle.cells.specs.declared.client_cell.outs.ClientOuts.{ClientOuts}
+use Rattle.client_core.specs.declared.outs.Outs.{Outs}
 use Rattle.node.specs.declared.power.Power.{Power}
 use Rattle.node.specs.Kinds.{Shows}
 use Rattle.cells.specs.declared.client_cell.incoming.Incoming.{Incoming}
@@ -51,14 +51,14 @@ use Rattle.cells.proofs.ClientCellLemmas.{with_history}
 
 -- ---- the room for its frames
 
-short : {T : Type 0} (note : T → Note) (o : Opening) (past : List FrameEntry) (e : FrameInput) (new : Power (Client T) T) (step : Result ClientOuts Fault)
+short : {T : Type 0} (note : T → Note) (o : Opening) (past : List FrameEntry) (e : FrameInput) (new : Power (Client T) T) (step : Result Outs Fault)
     → most_packets o past e ≡ 8 → OpensInRange o → CameInRange (packets_heard o past) → StepEnds (client_kind note o) past e new (reply_and_frames step)
     → AreShort 8 (outcome_of (reply_and_frames step)).1
 short note o past e new (Ok outs) eight i h f = subst (λ most. AreShort most outs.frames) eight (f.short i h)
 short note o past e new (Err fault) eight i h f = record { few = omega arith; short = omega arith }
 
 pub has_room : {T : Type 0} (note : T → Note) (log : ClientLog) (power : Power (Client T) T) (cell : IsCell note log power) (e : FrameInput)
-    (new : Power (Client T) T) (step : Result ClientOuts Fault) (room : Room) → most_packets log.opening cell.kept.past e ≡ 8
+    (new : Power (Client T) T) (step : Result Outs Fault) (room : Room) → most_packets log.opening cell.kept.past e ≡ 8
     → StepEnds (client_kind note log.opening) cell.kept.past e new (reply_and_frames step) → HasRoom room 136 137864
     → HasRoom room (length (outcome_of (reply_and_frames step)).1) (sum_by (λ (frame : List ℕ). length frame) (outcome_of (reply_and_frames step)).1)
 has_room note log power cell e new step room eight f has =
@@ -99,7 +99,7 @@ by_entry law ranges o past i None came = All-nil IsSpelled
 by_entry law ranges o past i (Some x) came = hub.packets_spelled law (packets o past x) (ranges o past x i (came x refl))
 
 pub sent_spelled : {T : Type 0} (note : T → Note) (log : ClientLog) (power : Power (Client T) T) (cell : IsCell note log power) (e : FrameInput)
-    (new : Power (Client T) T) (step : Result ClientOuts Fault) → FramesAreSpelled → PacketsAreInRange
+    (new : Power (Client T) T) (step : Result Outs Fault) → FramesAreSpelled → PacketsAreInRange
     → StepEnds (client_kind note log.opening) cell.kept.past e new (reply_and_frames step) → All IsSpelled (outcome_of (reply_and_frames step)).1
 sent_spelled note log power cell e new step law ranges f =
     let o = log.opening in
@@ -112,7 +112,7 @@ sent_spelled note log power cell e new step law ranges f =
 
 -- A cell behind what came.
 pub heard_cell : {T : Type 0} (note : T → Note) (log : ClientLog) (power new : Power (Client T) T) (cell : IsCell note log power) (e : FrameInput)
-    (step : Result ClientOuts Fault) (came : NodeInput) (taken : Option ℕ) (net after : Network) (history : List HistoryEntry) (failures : ℕ) → ask_of came ≡ Meets e
+    (step : Result Outs Fault) (came : NodeInput) (taken : Option ℕ) (net after : Network) (history : List HistoryEntry) (failures : ℕ) → ask_of came ≡ Meets e
     → StepEnds (client_kind note log.opening) cell.kept.past e new (reply_and_frames step)
     → Hears (is_left_out (outcome_of (reply_and_frames step)).0) nodes.Client came taken (outcome_of (reply_and_frames step)).0
     (outcome_of (reply_and_frames step)).1 net after log.history history → IsCell note (with_history log history failures) new
@@ -155,7 +155,7 @@ unready_why note log power cell e fault shown h view =
     (hub.unready_why (client_kind note log.opening) log.history power cell.kept (Meets e) fault h)
 
 pub told_why : {T : Type 0} (note : T → Note) (log : ClientLog) (power new : Power (Client T) T) (cell : IsCell note log power) (e : FrameInput)
-    (step : Result ClientOuts Fault) (first sent : ℕ) (result : Result CallerAnswer Fault) (shown : ClientLog) → is_up log.opening cell.kept.past ≡ true
+    (step : Result Outs Fault) (first sent : ℕ) (result : Result Receipt Fault) (shown : ClientLog) → is_up log.opening cell.kept.past ≡ true
     → StepEnds (client_kind note log.opening) cell.kept.past e new (reply_and_frames step) → result ≡ told_at first sent (outcome_of (reply_and_frames step)).0
     → log ≡ shown
     → IfErr result (HasWhy (rules shown.opening) shown.history (Meets e))

@@ -12,10 +12,10 @@ use Rattle.messages.specs.Laws.{IsPacket}
 use Rattle.messages.specs.FrameBytes.{frame_spelling}
 use Rattle.messages.specs.FramesOf.{spelled_frames}
 use Rattle.messages.specs.Pieces.{frames_of}
-use Rattle.hub.specs.Laws.{FramesAreSpelled}
-use Rattle.hub.specs.Network.{Network, IsSpelled}
+use Rattle.messages.specs.NetworkLaws.{FramesAreSpelled}
+use Rattle.messages.specs.Network.{Network, IsSpelled}
 use Rattle.cells.specs.declared.answer.Reply.{Reply}
-use Rattle.cells.specs.declared.answer.CallerAnswer.{CallerAnswer}
+use Rattle.cells.specs.declared.answer.Receipt.{Receipt}
 use Rattle.cells.specs.declared.input.NodeInput.{NodeInput}
 use Rattle.cells.specs.declared.entry.HistoryEntry.{HistoryEntry}
 use Rattle.cells.specs.declared.entry.Turn.{Turn}
@@ -75,7 +75,7 @@ unready up node came taken old new before after NoMemory h net same = left_out_p
 unready up node came taken old new before after _ h net same = absurd h
 
 -- counts no failure of its device,
-pub unready_counts : (up : Bool) (old new : ℕ) (fault : Fault) → IsReady up (Err fault) → new ≡ old → Counts {X = CallerAnswer} false old new (Err fault)
+pub unready_counts : (up : Bool) (old new : ℕ) (fault : Fault) → IsReady up (Err fault) → new ≡ old → Counts {X = Receipt} false old new (Err fault)
 unready_counts up old new NodeOff h same = same
 unready_counts up old new NoMemory h same = same
 unready_counts up old new _ h same = absurd h
@@ -89,11 +89,11 @@ unready_why k history state kept ask _ h = absurd h
 
 -- What a step is refused for is by the rules.
 pub step_why : {C N E X D O : Type 0} (k : Kind C N E X D O) (history : List HistoryEntry) (old new : Power C N) (kept : IsKept k history old) (e : E)
-    (step : Result (Reply × List (List ℕ)) Fault) (first sent : ℕ) (result : Result CallerAnswer Fault) → k.node.core.words.is_up kept.past ≡ true
+    (step : Result (Reply × List (List ℕ)) Fault) (first sent : ℕ) (result : Result Receipt Fault) → k.node.core.words.is_up kept.past ≡ true
     → StepEnds k kept.past e new step
     → result ≡ told_at first sent (outcome_of step).0 → IfErr result (HasWhy (rules_for k) history (Meets e))
 step_why k history old new kept e step first sent result up f is =
-    subst (λ (r : Result CallerAnswer Fault). IfErr r (HasWhy (rules_for k) history (Meets e))) (sym is) (by_step step f)
+    subst (λ (r : Result Receipt Fault). IfErr r (HasWhy (rules_for k) history (Meets e))) (sym is) (by_step step f)
   where
     by_step : (step : Result (Reply × List (List ℕ)) Fault) → StepEnds k kept.past e new step
         → IfErr (told_at first sent (outcome_of step).0) (HasWhy (rules_for k) history (Meets e))
@@ -104,7 +104,7 @@ step_why k history old new kept e step first sent result up f is =
 -- ---- the device's failures
 
 -- What is told of a step counts it.
-pub hear_counts : (before old new first sent : ℕ) (step : Result (Reply × List (List ℕ)) Fault) (result : Result CallerAnswer Fault) → old ≡ before
+pub hear_counts : (before old new first sent : ℕ) (step : Result (Reply × List (List ℕ)) Fault) (result : Result Receipt Fault) → old ≡ before
     → result ≡ told_at first sent (outcome_of step).0 → Counts false old new step → Counts false before new result
 hear_counts before old new first sent step result same is h =
     subst (λ (n : ℕ). Counts false n new result) same (subst (Counts false old new) (sym is) (by_step step h))

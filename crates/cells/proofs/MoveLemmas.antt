@@ -6,9 +6,9 @@ use Rattle.fc_base.specs.declared.fault.Fault.TheVariants.{NoMemory, FrameBadFie
 use Rattle.fc_base.specs.declared.fault.FaultSort.{FaultSort}
 use Rattle.fc_base.specs.declared.fault.FaultSort.TheVariants as sorts
 use Rattle.fc_base.specs.Fault.{sort_of}
-use Rattle.disk_model.specs.declared.left.Left.{Left}
-use Rattle.disk_model.specs.declared.left.Left.TheVariants as lefts
-use Rattle.disk_model.specs.Left.{is_lost}
+use Rattle.disk_model.specs.declared.save_outcome.SaveOutcome.{SaveOutcome}
+use Rattle.disk_model.specs.declared.save_outcome.SaveOutcome.TheVariants as lefts
+use Rattle.disk_model.specs.SaveOutcome.{is_lost}
 use Rattle.cells.specs.declared.answer.Reply.{Reply}
 use Rattle.cells.specs.AtHub.{is_drop, is_memory, is_save, is_left_out, lacks_memory, IsWhyBy}
 use Rattle.cells.specs.Calls.{says_off, is_off}
@@ -72,7 +72,7 @@ refused_step k past e met fault new sort why passes stands unchanged ranges = re
 
 -- ---- a save that failed
 
-pub left_is : (left : Left) → is_lost left ≡ true → (landed : Bool) × (left_by landed ≡ left)
+pub left_is : (left : SaveOutcome) → is_lost left ≡ true → (landed : Bool) × (left_by landed ≡ left)
 left_is lefts.NoSave h = cc
 left_is lefts.Saved h = cc
 left_is lefts.LostNew h = (true, refl)

@@ -4,7 +4,7 @@ use Rattle.std.proofs.Common.{arith, Bool, true, false, List, [], ◌∷◌, ◌
 use Rattle.std.specs.Prelude.{reverse, length, slice_index_or, slice_set, if◌then◌else◌, ◌==◌, ◌≢◌, Result, Err}
 use Rattle.std.proofs.lemmas.List.{get_or-set_same, get_or-set_other, length-append, length-set, length-reverse}
 use Rattle.std.proofs.lemmas.Bool.{eqb-true, eq-eqb, and_parts}
-use Rattle.disk_model.specs.declared.left.Left.TheVariants.{Saved}
+use Rattle.disk_model.specs.declared.save_outcome.SaveOutcome.TheVariants.{Saved}
 use Rattle.disk_model.specs.Notes.{Note}
 use Rattle.server_core.specs.declared.note.ServerNote.{ServerNote}
 use Rattle.server_core.specs.declared.server.Server.{Server}
@@ -17,7 +17,7 @@ use Rattle.cells.specs.ServerKind.{server_kind}
 use Rattle.cells.specs.declared.entry.HistoryEntry.{HistoryEntry}
 use Rattle.cells.specs.declared.input.NodeInput.{NodeInput}
 use Rattle.cells.specs.declared.answer.Reply.{Reply}
-use Rattle.cells.specs.declared.answer.CallerAnswer.{CallerAnswer}
+use Rattle.cells.specs.declared.answer.Receipt.{Receipt}
 use Rattle.cells.specs.declared.entry.Turn.{Turn}
 use Rattle.cells.specs.Seated.{Seated}
 use Rattle.cells.specs.ServerRules.{ask_of}
@@ -175,7 +175,7 @@ seat_fits items cell seat right is small =
 
 -- So a call ends that was entered.
 pub applied : (old : ServerLog) (seat : Seated) (task : ServerTask) (answer : Result Reply Fault) (new : ServerLog) (after : Seated)
-    (result : Result CallerAnswer Fault) → is_right old seat ≡ true → lacks_memory answer ≡ false → new.opening ≡ old.opening
+    (result : Result Receipt Fault) → is_right old seat ≡ true → lacks_memory answer ≡ false → new.opening ≡ old.opening
     → new.history ≡ entry_of seat task answer ∷ old.history
     → Counts (loads_note task) old.failures new.failures answer
     → after ≡ record { server = seat.server; number = seat.number; applied = seat.applied + 1; last = Some answer } → result ≡ told_by answer

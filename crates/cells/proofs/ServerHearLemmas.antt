@@ -8,8 +8,8 @@ use Rattle.fc_base.specs.declared.fault.Fault.{Fault}
 use Rattle.disk_model.specs.Notes.{Note}
 use Rattle.messages.specs.FrameBytes.{frame_spelling}
 use Rattle.messages.specs.Hearing.{frames_by, with_entry}
-use Rattle.hub.specs.Laws.{FramesAreSpelled}
-use Rattle.hub.specs.Network.{Room, HasRoom, IsSpelled}
+use Rattle.messages.specs.NetworkLaws.{FramesAreSpelled}
+use Rattle.messages.specs.Network.{Room, HasRoom, IsSpelled}
 use Rattle.server_core.specs.Inputs.{FrameInput}
 use Rattle.server_core.specs.declared.outs.Outs.{Outs}
 use Rattle.server_core.specs.declared.server.Server.{Server}
@@ -35,7 +35,7 @@ use Rattle.node.specs.Kinds.{Shows}
 use Rattle.cells.specs.ServerCells.{ServerLog, Replays, IsReplay, IsCell}
 use Rattle.cells.specs.ServerStands.{reply_and_frames}
 use Rattle.messages.specs.declared.node.Node.{Node}
-use Rattle.hub.specs.Network.{Network}
+use Rattle.messages.specs.Network.{Network}
 
 -- ---- the room for its frames
 

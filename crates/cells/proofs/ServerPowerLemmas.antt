@@ -3,7 +3,7 @@ use Rattle.std.proofs.Common.{◌≡◌, refl, true, false, List, ◌∷◌, Som
 use Rattle.fc_base.specs.declared.fault.Fault.{Fault}
 use Rattle.fc_base.specs.declared.fault.Fault.TheVariants.{FrameBadField}
 use Rattle.fc_base.specs.Fault.{sort_of}
-use Rattle.disk_model.specs.declared.left.Left.{Left}
+use Rattle.disk_model.specs.declared.save_outcome.SaveOutcome.{SaveOutcome}
 use Rattle.disk_model.specs.Notes.{Note}
 use Rattle.node.specs.Steps as steps
 use Rattle.messages.specs.Hearing.{Meaning, Says as Speaks, Waits, Spoils, Strays, meaning, heard_by, with_entry}
@@ -28,14 +28,14 @@ use Rattle.cells.specs.ServerStands.{reply_and_frames}
 
 -- ---- what came stays within its ranges
 
-by_meaning : (o : Opening) (past : List packets.Entry) (left : Left) (m : Meaning) → SenseInRange IsInRange (sense_of inputs.Deliver m) → CameInRange past
+by_meaning : (o : Opening) (past : List packets.Entry) (left : SaveOutcome) (m : Meaning) → SenseInRange IsInRange (sense_of inputs.Deliver m) → CameInRange past
     → CameInRange (with_entry (heard_by (hearing o) left m) past)
 by_meaning o past left (Speaks p) h came = (h, came)
 by_meaning o past left Waits h came = came
 by_meaning o past left Spoils h came = came
 by_meaning o past left Strays h came = came
 
-came_after : (o : Opening) (past : List FrameEntry) (e : FrameInput) (left : Left) → SenseInRange IsInRange (sense o past e) → CameInRange (packets_heard o past)
+came_after : (o : Opening) (past : List FrameEntry) (e : FrameInput) (left : SaveOutcome) → SenseInRange IsInRange (sense o past e) → CameInRange (packets_heard o past)
     → CameInRange (packets_heard o (Met e left ∷ past))
 came_after o past (inputs.Deliver f) left h came = by_meaning o (packets_heard o past) left (meaning (hearing o) (heard_at o past) f) h came
 came_after o past (inputs.Issue j) left h came = (h, came)

@@ -4,7 +4,7 @@ use Rattle.std.specs.Prelude.{◌⊎◌, if◌then◌else◌, not}
 use Rattle.std.proofs.lemmas.Bool.{lt-ltb, le-ltb}
 use Rattle.fc_base.specs.declared.fault.Fault.{Fault}
 use Rattle.fc_base.specs.declared.fault.Fault.TheVariants.{NoMemory, LoadFault, SaveFault, BadNote, NumbersSpent, NodeOn}
-use Rattle.disk_model.specs.declared.left.Left.TheVariants as lefts
+use Rattle.disk_model.specs.declared.save_outcome.SaveOutcome.TheVariants as lefts
 use Rattle.disk_model.specs.Notes.{Note}
 use Rattle.server_core.specs.declared.note.ServerNote.{ServerNote}
 use Rattle.server_core.specs.declared.server.Server.{Server}

@@ -7,8 +7,8 @@ use Rattle.fc_base.specs.declared.fault.Fault.TheVariants.{NodeOff, FrameBadFiel
 use Rattle.fc_base.specs.declared.fault.FaultSort.{FaultSort}
 use Rattle.fc_base.specs.declared.fault.FaultSort.TheVariants as sorts
 use Rattle.fc_base.specs.Fault.{sort_of}
-use Rattle.disk_model.specs.declared.left.Left.{Left}
-use Rattle.disk_model.specs.declared.left.Left.TheVariants.{NoSave}
+use Rattle.disk_model.specs.declared.save_outcome.SaveOutcome.{SaveOutcome}
+use Rattle.disk_model.specs.declared.save_outcome.SaveOutcome.TheVariants.{NoSave}
 use Rattle.disk_model.specs.Notes.{Note}
 use Rattle.node.specs.Steps as steps
 use Rattle.node.specs.Steps.{Steps, answered}
@@ -32,7 +32,7 @@ pub record Fits {C N E X D O : Type 0} (k : Kind C N E X D O) (past : List X) (e
   pub stays : (fault : Fault) (core : C) → k.node.core.words.refusal past e ≡ Some fault → (fault ≡ FrameBadField → ⊥) → k.node.core.Stays past e core
       → k.node.core.StandsFor past core
   pub alike : Heard sorts.Refusal → Heard sorts.Save
-  pub ranges : Heard sorts.Save → (left : Left) → k.InRange past → k.InRange (k.node.core.words.met e left ∷ past)
+  pub ranges : Heard sorts.Save → (left : SaveOutcome) → k.InRange past → k.InRange (k.node.core.words.met e left ∷ past)
 
 -- What comes to a node that isn't on is refused, and nothing changes.
 pub off_ends : {C N E X D O : Type 0} (k : Kind C N E X D O) (past : List X) (e : E) (power : Power C N) (fault : Fault)

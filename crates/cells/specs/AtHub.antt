@@ -8,21 +8,21 @@ use Rattle.fc_base.specs.Fault.{sort_of}
 use Rattle.messages.specs.declared.node.Node.{Node}
 use Rattle.messages.specs.declared.frame.Frame.{Frame}
 use Rattle.messages.specs.FrameBytes.{frame_at}
-use Rattle.hub.specs.Network.{Network, line_of}
+use Rattle.messages.specs.Network.{Network, line_of}
 use Rattle.cells.specs.declared.answer.Reply.{Reply}
-use Rattle.cells.specs.declared.answer.CallerAnswer.{CallerAnswer}
+use Rattle.cells.specs.declared.answer.Receipt.{Receipt}
 use Rattle.cells.specs.declared.input.NodeInput.{NodeInput}
 use Rattle.cells.specs.declared.input.NodeInput.TheVariants as came
 use Rattle.cells.specs.declared.entry.HistoryEntry.{HistoryEntry}
 use Rattle.cells.specs.Rules.{Ask, Rules}
 
--- A save failed.
+-- The sort of a fault is that a save failed.
 abbrev pub is_save : FaultSort → Bool
 is_save sorts.Memory = false
 is_save sorts.Save = true
 is_save sorts.Refusal = false
 
--- Memory ran out.
+-- The sort of a fault is that memory ran out.
 abbrev pub is_memory : FaultSort → Bool
 is_memory sorts.Memory = true
 is_memory sorts.Save = false
@@ -43,7 +43,7 @@ abbrev pub is_left_out : Result Reply Fault → Bool
 is_left_out (Ok said) = false
 is_left_out (Err fault) = not (is_save (sort_of fault) || is_drop fault)
 
--- A frame came.
+-- What comes to a node is a frame.
 abbrev pub is_frame : NodeInput → Bool
 is_frame (came.Frame bytes) = true
 is_frame _ = false
@@ -53,13 +53,13 @@ abbrev pub is_quiet : HistoryEntry → Bool
 is_quiet l = not (is_left_out l.answer) && not (is_frame l.came) && (length l.sent == 0)
 
 -- What is told of an answer, with so many frames behind so many.
-abbrev pub told_at : ℕ → ℕ → Result Reply Fault → Result CallerAnswer Fault
+abbrev pub told_at : ℕ → ℕ → Result Reply Fault → Result Receipt Fault
 told_at first sent (Ok said) =
     Ok (record { answer = said.answer; first = first; sent = sent; act = said.act })
 told_at first sent (Err fault) = Err fault
 
 -- What is told of an answer that sends nothing.
-abbrev pub told_by : Result Reply Fault → Result CallerAnswer Fault
+abbrev pub told_by : Result Reply Fault → Result Receipt Fault
 told_by answer = told_at 0 0 answer
 
 -- The event is entered in the history; its frames stand behind those of the hub; and the journal
@@ -85,7 +85,7 @@ Hears false node came taken answer sent old new before after =
 -- How what comes to a node at the hub ends: an answer is told and entered, or left out where it is
 -- a refusal that changes nothing.
 abbrev pub Posts : Node → NodeInput → Option ℕ → Network → Network
-    → List HistoryEntry → List HistoryEntry → Result CallerAnswer Fault → Type 0
+    → List HistoryEntry → List HistoryEntry → Result Receipt Fault → Type 0
 Posts node came taken old new before after result =
     (answer : Result Reply Fault) × (sent : List (List ℕ))
     × (result ≡ told_at (length old.frames) (length sent) answer)

@@ -3,8 +3,8 @@ use Rattle.std.specs.Prelude.{◌≡◌, ◌⊎◌, ℕ, Bool, true, false, if�
 use Rattle.fc_base.specs.declared.fault.Fault.{Fault}
 use Rattle.fc_base.specs.declared.fault.Fault.TheVariants.{NodeOff, NoFrame}
 use Rattle.messages.specs.declared.node.Node.{Node}
-use Rattle.hub.specs.Network.{Network}
-use Rattle.cells.specs.declared.answer.CallerAnswer.{CallerAnswer}
+use Rattle.messages.specs.Network.{Network}
+use Rattle.cells.specs.declared.answer.Receipt.{Receipt}
 use Rattle.cells.specs.declared.input.NodeInput.{NodeInput}
 use Rattle.cells.specs.declared.input.NodeInput.TheVariants.{Frame}
 use Rattle.cells.specs.declared.entry.HistoryEntry.{HistoryEntry}
@@ -31,7 +31,7 @@ abbrev pub IsWhyWhere : {E X : Type 0} → Bool → Rules E X → List X → Ask
 IsWhyWhere true rules past ask fault = fault ≡ NodeOff
 IsWhyWhere false rules past ask fault = IsWhy rules past ask fault
 
--- So it is by a list that the history makes.
+-- This fault is why what is asked isn't answered, by a list that the history makes.
 pub record HasWhy {E X : Type 0} (rules : Rules E X) (history : List HistoryEntry) (ask : Ask E)
     (fault : Fault) : Type 0 where
   pub past : List X
@@ -54,15 +54,15 @@ IsWhyNot rules history (Some bytes) fault = HasWhy rules history (rules.asked (F
 -- How a delivery ends, where these are the bytes at its position: the frame comes; where there is
 -- none, it is refused, and nothing changes.
 abbrev pub Delivers : Node → ℕ → Option (List ℕ) → Network → Network
-    → List HistoryEntry → List HistoryEntry → Result CallerAnswer Fault → Type 0
+    → List HistoryEntry → List HistoryEntry → Result Receipt Fault → Type 0
 Delivers node position None old new before after (Ok told) = ⊥
 Delivers node position None old new before after (Err fault) = IsSame old new before after
 Delivers node position (Some bytes) old new before after result =
     Posts node (Frame bytes) (Some position) old new before after result
 
--- It is refused, and nothing changes.
+-- What doesn't come to a node is refused, and neither the network nor the history changes.
 pub record Misses (old new : Network) (before after : List HistoryEntry)
-    (result : Result CallerAnswer Fault) : Type 0 where
+    (result : Result Receipt Fault) : Type 0 where
   pub fault : Fault
   pub refused : result ≡ Err fault
   pub same : IsSame old new before after
@@ -70,7 +70,7 @@ pub record Misses (old new : Network) (before after : List HistoryEntry)
 -- How a command ends, which asks this: it comes, is kept as what asks it, and takes no frame; or it
 -- doesn't come.
 abbrev pub Commands : {E X : Type 0} → Rules E X → Ask E → Node → Network → Network
-    → List HistoryEntry → List HistoryEntry → Result CallerAnswer Fault → Type 0
+    → List HistoryEntry → List HistoryEntry → Result Receipt Fault → Type 0
 Commands rules ask node old new before after result =
     Misses old new before after result
     ⊎ ((kept : NodeInput) × (rules.asked kept ≡ ask)

@@ -3,7 +3,7 @@ use Rattle.std.specs.Prelude.{◌≡◌, Bool, true, false, [], ◌∷◌, None,
 use Rattle.fc_base.specs.declared.fault.Fault.{Fault}
 use Rattle.fc_base.specs.declared.fault.Fault.TheVariants.{NoMemory}
 use Rattle.cells.specs.declared.answer.Reply.{Reply}
-use Rattle.cells.specs.declared.answer.CallerAnswer.{CallerAnswer}
+use Rattle.cells.specs.declared.answer.Receipt.{Receipt}
 use Rattle.cells.specs.declared.input.NodeInput.{NodeInput}
 use Rattle.cells.specs.declared.entry.HistoryEntry.{HistoryEntry}
 use Rattle.cells.specs.AtHub.{lacks_memory, told_by}
@@ -30,7 +30,7 @@ Enters true old task new answer = (new ≡ old) × (answer ≡ Err NoMemory)
 Enters false old task new answer = IsAdded old task answer new
 
 -- How a task ends: its answer is told, and sends nothing.
-abbrev pub Applies : ClientLog → ClientTask → ClientLog → Result CallerAnswer Fault → Type 0
+abbrev pub Applies : ClientLog → ClientTask → ClientLog → Result Receipt Fault → Type 0
 Applies old task new result =
     (answer : Result Reply Fault) × (result ≡ told_by answer)
     × Enters (lacks_memory answer) old task new answer

@@ -1,8 +1,9 @@
 -- What kind of node the client under its lock is.
-use Rattle.std.specs.Prelude.{refl, ℕ, List}
+use Rattle.std.specs.Prelude.{refl, List}
 use Rattle.disk_model.specs.Notes.{Note}
 use Rattle.client_core.specs.Inputs.{FrameInput}
 use Rattle.client_core.specs.declared.client.Client.{Client}
+use Rattle.client_core.specs.declared.outs.Outs.{Outs}
 use Rattle.client_core.specs.Bounds.{AreShort}
 use Rattle.client_core.specs.History.{Opening}
 use Rattle.client_core.specs.Ranges.{OpensInRange, CameInRange}
@@ -16,7 +17,7 @@ use Rattle.cells.specs.ClientRules.{core}
 
 -- The kind of a client that was opened so.
 abbrev pub client_kind : {T : Type 0} → (T → Note) → Opening →
-    Kind (Client T) T FrameInput FrameEntry Addition (List (List ℕ))
+    Kind (Client T) T FrameInput FrameEntry Addition Outs
 client_kind note opening = record {
   node = nodes.client_kind note opening;
   core = core opening;

@@ -1,14 +1,16 @@
 -- The rules of the client under its lock.
-use Rattle.std.specs.Prelude.{◌+◌, false, List, Option, Some, None}
+use Rattle.std.specs.Prelude.{false, List, Option, Some, None}
 use Rattle.messages.specs.declared.frame.Frame.{Frame}
 use Rattle.messages.specs.declared.refusal.Act.TheVariants as acts
 use Rattle.messages.specs.FrameBytes.{frame_at}
 use Rattle.client_core.specs.Inputs.{FrameInput}
 use Rattle.client_core.specs.Inputs as inputs
 use Rattle.client_core.specs.History.{Opening}
-use Rattle.client_core.specs.Words.{words_noted}
-use Rattle.client_core.specs.Hearing.{FrameEntry, Cut, Restart, packets_heard}
-use Rattle.client_core.specs.FrameAnswers as answers
+use Rattle.client_core.specs.declared.outs.Answer as client
+use Rattle.client_core.specs.declared.outs.Answer.TheVariants as answers
+use Rattle.client_core.specs.Answers as core_answers
+use Rattle.client_core.specs.Hearing.{FrameEntry, Cut, Restart}
+use Rattle.client_core.specs.FrameAnswers as frame_answers
 use Rattle.client_core.specs.FrameEnds.{words_of}
 use Rattle.cells.specs.declared.input.NodeInput.{NodeInput}
 use Rattle.cells.specs.declared.input.NodeInput.TheVariants as came
@@ -34,13 +36,15 @@ ask_of came.Cut = Cuts
 ask_of came.Restart = Restarts
 ask_of _ = Nothing
 
+-- What a client answers, as what a node does.
+abbrev pub answer_of : client.Answer → Answer
+answer_of answers.Plain = Plain
+answer_of (answers.Run run) = Run run
+answer_of (answers.Attempt attempt) = Attempt attempt
+
 -- A begin is answered by its run, a verify by its attempt.
 abbrev pub answer_to : Opening → List FrameEntry → FrameInput → Answer
-answer_to opening past (inputs.Begin text) =
-    Run ((words_noted opening (packets_heard opening past)).runs + 1)
-answer_to opening past (inputs.Verify run text) =
-    Attempt ((words_noted opening (packets_heard opening past)).attempts + 1)
-answer_to opening past _ = Plain
+answer_to opening past e = answer_of (core_answers.answer_to opening past e)
 
 -- What is known of the core of a client, which asks nothing of its caller. A restart is one without
 -- a mirror, and saves nothing; a renewal and the loss of a note are never added.
@@ -52,7 +56,7 @@ core opening = record {
   cut = Cut;
   started = Restart false;
   unstarted = λ left. None;
-  frames = answers.frames opening;
+  frames = frame_answers.frames opening;
 }
 
 -- The rules of a client that opens by a restart without a mirror.

@@ -7,13 +7,13 @@ use Rattle.client_core.specs.History.{Opening}
 use Rattle.client_core.specs.Hearing.{FrameEntry}
 use Rattle.client_core.specs.FrameEnds.{note_in}
 use Rattle.messages.specs.declared.refusal.Act.TheVariants as acts
-use Rattle.cells.specs.declared.answer.Answer.TheVariants.{Plain}
 use Rattle.cells.specs.declared.answer.Reply.{Reply}
 use Rattle.node.specs.declared.power.Power.{Power}
 use Rattle.cells.specs.ClientKind.{client_kind}
+use Rattle.cells.specs.ClientRules.{answer_of}
 use Rattle.node.specs.Kinds.{note_by}
 use Rattle.node.specs.Kinds as nodes
-use Rattle.cells.specs.declared.client_cell.outs.ClientOuts.{ClientOuts}
+use Rattle.client_core.specs.declared.outs.Outs.{Outs}
 
 -- A client that has power stands for the list; of one that has none, which the list says, the note
 -- says what the list says.
@@ -27,11 +27,6 @@ failures_of note power = (note_by (λ client. note_in note client) note power).f
 
 -- What a step says to its caller, and the frames that it sends. A client asks nothing of its
 -- caller.
-abbrev pub reply_and_frames : Result ClientOuts Fault → Result (Reply × List (List ℕ)) Fault
-reply_and_frames (Ok outs) = Ok (record { answer = outs.answer; act = acts.None }, outs.frames)
+abbrev pub reply_and_frames : Result Outs Fault → Result (Reply × List (List ℕ)) Fault
+reply_and_frames (Ok outs) = Ok (record { answer = answer_of outs.answer; act = acts.None }, outs.frames)
 reply_and_frames (Err fault) = Err fault
-
--- Frames with no more of an answer.
-abbrev pub outs_of : Result (List (List ℕ)) Fault → Result ClientOuts Fault
-outs_of (Ok sent) = Ok (record { answer = Plain; frames = sent })
-outs_of (Err fault) = Err fault

@@ -16,7 +16,7 @@ abbrev pub came_by : ClientTask → NodeInput
 came_by Cut = came.Cut
 came_by Restart = came.Restart
 
--- It loads the note.
+-- A task of the client loads its note: a restart does, and a cut doesn't.
 abbrev pub loads_note : ClientTask → Bool
 loads_note Cut = false
 loads_note Restart = true

@@ -3,8 +3,8 @@ use Rattle.std.specs.Prelude.{Bool, true, false, not, if◌then◌else◌, List,
 use Rattle.std.specs.Option.{option_map}
 use Rattle.fc_base.specs.declared.fault.Fault.{Fault}
 use Rattle.fc_base.specs.declared.fault.Fault.TheVariants.{NodeOff, NodeOn}
-use Rattle.disk_model.specs.declared.left.Left.{Left}
-use Rattle.disk_model.specs.declared.left.Left.TheVariants.{NoSave, LostNew, LostOld}
+use Rattle.disk_model.specs.declared.save_outcome.SaveOutcome.{SaveOutcome}
+use Rattle.disk_model.specs.declared.save_outcome.SaveOutcome.TheVariants.{NoSave, LostNew, LostOld}
 use Rattle.node.specs.Steps.{Words, answered}
 use Rattle.messages.specs.declared.frame.Frame.{Frame}
 use Rattle.cells.specs.declared.input.NodeInput.{NodeInput}
@@ -20,7 +20,7 @@ pub record CoreRules (E X : Type 0) : Type 0 where
   pub said : List X → E → Reply  -- what it answers to an input
   pub cut : X  -- the entry of a cut
   pub started : X  -- that of a restart
-  pub unstarted : Left → Option X  -- that of a restart whose save left this
+  pub unstarted : SaveOutcome → Option X  -- that of a restart whose save left this
   pub frames : List X → X → List Frame  -- the frames that an entry sends
 
 -- A node that is off or down refuses all but a restart, and that where it can't be started; one
@@ -36,7 +36,8 @@ abbrev pub loads : {E X D : Type 0} → Words E X D → List X → Ask E → Boo
 loads w past Restarts = not (w.is_up past)
 loads w past _ = false
 
--- What is answered.
+-- What a node replies to what is asked: to an input what its core says, to all else that it is
+-- done.
 abbrev pub reply_to : {E X : Type 0} → CoreRules E X → List X → Ask E → Reply
 reply_to c past (Meets e) = c.said past e
 reply_to c past _ = plain_reply
@@ -54,7 +55,7 @@ entries_past_refusal w past (Meets e) fault = if is_drop fault then w.met e NoSa
 entries_past_refusal w past _ fault = past
 
 -- What a save left that failed.
-abbrev pub left_by : Bool → Left
+abbrev pub left_by : Bool → SaveOutcome
 left_by true = LostNew
 left_by false = LostOld
 

@@ -5,7 +5,7 @@ use Rattle.fc_base.specs.declared.fault.Fault.TheVariants.{LoadFault}
 use Rattle.fc_base.specs.Fault.{sort_of}
 use Rattle.cells.specs.AtHub.{is_save}
 
--- A load failed.
+-- A fault says that a load failed.
 abbrev pub is_load : Fault → Bool
 is_load LoadFault = true
 is_load _ = false

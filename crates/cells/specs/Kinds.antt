@@ -13,6 +13,6 @@ pub record Kind (C N E X D O : Type 0) : Type 1 where
   pub InRange : List X → Type 0
   pub SendsFew : List X → E → List (List ℕ) → Type 0
 
--- Its rules under its lock.
+-- The rules of a node of this kind under its lock.
 abbrev pub rules_for : {C N E X D O : Type 0} → Kind C N E X D O → Rules E X
 rules_for k = rules_of k.node.core.words k.core

@@ -22,8 +22,8 @@ pub record Accepts {E X : Type 0} (rules : Rules E X) (past : List X) (ask : Ask
   pub sent_are : sent ≡ map frame_spelling (rules.frames past entry)
   pub after_is : after ≡ entry ∷ past
 
--- Its save failed: it sends nothing, and the entry is added with the new bytes, or with the old
--- ones.
+-- What comes isn't refused, but its save failed: nothing is sent, and the entry is added with the
+-- new bytes, or with the old ones.
 pub record Loses {E X : Type 0} (rules : Rules E X) (past : List X) (ask : Ask E)
     (sent : List (List ℕ)) (after : List X) : Type 0 where
   pub free : rules.refusal past ask ≡ None
@@ -33,8 +33,8 @@ pub record Loses {E X : Type 0} (rules : Rules E X) (past : List X) (ask : Ask E
   pub sends_none : sent ≡ []
   pub after_is : after ≡ entry ∷ past
 
--- It is refused for the reason that the rules give, or since its note wasn't loaded, and sends
--- nothing.
+-- What comes is refused for the reason that the rules give, or since the node's note wasn't loaded,
+-- and nothing is sent.
 pub record Passes {E X : Type 0} (rules : Rules E X) (past : List X) (ask : Ask E) (fault : Fault)
     (sent : List (List ℕ)) (after : List X) : Type 0 where
   pub why : (rules.refusal past ask ≡ Some fault)

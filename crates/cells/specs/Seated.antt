@@ -15,6 +15,6 @@ pub record Seated : Type 0 where
 abbrev pub new_seat : ℕ → ℕ → Seated
 new_seat server number = record { server = server; number = number; applied = 0; last = None }
 
--- So many seats of a server, numbered from 0 on.
+-- This many new seats of a server, numbered from 0 on.
 abbrev pub new_seats : ℕ → ℕ → List Seated
 new_seats server count = map (new_seat server) (numbers_below count)

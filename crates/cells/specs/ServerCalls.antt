@@ -3,7 +3,7 @@ use Rattle.std.specs.Prelude.{◌≡◌, ◌+◌, ◌&&◌, ◌==◌, Bool, true
 use Rattle.fc_base.specs.declared.fault.Fault.{Fault}
 use Rattle.fc_base.specs.declared.fault.Fault.TheVariants.{NoMemory, WrongSeat}
 use Rattle.cells.specs.declared.answer.Reply.{Reply}
-use Rattle.cells.specs.declared.answer.CallerAnswer.{CallerAnswer}
+use Rattle.cells.specs.declared.answer.Receipt.{Receipt}
 use Rattle.cells.specs.declared.input.NodeInput.{NodeInput}
 use Rattle.cells.specs.declared.entry.HistoryEntry.{HistoryEntry}
 pub use Rattle.cells.specs.AtHub.{lacks_memory, told_by}
@@ -46,7 +46,7 @@ pub record IsAdded (old : ServerLog) (seat : Seated) (task : ServerTask)
     last = Some answer;
   }
 
--- Neither changes.
+-- Neither the cell of a server nor the seat changes.
 pub record IsSame (old : ServerLog) (seat : Seated) (new : ServerLog)
     (after : Seated) : Type 0 where
   pub cell : new ≡ old
@@ -62,7 +62,7 @@ Enters false old seat task new after answer = IsAdded old seat task answer new a
 -- How what is asked ends: a wrong seat is refused, and nothing changes; else the answer is told,
 -- and sends nothing.
 abbrev pub AppliesBy : Bool → ServerLog → Seated → ServerTask → ServerLog → Seated
-    → Result CallerAnswer Fault → Type 0
+    → Result Receipt Fault → Type 0
 AppliesBy false old seat task new after result =
     IsSame old seat new after × (result ≡ Err WrongSeat)
 AppliesBy true old seat task new after result =
@@ -71,6 +71,6 @@ AppliesBy true old seat task new after result =
 
 -- How a task ends that is asked for with a seat.
 abbrev pub Applies : ServerLog → Seated → ServerTask → ServerLog → Seated
-    → Result CallerAnswer Fault → Type 0
+    → Result Receipt Fault → Type 0
 Applies old seat task new after result =
     AppliesBy (is_right old seat) old seat task new after result

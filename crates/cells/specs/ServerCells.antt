@@ -21,7 +21,7 @@ pub record ServerLog : Type 0 where
   pub history : List HistoryEntry
   pub failures : ℕ
 
--- It was opened over a note that says of no boot and no run.
+-- A server was opened over a note that says of no boot and no run.
 abbrev pub is_blank : Opening → Bool
 is_blank opening = (opening.boot == 0) && (opening.last == 0)
 
@@ -31,7 +31,8 @@ pub record Replays (opening : Opening) (history : List HistoryEntry)
   pub numbered : IsNumbered history
   pub made : Makes (rules opening) history past
 
--- That of the cell does.
+-- The history of a server's cell is numbered, and makes this list by the rules of a server that was
+-- opened as the cell was.
 abbrev pub IsReplay : ServerLog → List FrameEntry → Type 0
 IsReplay cell past = Replays cell.opening cell.history past
 

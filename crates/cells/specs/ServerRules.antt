@@ -3,7 +3,7 @@ use Rattle.std.specs.Prelude.{Bool, true, false, if◌then◌else◌, Option, So
 use Rattle.fc_base.specs.declared.fault.Fault.TheVariants.{NumbersSpent}
 use Rattle.fc_base.specs.Report.{is_report}
 use Rattle.engine.specs.declared.issue.Issue.{Issue}
-use Rattle.disk_model.specs.declared.left.Left.TheVariants.{Saved}
+use Rattle.disk_model.specs.declared.save_outcome.SaveOutcome.TheVariants.{Saved}
 use Rattle.messages.specs.declared.frame.Frame.{Frame}
 use Rattle.messages.specs.FrameBytes.{frame_at}
 use Rattle.server_core.specs.Inputs.{FrameInput}

@@ -2,6 +2,7 @@
 
 ghost use Rattle.std.specs.Prelude.{◌≡◌};
 
+use client_core::Answer as ClientAnswer;
 use engine::Issue;
 use fc_base::{Attempt, Fault, RunNo};
 use messages::Act;
@@ -19,6 +20,21 @@ pub enum Answer {
     Issued(Issue),
 }
 
+impl Answer {
+    ghost use Rattle.cells.specs.ClientRules.{answer_of};
+
+    /// What a client answers, as what a node does.
+    pub(crate) fn of_client(answer: ClientAnswer) -> Answer
+        ensures { result ≡ answer_of answer }
+    {
+        match answer {
+            ClientAnswer::Plain => Answer::Plain,
+            ClientAnswer::Run(run) => Answer::Run(run),
+            ClientAnswer::Attempt(attempt) => Answer::Attempt(attempt),
+        }
+    }
+}
+
 /// An answer, and what a server asks of its caller.
 #[derive(Clone, Copy, PartialEq, Eq)]
 pub struct Reply {
@@ -29,7 +45,7 @@ pub struct Reply {
 /// What a caller is told: the answer, how many frames were sent, which the hub numbers from `first` on,
 /// and what a server asks of it. Both numbers are 0 for what sends nothing over a hub.
 #[derive(Clone, Copy, PartialEq, Eq)]
-pub struct CallerAnswer {
+pub struct Receipt {
     pub answer: Answer,
     pub first: u64,
     pub sent: u64,

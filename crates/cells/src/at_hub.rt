@@ -3,12 +3,11 @@
 ghost use Rattle.std.specs.Prelude.{◌≡◌, IfOk, Err};
 ghost use Rattle.cells.specs.AtHub.{is_left_out, is_save, is_drop, is_frame, is_quiet, lacks_memory, told_at, Comes};
 
-use crate::answer::{CallerAnswer, Reply};
+use crate::answer::{Receipt, Reply};
 use crate::entry::HistoryEntry;
 use crate::input::{FrameBytes, NodeInput};
 use fc_base::{Fault, FaultSort};
-use hub::Hub;
-use messages::{Frame, decode_frame};
+use messages::{Frame, Hub, decode_frame};
 use std::alloc::{AllocError, Global};
 
 /// The frame at this position of the hub, as it comes and as a history keeps it. `NoFrame`; `NoMemory`.
@@ -89,11 +88,11 @@ pub fn lacks_memory(answer: &Result<Reply, Fault>) -> bool
 
 /// What is told of an answer, with so many frames behind so many.
 #[inline(always)]
-pub fn told_at(first: u64, sent: u64, answer: &Result<Reply, Fault>) -> Result<CallerAnswer, Fault>
+pub fn told_at(first: u64, sent: u64, answer: &Result<Reply, Fault>) -> Result<Receipt, Fault>
     ensures { result ≡ told_at first sent answer.now }
 {
     match answer {
-        Ok(said) => Ok(CallerAnswer {
+        Ok(said) => Ok(Receipt {
             answer: said.answer,
             first,
             sent,

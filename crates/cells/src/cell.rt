@@ -7,11 +7,10 @@ ghost use Rattle.cells.specs.Calls.{Replays, Delivers, IsWhyNot, HasWhy, Command
 ghost use Rattle.cells.specs.Failures.{Counts};
 ghost use Rattle.cells.specs.Rules.{Ask, Rules};
 
-use crate::answer::CallerAnswer;
+use crate::answer::Receipt;
 use crate::history::History;
 use fc_base::Fault;
-use hub::Hub;
-use messages::Node as NodeName;
+use messages::{Hub, Node as NodeName};
 
 /// A node under its lock, whose state is always the replay of the history that it keeps. No call of it
 /// waits.
@@ -61,7 +60,7 @@ pub trait Node {
     /// a save fails, or a piece completes a body that isn't the packet of its tag, that is entered in the
     /// history and in the hub's journal, as what is answered is; any other refusal, and `NoMemory`,
     /// changes nothing.
-    fn deliver(&mut self, hub: &mut Hub, position: u64) -> Result<CallerAnswer, Fault>
+    fn deliver(&mut self, hub: &mut Hub, position: u64) -> Result<Receipt, Fault>
         ensures opening { opening self.new ≡ opening self.old }
         ensures failures { Counts false (failures self.old) (failures self.new) result }
         ensures ends { Delivers (name (opening self.old)) position
@@ -76,7 +75,7 @@ pub trait Node {
     ///
     /// `NodeOff`, it isn't on; the node's own. A save that fails is entered in the history, as what is
     /// answered is; any other refusal, and `NoMemory`, changes nothing.
-    fn post(&mut self, hub: &mut Hub, command: Self::Command) -> Result<CallerAnswer, Fault>
+    fn post(&mut self, hub: &mut Hub, command: Self::Command) -> Result<Receipt, Fault>
         ensures opening { opening self.new ≡ opening self.old }
         ensures failures { Counts false (failures self.old) (failures self.new) result }
         ensures ends { Commands (rules (opening self.old)) (asks command)

@@ -8,7 +8,6 @@ mod calls;
 mod command;
 mod hear;
 mod incoming;
-mod outs;
 mod power;
 mod request;
 mod sent;

@@ -2,19 +2,18 @@
 
 ghost use Rattle.std.specs.Prelude.{◌≡◌, ◌<◌, ◌≤◌, List, length, sum_by, reverse, All, OnOk};
 ghost use Rattle.std.specs.Option.{ForSome};
-ghost use Rattle.hub.specs.Network.{HasRoom, IsSpelled};
+ghost use Rattle.messages.specs.Network.{HasRoom, IsSpelled};
 ghost use Rattle.cells.specs.AtHub.{is_left_out, told_at, Hears};
 ghost use Rattle.node.specs.Kinds.{Stands};
 ghost use Rattle.cells.specs.Powers.{IsReady};
 
-use crate::answer::{CallerAnswer, Reply};
+use crate::answer::{Receipt, Reply};
 use crate::at_hub::{is_left_out, told_at};
 use crate::entry::HistoryEntry;
 use crate::history::History;
 use crate::input::NodeInput;
 use fc_base::Fault;
-use hub::Hub;
-use messages::{Frames, Node};
+use messages::{Frames, Hub, Node};
 use node::{NodeCore, Power};
 use std::alloc::AllocError;
 
@@ -22,7 +21,7 @@ use std::alloc::AllocError;
 /// many frames of so many bytes together.
 ///
 /// `NodeOff`, it isn't on; `NoMemory`: nothing changes.
-pub fn make_room<N: Drop, C: NodeCore<N>>(
+pub fn make_room<'t, N: Drop, C: NodeCore<'t, N>>(
     power: &Power<C, N>,
     history: &mut History,
     hub: &mut Hub,
@@ -71,7 +70,7 @@ pub fn enter(
     came: NodeInput,
     taken: Option<u64>,
     outcome: (Result<Reply, Fault>, Frames),
-) -> Result<CallerAnswer, Fault>
+) -> Result<Receipt, Fault>
     requires place { 1 ≤ history.old.room }
     requires room { HasRoom hub.old.room (length outcome.1)
         (sum_by (λ frame. length frame) outcome.1) }

@@ -9,9 +9,9 @@ ghost use Rattle.cells.specs.Shorts.{entry_of, turn_entry};
 
 use crate::answer::{Answer, Reply};
 use crate::at_hub::is_quiet;
+use crate::compact::CompactEntry;
 use crate::entry::{HistoryEntry, Turn};
 use crate::input::NodeInput;
-use crate::short::Short;
 use engine::Ticket;
 use fc_base::{Fault, JobNo};
 use messages::{Act, Frames};
@@ -22,7 +22,7 @@ use std::marker::Model;
 /// An entry, as it is kept: a worker's turn, where it is short, or the place of another among those.
 #[derive(Clone, Copy)]
 pub(crate) enum Row {
-    Short(Short),
+    Short(CompactEntry),
     Other(usize),
 }
 
@@ -207,7 +207,7 @@ impl History {
 
 /// The short entry of a request for a write; `None` where it isn't one.
 #[inline(always)]
-fn short_issue(by: Turn, job: JobNo, answer: &Result<Reply, Fault>) -> Option<Short>
+fn short_issue(by: Turn, job: JobNo, answer: &Result<Reply, Fault>) -> Option<CompactEntry>
     ensures { IfSome result (λ short. entry_of short ≡ turn_entry by (came.Issue job) answer.now) }
 {
     match answer {
@@ -216,7 +216,7 @@ fn short_issue(by: Turn, job: JobNo, answer: &Result<Reply, Fault>) -> Option<Sh
                 answer: Answer::Issued(issue),
                 act: Act::None,
             },
-        ) => Short::of_issue(by, job, *issue),
+        ) => CompactEntry::of_issue(by, job, *issue),
         _ => None,
     }
 }
@@ -228,7 +228,7 @@ fn short_end(
     ticket: &Ticket,
     end: WriteEnd,
     answer: &Result<Reply, Fault>,
-) -> Option<Short>
+) -> Option<CompactEntry>
     ensures { IfSome result
         (λ short. entry_of short ≡ turn_entry by (came.WriteDone ticket.now end) answer.now) }
 {
@@ -238,7 +238,7 @@ fn short_end(
                 answer: Answer::Plain,
                 act: Act::None,
             },
-        ) => Short::of_end(by, ticket, end),
+        ) => CompactEntry::of_end(by, ticket, end),
         _ => None,
     }
 }

@@ -25,14 +25,14 @@ mod answer;
 mod at_hub;
 mod cell;
 mod client_cell;
+mod compact;
 mod entered;
 mod entry;
 mod history;
 mod input;
 mod server_cell;
-mod short;
 
-pub use answer::{Answer, CallerAnswer, Reply};
+pub use answer::{Answer, Receipt, Reply};
 pub use at_hub::is_left_out;
 pub use cell::Node;
 pub use client_cell::{ClientCell, ClientCommand, ClientRequest, ClientTask};

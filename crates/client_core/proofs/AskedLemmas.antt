@@ -4,8 +4,8 @@ use Rattle.std.specs.Prelude.{if◌then◌else◌, Contains}
 use Rattle.std.proofs.lemmas.Bool.{eqb-true}
 use Rattle.messages.specs.declared.body.Body.{Body}
 use Rattle.messages.specs.declared.body.Body.TheVariants as bodies
-use Rattle.messages.specs.declared.refusal.Asked.{Asked}
-use Rattle.messages.specs.declared.refusal.Asked.TheVariants as asks
+use Rattle.messages.specs.declared.refusal.RefusedRequest.{RefusedRequest}
+use Rattle.messages.specs.declared.refusal.RefusedRequest.TheVariants as asks
 use Rattle.messages.specs.declared.refusal.Reason.{Reason}
 use Rattle.messages.specs.declared.refusal.Reason.TheVariants as reasons
 use Rattle.client_core.specs.Life.{Deed, Begins, Triggers, Stops, Verifies, Hears, text_of, run_of, check_of}
@@ -42,7 +42,7 @@ start_back reasons.Misfit _ h = h
 start_back reasons.NoJobs _ h = h
 start_back _ _ h = h
 
-refused_back : (asked : Asked) (reason : Reason) (b : Beginning) → IsBegun (begin_refused asked reason b) → IsBegun b
+refused_back : (asked : RefusedRequest) (reason : Reason) (b : Beginning) → IsBegun (begin_refused asked reason b) → IsBegun b
 refused_back asks.Jobs reason b h = jobs_back reason b h
 refused_back asks.Start reason b h = start_back reason b h
 refused_back _ reason b h = h
@@ -95,7 +95,7 @@ check_back : (t : Telling) (reason : Reason) (q : Request) → IsAsked (check_re
 check_back t reasons.Misfit q h = told_back t q h
 check_back t reason q h = denied_back reason q h
 
-verify_back : (asked : Asked) (t : Telling) (reason : Reason) (q : Request) → IsAsked (verify_refused asked t reason q) → IsAsked q
+verify_back : (asked : RefusedRequest) (t : Telling) (reason : Reason) (q : Request) → IsAsked (verify_refused asked t reason q) → IsAsked q
 verify_back asks.Verify t reason q h = check_back t reason q h
 verify_back _ t reason q h = h
 

@@ -3,7 +3,7 @@ use Rattle.std.proofs.Common.{◌≡◌, sym, ap, subst, ◌∙◌, ℕ, true, f
 use Rattle.std.specs.Prelude.{not, Ok, Err}
 use Rattle.fc_base.specs.declared.fault.Fault.{Fault}
 use Rattle.fc_base.specs.Fault.{sort_of}
-use Rattle.disk_model.specs.Left.{saved_for}
+use Rattle.disk_model.specs.SaveOutcome.{saved_for}
 use Rattle.disk_model.specs.Notes.{Note}
 use Rattle.node.specs.Steps.{Answers, Faults}
 use Rattle.messages.specs.declared.packet.PacketParts.{PacketParts}

@@ -12,7 +12,7 @@ use Rattle.client_core.specs.Begins.{begin_at, begin_heard}
 use Rattle.client_core.specs.Life.{Deed, Begins, Triggers, Stops, Verifies, Hears, text_of, act_of, run_of, check_of}
 use Rattle.client_core.specs.Lives.{RunFor, AttemptFor}
 use Rattle.client_core.specs.Requests.{Request, trigger_at, stop_at, verify_at, trigger_heard, stop_heard, verify_heard}
-use Rattle.client_core.specs.Standing.{IsRequestKept}
+use Rattle.client_core.specs.RequestStatus.{IsRequestKept}
 use Rattle.client_core.specs.Told.{run_told, attempt_told}
 
 -- The deed leaves all that is said of a run.

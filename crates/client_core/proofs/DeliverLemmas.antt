@@ -15,7 +15,7 @@ use Rattle.messages.specs.Bodies.{kind_of}
 use Rattle.messages.specs.Kinds.{is_of_mirror}
 use Rattle.client_core.specs.declared.note.ClientNote.{ClientNote}
 use Rattle.client_core.specs.declared.peers.Peers.{Peers}
-use Rattle.state_table.specs.Kept.{kept_of}
+use Rattle.verify_state.specs.StateTable.{kept_of}
 use Rattle.client_core.specs.Life.{Deed}
 use Rattle.client_core.specs.Packets.{replies, says_kept}
 use Rattle.client_core.specs.Refusals.{is_for_client, faults_of_body, refusal_by}
@@ -23,9 +23,9 @@ use Rattle.client_core.specs.Saves.{Keep, unless_kept, addition_by}
 use Rattle.client_core.specs.Told.{IsNoReport}
 use Rattle.client_core.specs.Words.{granted_in, granted_by}
 use Rattle.fc_base.specs.declared.numbers.Key.{Key}
-use Rattle.state_table.specs.declared.kept.TheConstants.{KEPT_LIMIT}
+use Rattle.verify_state.specs.declared.table.TheConstants.{KEPT_LIMIT}
 use Rattle.client_core.proofs.HeardLemmas.{taken_in, server_below, mirror_parts}
-use Rattle.state_table.proofs.RefusalLemmas.{has_room}
+use Rattle.verify_state.proofs.RefusalLemmas.{has_room}
 
 -- A state that is added is of a key of which none is kept, and there is room for it.
 pub record IsNew (n : ClientNote) (body : Body) (s : State) : Type 0 where

@@ -7,9 +7,9 @@ use Rattle.fc_base.specs.declared.fault.Fault.TheVariants.{NoMemory}
 use Rattle.fc_base.specs.declared.fault.FaultSort.{FaultSort}
 use Rattle.fc_base.specs.declared.fault.FaultSort.TheVariants as sorts
 use Rattle.fc_base.specs.Fault.{sort_of}
-use Rattle.disk_model.specs.declared.left.Left.{Left}
-use Rattle.disk_model.specs.declared.left.Left.TheVariants.{NoSave, LostNew, LostOld}
-use Rattle.disk_model.specs.Left.{saved_for, is_lost, has_new, bytes_left}
+use Rattle.disk_model.specs.declared.save_outcome.SaveOutcome.{SaveOutcome}
+use Rattle.disk_model.specs.declared.save_outcome.SaveOutcome.TheVariants.{NoSave, LostNew, LostOld}
+use Rattle.disk_model.specs.SaveOutcome.{saved_for, is_lost, has_new, bytes_left}
 use Rattle.disk_model.specs.Notes.{Note}
 use Rattle.node.specs.Saving.{Unsaved}
 use Rattle.node.specs.Steps.{LeavesNote, Fails, Faults}
@@ -159,7 +159,7 @@ lacks note client kept o past c same s = record { why = refl; same_note = refl; 
 -- ---- a save
 
 -- A client that is down at a failed save stands for the list with what was lost.
-lost_stands : {T : Type 0} (note : T → Note) (client : PacketClient T) (notes : T) (o : Opening) (past : List Entry) (c : PacketInput) (left : Left)
+lost_stands : {T : Type 0} (note : T → Note) (client : PacketClient T) (notes : T) (o : Opening) (past : List Entry) (c : PacketInput) (left : SaveOutcome)
     → is_on past ≡ true → is_lost left ≡ true → StandsFor note client o past
     → Says (note notes).bytes (noted_after (has_new left) (due o past c) (words_noted o past))
     → StandsFor note (record client { durable = record { notes = notes; down = true } }) o (Met c left ∷ past)
@@ -204,7 +204,7 @@ unsaved note old new kept a fault o past c read up s free adds fits same sorts.S
     makes_one : due o past c ≡ Some a
     makes_one = due_now o past c free ∙ adds
 
-    failed : (left : Left) → is_lost left ≡ true → (note new.durable.notes).bytes
+    failed : (left : SaveOutcome) → is_lost left ≡ true → (note new.durable.notes).bytes
         ≡ bytes_left left (spelling (noted_after (has_new left) (Some a) (words_noted o past))) (note old.durable.notes).bytes
         → Says (note new.durable.notes).bytes (noted_after (has_new left) (Some a) (words_noted o past)) → Fails (steps note o) past c old new
     failed left lost bytes says = record {

@@ -20,7 +20,7 @@ use Rattle.messages.specs.Nodes.{node_number}
 use Rattle.client_core.specs.Inputs.{PacketInput, Begin, Trigger, Stop, Verify, Deliver, Tick}
 use Rattle.client_core.specs.declared.note.ClientNote.{ClientNote}
 use Rattle.client_core.specs.Words.{words_noted, peers, has_mirror, is_answered}
-use Rattle.state_table.specs.Kept.{kept_of}
+use Rattle.verify_state.specs.StateTable.{kept_of}
 use Rattle.verify_state.specs.State.{State}
 use Rattle.client_core.specs.Life.{Deed, life, text_of}
 use Rattle.client_core.specs.declared.beginning.Beginning.{Beginning}

@@ -4,8 +4,8 @@ use Rattle.std.specs.Prelude.{map}
 use Rattle.fc_base.specs.declared.limits.TheConstants.{MAX_SERVERS}
 use Rattle.fc_base.specs.declared.fault.Fault.{Fault}
 use Rattle.fc_base.specs.Fault.{sort_of}
-use Rattle.disk_model.specs.declared.left.Left.{Left}
-use Rattle.disk_model.specs.Left.{saved_for}
+use Rattle.disk_model.specs.declared.save_outcome.SaveOutcome.{SaveOutcome}
+use Rattle.disk_model.specs.SaveOutcome.{saved_for}
 use Rattle.disk_model.specs.Notes.{Note}
 use Rattle.node.specs.Steps.{Ends, EndsWithNumber}
 use Rattle.messages.specs.Hearing.{Meaning, Says, Waits, Spoils, Strays, meaning}
@@ -31,7 +31,7 @@ use Rattle.client_core.specs.FrameAnswers.{sense}
 use Rattle.client_core.specs.HearingKind.{hearing_kind, hearing_laws}
 use Rattle.client_core.specs.FrameEnds.{StandsFor, Sends, most_packets, client_node, steps}
 
-came_with : (c : PacketInput) (left : Left) (past : List history.Entry) → IsInRange c → CameInRange past → CameInRange (history.Met c left ∷ past)
+came_with : (c : PacketInput) (left : SaveOutcome) (past : List history.Entry) → IsInRange c → CameInRange past → CameInRange (history.Met c left ∷ past)
 came_with (inputs.Begin text) left past b h = h
 came_with (inputs.Trigger run act) left past b h = h
 came_with (inputs.Stop run) left past b h = h

@@ -10,11 +10,11 @@ use Rattle.verify_state.specs.State.{State}
 use Rattle.messages.specs.declared.body.Body.{Body}
 use Rattle.messages.specs.declared.body.Body.TheVariants as bodies
 use Rattle.messages.specs.Nodes.{node_number}
-use Rattle.disk_model.specs.declared.left.Left.{Left}
-use Rattle.disk_model.specs.declared.left.Left.TheVariants.{NoSave, Saved, LostNew, LostOld}
-use Rattle.disk_model.specs.Left.{has_new}
+use Rattle.disk_model.specs.declared.save_outcome.SaveOutcome.{SaveOutcome}
+use Rattle.disk_model.specs.declared.save_outcome.SaveOutcome.TheVariants.{NoSave, Saved, LostNew, LostOld}
+use Rattle.disk_model.specs.SaveOutcome.{has_new}
 use Rattle.client_core.specs.Inputs.{PacketInput, Begin, Trigger, Stop, Verify, Deliver, Tick}
-use Rattle.state_table.specs.Kept.{kept_of}
+use Rattle.verify_state.specs.StateTable.{kept_of}
 use Rattle.client_core.specs.declared.note.ClientNote.{ClientNote}
 use Rattle.client_core.specs.History.{Opening, Entry, Met, Cut, Restart, Renew, Lose}
 use Rattle.client_core.specs.Refusals.{refusal_by}
@@ -113,7 +113,7 @@ body_only new n (bodies.State jobs state) = state_only new n (kept_of state.key 
 body_only new n (bodies.Copy state) = state_only new n (kept_of state.key n.kept) state
 body_only new n _ = (refl, refl)
 
-pub run_step : (first : ℕ) (n : ClientNote) (c : PacketInput) (r : Option Fault) (left : Left) (ds : List Deed) → Known first n.runs (runs_in ds)
+pub run_step : (first : ℕ) (n : ClientNote) (c : PacketInput) (r : Option Fault) (left : SaveOutcome) (ds : List Deed) → Known first n.runs (runs_in ds)
     → Known first (noted_after (has_new left) (unless_refused r (addition_of n c)) n).runs
     (runs_in (if is_none r && is_answer (unless_refused r (addition_of n c)) left then deeds_of n c ++ ds else ds))
 run_step first n c (Some f) left ds k = k
@@ -147,7 +147,7 @@ known_runs o (Lose ∷ past) h = cc
 pub runs_are_fresh : RunsAreFresh
 runs_are_fresh o past h = (known_runs o past h).fresh
 
-pub attempt_step : (first : ℕ) (n : ClientNote) (c : PacketInput) (r : Option Fault) (left : Left) (ds : List Deed) → Known first n.attempts (attempts_in ds)
+pub attempt_step : (first : ℕ) (n : ClientNote) (c : PacketInput) (r : Option Fault) (left : SaveOutcome) (ds : List Deed) → Known first n.attempts (attempts_in ds)
     → Known first (noted_after (has_new left) (unless_refused r (addition_of n c)) n).attempts
     (attempts_in (if is_none r && is_answer (unless_refused r (addition_of n c)) left then deeds_of n c ++ ds else ds))
 attempt_step first n c (Some f) left ds k = k

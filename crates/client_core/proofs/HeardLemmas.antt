@@ -13,12 +13,12 @@ use Rattle.messages.specs.declared.body.Body.TheVariants as bodies
 use Rattle.messages.specs.declared.node.Node.{Node}
 use Rattle.messages.specs.declared.node.Node.TheVariants as nodes
 use Rattle.messages.specs.Nodes.{node_number, is_client, is_mirror}
-use Rattle.disk_model.specs.declared.left.Left.{Left}
-use Rattle.disk_model.specs.declared.left.Left.TheVariants.{NoSave, Saved, LostNew, LostOld}
-use Rattle.disk_model.specs.Left.{has_new}
+use Rattle.disk_model.specs.declared.save_outcome.SaveOutcome.{SaveOutcome}
+use Rattle.disk_model.specs.declared.save_outcome.SaveOutcome.TheVariants.{NoSave, Saved, LostNew, LostOld}
+use Rattle.disk_model.specs.SaveOutcome.{has_new}
 use Rattle.client_core.specs.Inputs.{Deliver}
-use Rattle.state_table.specs.Kept.{kept_of}
-use Rattle.state_table.specs.Laws.{LastIsFound}
+use Rattle.verify_state.specs.StateTable.{kept_of}
+use Rattle.verify_state.specs.TableLaws.{LastIsFound}
 use Rattle.messages.specs.Bodies.{kind_of}
 use Rattle.messages.specs.Kinds.{is_of_mirror}
 use Rattle.client_core.specs.declared.note.ClientNote.{ClientNote}
@@ -136,7 +136,7 @@ none_or None b h = refl
 none_or (Some f) b h = cc
 
 -- after a state that was answered its key has a state
-pub has_one : LastIsFound → (n : ClientNote) (left : Left) (x : Option State) (state : State) → kept_of state.key n.kept ≡ x
+pub has_one : LastIsFound → (n : ClientNote) (left : SaveOutcome) (x : Option State) (state : State) → kept_of state.key n.kept ≡ x
     → is_answer (unless_kept x state) left ≡ true
     → (s : State) × (kept_of state.key (noted_after (has_new left) (unless_kept x state) n).kept ≡ Some s)
 has_one last n left (Some k) state h a = (k, h)

@@ -12,11 +12,11 @@ use Rattle.messages.specs.declared.body.Body.TheVariants as bodies
 use Rattle.messages.specs.declared.node.Node.{Node}
 use Rattle.messages.specs.Nodes.{node_number}
 use Rattle.messages.specs.Ranges.{is_generation}
-use Rattle.disk_model.specs.declared.left.Left.{Left}
-use Rattle.disk_model.specs.Left.{has_new}
+use Rattle.disk_model.specs.declared.save_outcome.SaveOutcome.{SaveOutcome}
+use Rattle.disk_model.specs.SaveOutcome.{has_new}
 use Rattle.client_core.specs.Inputs.{PacketInput, Begin, Trigger, Stop, Verify, Deliver, Tick}
-use Rattle.state_table.specs.Kept.{kept_of}
-use Rattle.state_table.specs.Laws.{FoundStays, FoundOrLast}
+use Rattle.verify_state.specs.StateTable.{kept_of}
+use Rattle.verify_state.specs.TableLaws.{FoundStays, FoundOrLast}
 use Rattle.client_core.specs.declared.note.ClientNote.{ClientNote}
 use Rattle.client_core.specs.declared.peers.Peers.{Peers}
 use Rattle.client_core.specs.History.{Opening, Entry, Met, Cut, Restart, Renew, Lose}
@@ -67,7 +67,7 @@ renewed_had key true g n s h = cc
 renewed_had key false g n s h = h
 
 -- a kept state stays for one more call
-stays_after : FoundStays → (o : Opening) (c : PacketInput) (left : Left) (past : List Entry) (key : Key) (s : State) → kept_state o past key ≡ Some s
+stays_after : FoundStays → (o : Opening) (c : PacketInput) (left : SaveOutcome) (past : List Entry) (key : Key) (s : State) → kept_state o past key ≡ Some s
     → kept_state o (Met c left ∷ past) key ≡ Some s
 stays_after stays o c left past key s h =
     noted_stays stays key (has_new left) (due_by (is_on past) (peers o past) (words_noted o past) c) (words_noted o past) s h
@@ -166,7 +166,7 @@ delivered only peers n from to (bodies.Copy state) s key new None ours h =
     copy_came only peers n from to state s key new (kept_of state.key n.kept) (ours refl) h
 delivered only peers n from to _ s key new None ours h = inl h
 
-called : FoundOrLast → (peers : Peers) (on : Bool) (n : ClientNote) (c : PacketInput) (left : Left) (key : Key) (s : State)
+called : FoundOrLast → (peers : Peers) (on : Bool) (n : ClientNote) (c : PacketInput) (left : SaveOutcome) (key : Key) (s : State)
     → kept_of key (noted_after (has_new left) (due_by on peers n c) n).kept ≡ Some s → CameFrom n (packet_in (Met c left)) key s
 called only peers on n (Begin text) left key s h = number_only (has_new left) (refusal_by on peers n (Begin text)) n [] key s h
 called only peers on n (Trigger run act) left key s h = nothing (has_new left) (refusal_by on peers n (Trigger run act)) n [] key s h

@@ -18,6 +18,7 @@ mod Looked
 mod LossLemmas
 mod MirrorLifeLemmas
 mod MirroredLemmas
+mod NodeLemmas
 mod NoteLemmas
 mod NotedLemmas
 pub mod PeersLemmas
@@ -32,6 +33,7 @@ mod RisingLemmas
 mod SentLemmas
 mod SourceLemmas
 mod StandingLemmas
+mod StepLemmas
 mod TextLemmas
 mod TickLemmas
 mod AllTicksLemmas

@@ -1,6 +1,6 @@
 -- A client that is on answers from the whole list.
 use Rattle.std.proofs.Common.{refl, [], ◌∷◌}
-use Rattle.disk_model.specs.Left.{is_lost}
+use Rattle.disk_model.specs.SaveOutcome.{is_lost}
 use Rattle.node.proofs.StepLemmas.{shows_all}
 use Rattle.client_core.specs.History.{Met, Cut, Restart, Renew, Lose}
 use Rattle.client_core.specs.Words.{is_on, shown_entries}

@@ -11,9 +11,9 @@ use Rattle.fc_base.specs.Counted.{has}
 use Rattle.fc_base.specs.Faults.{when}
 use Rattle.messages.specs.Nodes.{node_number}
 use Rattle.messages.specs.Ranges.{is_generation, is_text}
-use Rattle.disk_model.specs.declared.left.Left.{Left}
-use Rattle.disk_model.specs.declared.left.Left.TheVariants.{NoSave, Saved, LostNew, LostOld}
-use Rattle.disk_model.specs.Left.{has_new, is_lost, is_saved}
+use Rattle.disk_model.specs.declared.save_outcome.SaveOutcome.{SaveOutcome}
+use Rattle.disk_model.specs.declared.save_outcome.SaveOutcome.TheVariants.{NoSave, Saved, LostNew, LostOld}
+use Rattle.disk_model.specs.SaveOutcome.{has_new, is_lost, is_saved}
 use Rattle.client_core.specs.Inputs.{PacketInput, Begin, Trigger, Stop, Verify, Deliver, Tick}
 use Rattle.client_core.specs.declared.note.ClientNote.{ClientNote}
 use Rattle.client_core.specs.declared.peers.Peers.{Peers}
@@ -54,7 +54,7 @@ either : (gs : List ℕ) (f : List Deed → List ℕ) (b : Bool) (g used : ℕ) 
 either gs f true g used x y h k = h
 either gs f false g used x y h k = k
 
-run_step : (gs : List ℕ) (on : Bool) (peers : Peers) (n : ClientNote) (c : PacketInput) (r : Option Fault) (left : Left) (ds : List Deed) → r ≡ refusal_by on peers n c
+run_step : (gs : List ℕ) (on : Bool) (peers : Peers) (n : ClientNote) (c : PacketInput) (r : Option Fault) (left : SaveOutcome) (ds : List Deed) → r ≡ refusal_by on peers n c
     → (on ≡ true → 1 ≤ n.generation) → Apart gs n.generation n.runs (runs_in ds)
     → Apart gs n.generation (noted_after (has_new left) (unless_refused r (addition_of n c)) n).runs
     (runs_in (if is_none r && is_answer (unless_refused r (addition_of n c)) left then deeds_of n c ++ ds else ds))
@@ -80,7 +80,7 @@ run_step gs on peers n (Deliver p) None left ds e g k =
     (either gs runs_in b n.generation n.runs (Hears (node_number p.from) p.body ∷ ds) ds k k)
 run_step gs on peers n Tick None left ds e g k = either gs runs_in (is_answer {D = Addition} None left) n.generation n.runs ds ds k k
 
-attempt_step : (gs : List ℕ) (on : Bool) (peers : Peers) (n : ClientNote) (c : PacketInput) (r : Option Fault) (left : Left) (ds : List Deed) → r ≡ refusal_by on peers n c
+attempt_step : (gs : List ℕ) (on : Bool) (peers : Peers) (n : ClientNote) (c : PacketInput) (r : Option Fault) (left : SaveOutcome) (ds : List Deed) → r ≡ refusal_by on peers n c
     → (on ≡ true → 1 ≤ n.generation) → Apart gs n.generation n.attempts (attempts_in ds)
     → Apart gs n.generation (noted_after (has_new left) (unless_refused r (addition_of n c)) n).attempts
     (attempts_in (if is_none r && is_answer (unless_refused r (addition_of n c)) left then deeds_of n c ++ ds else ds))
@@ -147,7 +147,7 @@ renewed_blank x true n h f e = absurd (not_none x h e)
 renewed_blank x false n h f e = f e
 
 -- where a renewal with a good number answers and changes nothing, the note is of a generation
-not_blank : (x : ℕ) (left : Left) (n : ClientNote) → is_saved left ≡ true → is_generation x ≡ true → (n.generation ≡ 0 → is_blank n ≡ true)
+not_blank : (x : ℕ) (left : SaveOutcome) (n : ClientNote) → is_saved left ≡ true → is_generation x ≡ true → (n.generation ≡ 0 → is_blank n ≡ true)
     → (has_new left && may_renew x n) ≡ false → 1 ≤ n.generation
 not_blank x Saved n s g f h = elim (cases_Bool (n.generation == 0)) [
   | inl z ↦ absurd (both (is_generation x) (is_blank n) g (f (eqb-true n.generation 0 z)) h)

@@ -9,11 +9,11 @@ use Rattle.std.proofs.lemmas.Nat.{from_be_bytes-to_be_bytes_8}
 use Rattle.std.proofs.lemmas.Slice.Eq.{bytes_eq-Decides}
 use Rattle.fc_base.specs.Layouts.{bytes_of, number_in}
 use Rattle.verify_state.specs.State.{State}
-use Rattle.state_table.specs.Counted.{counted_bytes, counted_states, SayStates}
-use Rattle.state_table.specs.Kept.{has_distinct_keys}
-use Rattle.state_table.specs.Laws.{SpelledAreRead, ReadWereSpelled}
-use Rattle.state_table.specs.Reading.{states_at, ReadsStates}
-use Rattle.state_table.proofs.CountedLemmas.{AreCounted, spelled_counted, same_states, too_many_states, no_states_read, counted_spelled, written, put_counted}
+use Rattle.verify_state.specs.TableBytes.{counted_bytes, counted_states, SayStates}
+use Rattle.verify_state.specs.StateTable.{has_distinct_keys}
+use Rattle.verify_state.specs.TableLaws.{SpelledAreRead, ReadWereSpelled}
+use Rattle.verify_state.specs.TableReading.{states_at, ReadsStates}
+use Rattle.verify_state.proofs.CountedLemmas.{AreCounted, spelled_counted, same_states, too_many_states, no_states_read, counted_spelled, written, put_counted}
 use Rattle.verify_state.specs.Reading.{field}
 use Rattle.verify_state.proofs.FieldLemmas.{IsBytes, bytes_drop, piece64}
 use Rattle.client_core.specs.declared.note.ClientNote.{ClientNote}
@@ -21,7 +21,7 @@ use Rattle.client_core.specs.Note.{blank, numbers_of, note_of, old_note_of, spel
 use Rattle.client_core.specs.Note.{Says, ReadsNumbers, Reads, TellsStates, HasStates, SaysOneThing, SaysWhatIsWritten}
 use Rattle.std.proofs.lemmas.Bool.Decides.{nat_tests}
 use Rattle.fc_base.specs.declared.limits.TheConstants.{MAX_GENERATION}
-use Rattle.state_table.specs.declared.kept.TheConstants.{KEPT_LIMIT}
+use Rattle.verify_state.specs.declared.table.TheConstants.{KEPT_LIMIT}
 use Rattle.verify_state.specs.Spelling.{spelling as state_bytes}
 use Rattle.verify_state.specs.Laws.{ReadsBack}
 

@@ -11,12 +11,12 @@ use Rattle.messages.specs.declared.body.Body.{Body}
 use Rattle.messages.specs.declared.body.Body.TheVariants as bodies
 use Rattle.messages.specs.Ranges.{is_text, is_generation, KeepsState}
 use Rattle.messages.specs.Laws.{IsPacket}
-use Rattle.disk_model.specs.declared.left.Left.{Left}
-use Rattle.disk_model.specs.Left.{has_new}
+use Rattle.disk_model.specs.declared.save_outcome.SaveOutcome.{SaveOutcome}
+use Rattle.disk_model.specs.SaveOutcome.{has_new}
 use Rattle.client_core.specs.Inputs.{PacketInput, Begin, Trigger, Stop, Verify, Deliver, Tick}
 use Rattle.fc_base.specs.declared.limits.TheConstants.{MAX_GENERATION}
-use Rattle.state_table.specs.Kept.{kept_of}
-use Rattle.state_table.specs.Laws.{KeysStayApart}
+use Rattle.verify_state.specs.StateTable.{kept_of}
+use Rattle.verify_state.specs.TableLaws.{KeysStayApart}
 use Rattle.client_core.specs.declared.note.ClientNote.{ClientNote}
 use Rattle.client_core.specs.declared.peers.Peers.{Peers}
 use Rattle.client_core.specs.Note.{IsNoted, blank, is_blank, new_note}
@@ -26,7 +26,7 @@ use Rattle.client_core.specs.Saves.{NextRun, NextAttempt, unless_kept, addition_
 use Rattle.client_core.specs.Words.{is_on, words_noted, peers, may_renew}
 use Rattle.client_core.specs.Ranges.{packet_in, packets_come}
 use Rattle.client_core.specs.Laws.{NotesKeepRanges}
-use Rattle.state_table.proofs.RefusalLemmas.{has_room}
+use Rattle.verify_state.proofs.RefusalLemmas.{has_room}
 use Rattle.client_core.proofs.HeardLemmas.{taken_in}
 use Rattle.fc_base.proofs.ListLemmas.{all_append}
 
@@ -89,7 +89,7 @@ body_step apart new n (bodies.State jobs s) e h k = one_state apart new n (kept_
 body_step apart new n (bodies.Copy s) e h k = one_state apart new n (kept_of s.key n.kept) s refl e h k
 body_step apart new n _ e h k = k
 
-step : KeysStayApart → (on : Bool) (peers : Peers) (n : ClientNote) (c : PacketInput) (left : Left) (r : Option Fault) → r ≡ refusal_by on peers n c
+step : KeysStayApart → (on : Bool) (peers : Peers) (n : ClientNote) (c : PacketInput) (left : SaveOutcome) (r : Option Fault) → r ≡ refusal_by on peers n c
     → AllByRecursion IsPacket (packet_in (Met c left)) → IsNoted n → IsNoted (noted_after (has_new left) (unless_refused r (addition_of n c)) n)
 step apart on peers n c left (Some f) e h k = k
 step apart on peers n (Begin text) left None e h k =

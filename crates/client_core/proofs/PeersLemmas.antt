@@ -4,8 +4,8 @@ use Rattle.std.specs.Prelude.{if◌then◌else◌}
 use Rattle.std.specs.List.{list_any}
 use Rattle.fc_base.specs.declared.limits.TheConstants.{MAX_SERVERS}
 use Rattle.fc_base.specs.declared.fault.Fault.{Fault}
-use Rattle.disk_model.specs.declared.left.Left.{Left}
-use Rattle.disk_model.specs.Left.{has_new}
+use Rattle.disk_model.specs.declared.save_outcome.SaveOutcome.{SaveOutcome}
+use Rattle.disk_model.specs.SaveOutcome.{has_new}
 use Rattle.messages.specs.declared.packet.PacketParts.{PacketParts}
 use Rattle.messages.specs.declared.body.Body.{Body}
 use Rattle.messages.specs.declared.body.Body.TheVariants as bodies
@@ -28,7 +28,7 @@ generation_stays true (Some NextAttempt) n = refl
 generation_stays true (Some (Keep state)) n = refl
 generation_stays false (Some a) n = refl
 
-pub same_generation : (o : Opening) (past : List Entry) (c : PacketInput) (left : Left)
+pub same_generation : (o : Opening) (past : List Entry) (c : PacketInput) (left : SaveOutcome)
     → (words_noted o (Met c left ∷ past)).generation ≡ (words_noted o past).generation
 same_generation o past c left = generation_stays (has_new left) (due o past c) (words_noted o past)
 
@@ -36,7 +36,7 @@ grants_if : (b : Bool) (now before : List ℕ) → (b ≡ true → now ≡ []) �
 grants_if true now before e = ap (λ gs. gs ++ before) (e refl)
 grants_if false now before e = refl
 
-by_parts : (o : Opening) (past : List Entry) (c : PacketInput) (left : Left) → granted_generations (Met c left ∷ past) ≡ granted_generations past
+by_parts : (o : Opening) (past : List Entry) (c : PacketInput) (left : SaveOutcome) → granted_generations (Met c left ∷ past) ≡ granted_generations past
     → peers o (Met c left ∷ past) ≡ peers o past
 by_parts o past c left e = λ i. record {
   servers = o.servers;
@@ -45,7 +45,7 @@ by_parts o past c left e = λ i. record {
 }
 
 -- A call that grants nothing leaves with whom the client is.
-pub peers_stay : (o : Opening) (past : List Entry) (c : PacketInput) (left : Left) → granted_by c ≡ [] → peers o (Met c left ∷ past) ≡ peers o past
+pub peers_stay : (o : Opening) (past : List Entry) (c : PacketInput) (left : SaveOutcome) → granted_by c ≡ [] → peers o (Met c left ∷ past) ≡ peers o past
 peers_stay o past c left e = by_parts o past c left (grants_if (is_on past && has_mirror past) (granted_by c) (granted_generations past) (λ b. e))
 
 -- ---- a refused call
@@ -79,7 +79,7 @@ on_parts true false h = cc
 on_parts false b h = cc
 
 -- A refused call leaves with whom the client is: a grant is never refused.
-pub refused_peers : (o : Opening) (past : List Entry) (c : PacketInput) (left : Left) (fault : Fault) → refusal o past c ≡ Some fault
+pub refused_peers : (o : Opening) (past : List Entry) (c : PacketInput) (left : SaveOutcome) (fault : Fault) → refusal o past c ≡ Some fault
     → peers o (Met c left ∷ past) ≡ peers o past
 refused_peers o past c left fault r = by_parts o past c left (grants_if (is_on past && has_mirror past) (granted_by c) (granted_generations past) (λ b.
     let on = on_parts (is_on past) (has_mirror past) b in
@@ -107,7 +107,7 @@ after generation (bodies.Granted g) servers mirror gs = refl
 after generation _ servers mirror gs = refl
 
 -- What the mirror says may grant the generation.
-pub heard_peers : (o : Opening) (past : List Entry) (p : PacketParts) (left : Left) → is_on past ≡ true → has_mirror past ≡ true → is_client p.to ≡ true
+pub heard_peers : (o : Opening) (past : List Entry) (p : PacketParts) (left : SaveOutcome) → is_on past ≡ true → has_mirror past ≡ true → is_client p.to ≡ true
     → is_mirror p.from ≡ true
     → peers o (Met (Deliver p) left ∷ past) ≡ after_grant (words_noted o past).generation p.body (peers o past)
 heard_peers o past p left on mirror to from =

@@ -15,10 +15,10 @@ use Rattle.messages.specs.declared.body.Body.TheVariants as bodies
 use Rattle.messages.specs.declared.refusal.Act.{Act}
 use Rattle.messages.specs.Ranges.{is_generation, is_run, is_attempt, is_jobs, is_job, is_job_of, is_text, is_body, KeepsState}
 use Rattle.messages.specs.Laws.{IsPacket}
-use Rattle.disk_model.specs.declared.left.Left.{Left}
+use Rattle.disk_model.specs.declared.save_outcome.SaveOutcome.{SaveOutcome}
 use Rattle.client_core.specs.Inputs.{PacketInput, Begin, Trigger, Stop, Verify, Deliver, Tick}
 use Rattle.fc_base.specs.declared.limits.TheConstants.{MAX_GENERATION, MAX_JOBS, MAX_SERVERS}
-use Rattle.state_table.specs.Kept.{kept_of}
+use Rattle.verify_state.specs.StateTable.{kept_of}
 use Rattle.client_core.specs.declared.note.ClientNote.{ClientNote}
 use Rattle.client_core.specs.declared.peers.Peers.{Peers}
 use Rattle.client_core.specs.Note.{IsNoted}
@@ -103,7 +103,7 @@ done_in_range ranges o (Lose ∷ past) k h = done_in_range ranges o past k h
 abbrev Fits : Body → Type 0
 Fits body = (is_body body ≡ true) × KeepsState body
 
-said_fits : (c : PacketInput) (left : Left) (s : ℕ) (body : Body) → IsSaid c s body → AllByRecursion IsPacket (packet_in (Met c left)) → Fits body
+said_fits : (c : PacketInput) (left : SaveOutcome) (s : ℕ) (body : Body) → IsSaid c s body → AllByRecursion IsPacket (packet_in (Met c left)) → Fits body
 said_fits c left s body e h =
     let k : IsPacket (from_server body s) = (subst (λ d. AllByRecursion IsPacket (packet_in (Met d left))) e h).0 in
     ((and_parts (nat_lt s MAX_SERVERS && true) (is_body body) k.in_range).1, k.state)
@@ -138,7 +138,7 @@ state_kept key (k ∷ kept) s a h = here (is_same_key key k.key) h (λ e. state_
     here false e f = f e
 
 -- what is known when a call is answered
-record Known (o : Opening) (past : List Entry) (c : PacketInput) (left : Left) : Type 0 where
+record Known (o : Opening) (past : List Entry) (c : PacketInput) (left : SaveOutcome) : Type 0 where
   note : IsNoted (words_noted o past)
   entry : AllByRecursion IsPacket (packet_in (Met c left))
   before : AllByRecursion InRange (deeds_done o past)
@@ -150,26 +150,26 @@ run_of_call : (o : Opening) (past : List Entry) (c x : PacketInput) (run : ℕ) 
     → (refusal o past x ≡ None → is_begun (words_noted o past) run ≡ true) → is_run run ≡ true
 run_of_call o past c x run k taken e f = begun_in_range (words_noted o past) run (f (subst (λ d. refusal o past d ≡ None) e taken)) k.runs
 
-acked_fits : (o : Opening) (past : List Entry) (c : PacketInput) (left : Left) (s run job : ℕ) → Known o past c left
+acked_fits : (o : Opening) (past : List Entry) (c : PacketInput) (left : SaveOutcome) (s run job : ℕ) → Known o past c left
     → Why (words_noted o past) (life o past) c s (bodies.StateAck run job) → is_body (bodies.StateAck run job) ≡ true
 acked_fits o past c left s run job k (inl w) =
     let f = said_fits c left s (bodies.State w.0 w.1) w.2 k.entry in
     subst (λ r. is_body (bodies.StateAck r job) ≡ true) (sym w.3) (subst (λ j. is_body (bodies.StateAck w.1.key.run j) ≡ true) (sym w.4) (ack_fits w.1 f.1))
 acked_fits o past c left s run job k (inr w) = no_state_fits run job w.0 ((said_fits c left s (bodies.NoState run job w.0) w.1 k.entry).0)
 
-triggered_fits : (o : Opening) (past : List Entry) (c : PacketInput) (left : Left) (s run : ℕ) (act : Act) → Known o past c left
+triggered_fits : (o : Opening) (past : List Entry) (c : PacketInput) (left : SaveOutcome) (s run : ℕ) (act : Act) → Known o past c left
     → Why (words_noted o past) (life o past) c s (bodies.Trigger run act) → is_run run ≡ true
 triggered_fits o past c left s run act k (inl e) =
     run_of_call o past c (Trigger run act) run k.note k.taken e (λ h. run_faults (is_on past) (is_begun (words_noted o past) run) h)
 triggered_fits o past c left s run act k (inr u) = run_within run (words_noted o past).runs u.0 u.1 k.note.runs
 
-stopped_fits : (o : Opening) (past : List Entry) (c : PacketInput) (left : Left) (s run : ℕ) → Known o past c left
+stopped_fits : (o : Opening) (past : List Entry) (c : PacketInput) (left : SaveOutcome) (s run : ℕ) → Known o past c left
     → Why (words_noted o past) (life o past) c s (bodies.Stop run) → is_run run ≡ true
 stopped_fits o past c left s run k (inl e) =
     run_of_call o past c (Stop run) run k.note k.taken e (λ h. run_faults (is_on past) (is_begun (words_noted o past) run) h)
 stopped_fits o past c left s run k (inr u) = run_within run (words_noted o past).runs u.0 u.1 k.note.runs
 
-fits : (o : Opening) (past : List Entry) (c : PacketInput) (left : Left) (s : ℕ) (body : Body) → Known o past c left → Why (words_noted o past) (life o past) c s body
+fits : (o : Opening) (past : List Entry) (c : PacketInput) (left : SaveOutcome) (s : ℕ) (body : Body) → Known o past c left → Why (words_noted o past) (life o past) c s body
     → Fits body
 fits o past c left s (bodies.Jobs run text) k w =
     let d : InRange (Begins run text) =
@@ -210,7 +210,7 @@ to_one p s l e f =
 below_eight : (s servers : ℕ) → s < servers → servers ≤ MAX_SERVERS → s < MAX_SERVERS
 below_eight s servers l few = omega arith
 
-mirror_fits : (o : Opening) (past : List Entry) (c : PacketInput) (left : Left) (body : Body) → Known o past c left → WhyMirror (words_noted o past) c body → Fits body
+mirror_fits : (o : Opening) (past : List Entry) (c : PacketInput) (left : SaveOutcome) (body : Body) → Known o past c left → WhyMirror (words_noted o past) c body → Fits body
 mirror_fits o past c left (bodies.Copy state) k (inl h) = (refl, each_of IsState (words_noted o past).kept state k.note.states h)
 mirror_fits o past c left (bodies.Copy state) k (inr h) = (refl, (said_fits c left h.0 (bodies.State h.1 state) h.2 k.entry).1)
 mirror_fits o past c left (bodies.Fetch generation) k w =

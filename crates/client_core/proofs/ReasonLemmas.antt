@@ -11,9 +11,9 @@ use Rattle.messages.specs.declared.body.Body.TheVariants as bodies
 use Rattle.messages.specs.Nodes.{node_number}
 use Rattle.messages.specs.Bodies.{kind_of}
 use Rattle.messages.specs.Kinds.{is_of_mirror}
-use Rattle.disk_model.specs.declared.left.Left.{Left}
+use Rattle.disk_model.specs.declared.save_outcome.SaveOutcome.{SaveOutcome}
 use Rattle.client_core.specs.Inputs.{PacketInput, Begin, Trigger, Stop, Verify, Deliver, Tick}
-use Rattle.state_table.specs.Kept.{kept_of}
+use Rattle.verify_state.specs.StateTable.{kept_of}
 use Rattle.client_core.specs.declared.note.ClientNote.{ClientNote}
 use Rattle.client_core.specs.declared.peers.Peers.{Peers}
 use Rattle.client_core.specs.History.{Opening, Entry, Met}
@@ -223,12 +223,12 @@ called on peers n deeds Tick begun e =
     (all_copied peers n deeds Tick peers.mirror refl))
 
 -- an answered call, and why it sends a packet
-pub record IsSent (o : Opening) (past : List Entry) (c : PacketInput) (left : Left) (p : PacketParts) : Type 0 where
+pub record IsSent (o : Opening) (past : List Entry) (c : PacketInput) (left : SaveOutcome) (p : PacketParts) : Type 0 where
   pub answers : is_answered o past c left ≡ true
   pub taken : refusal o past c ≡ None
   pub why : Sends (peers o past) (words_noted o past) (life o past) c p
 
-pub all_sent : (o : Opening) (past : List Entry) (c : PacketInput) (left : Left) → AllByRecursion (IsSent o past c left) (packets o past (Met c left))
+pub all_sent : (o : Opening) (past : List Entry) (c : PacketInput) (left : SaveOutcome) → AllByRecursion (IsSent o past c left) (packets o past (Met c left))
 all_sent o past c left =
     all_where (IsSent o past c left) (is_answered o past c left) (packets_for (peers o past) (words_noted o past) (life o past) c)
     (λ a.
@@ -237,5 +237,5 @@ all_sent o past c left =
     (packets_for (peers o past) (words_noted o past) (life o past) c) (λ p w. record { answers = a; taken = e; why = w })
     (called (is_on past) (peers o past) (words_noted o past) (life o past) c (runs_were_begun o past) e))
 
-pub sent_why : (o : Opening) (past : List Entry) (c : PacketInput) (left : Left) (p : PacketParts) → Contains (packets o past (Met c left)) p → IsSent o past c left p
+pub sent_why : (o : Opening) (past : List Entry) (c : PacketInput) (left : SaveOutcome) (p : PacketParts) → Contains (packets o past (Met c left)) p → IsSent o past c left p
 sent_why o past c left p h = each_of (IsSent o past c left) (packets o past (Met c left)) p (all_sent o past c left) h

@@ -14,7 +14,7 @@ use Rattle.client_core.specs.declared.packet_client.PacketClient.{PacketClient}
 use Rattle.client_core.specs.declared.note.ClientNote.{ClientNote}
 use Rattle.client_core.specs.declared.peers.Peers.{Peers}
 use Rattle.client_core.specs.History.{Opening, Entry}
-use Rattle.state_table.proofs.RefusalLemmas.{IsRefusal, one_refusal, more_refusals, first_refusal, state_refusals}
+use Rattle.verify_state.proofs.RefusalLemmas.{IsRefusal, one_refusal, more_refusals, first_refusal, state_refusals}
 use Rattle.client_core.specs.Refusals.{is_for_client, is_begun, has_next, faults_of, faults_of_body, refusal_by}
 use Rattle.client_core.specs.Words.{is_on, words_noted, refusal, peers}
 use Rattle.client_core.specs.Stands.{StandsFor}

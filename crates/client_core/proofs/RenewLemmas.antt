@@ -1,7 +1,7 @@
 -- What a client finds in its note where it is opened.
 use Rattle.std.proofs.Common.{◌≡◌, refl, ◌∙◌, ap, subst, sym, ℕ, arith, eqb-true, Bool, true, false, ◌==◌, ◌&&◌, List, [], ◌∷◌, length, None, Some}
 use Rattle.std.specs.Prelude.{if◌then◌else◌}
-use Rattle.disk_model.specs.declared.left.Left.TheVariants.{Saved}
+use Rattle.disk_model.specs.declared.save_outcome.SaveOutcome.TheVariants.{Saved}
 use Rattle.messages.specs.Ranges.{is_generation}
 use Rattle.client_core.specs.Note.{Says, blank, new_note}
 use Rattle.client_core.specs.History.{Opening, Entry, Renew}

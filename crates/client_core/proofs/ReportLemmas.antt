@@ -10,7 +10,7 @@ use Rattle.messages.specs.declared.body.Body.{Body}
 use Rattle.messages.specs.declared.body.Body.TheVariants as bodies
 use Rattle.messages.specs.declared.node.Node.{Node}
 use Rattle.messages.specs.Nodes.{node_number}
-use Rattle.disk_model.specs.declared.left.Left.{Left}
+use Rattle.disk_model.specs.declared.save_outcome.SaveOutcome.{SaveOutcome}
 use Rattle.client_core.specs.Inputs.{PacketInput, Begin, Trigger, Stop, Verify, Deliver, Tick}
 use Rattle.client_core.specs.declared.received.Received.{Received}
 use Rattle.client_core.specs.declared.peers.Peers.{Peers}
@@ -58,7 +58,7 @@ heard servers from to (bodies.Report run attempt job jobs report) before deeds r
     (added (Came (p ∷ before)) r rs (has_report r.attempt r.server r.job rs) (jobs, there) k) k
 heard servers from to _ before deeds rs ours k = k
 
-step : (on : Bool) (servers : Peers) (o : Opening) (past : List Entry) (c : PacketInput) (left : Left) (b : Bool)
+step : (on : Bool) (servers : Peers) (o : Opening) (past : List Entry) (c : PacketInput) (left : SaveOutcome) (b : Bool)
     → (b ≡ true → refusal_by on servers (words_noted o past) c ≡ None)
     → AllByRecursion (Came (packet_in (Met c left) ++ packets_come past)) (reports (life o past))
     → AllByRecursion (Came (packet_in (Met c left) ++ packets_come past)) (reports (if b then deeds_of (words_noted o past) c ++ life o past else life o past))

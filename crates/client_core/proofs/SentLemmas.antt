@@ -9,11 +9,11 @@ use Rattle.messages.specs.declared.body.Body.{Body}
 use Rattle.messages.specs.declared.body.Body.TheVariants as bodies
 use Rattle.messages.specs.declared.node.Node.TheVariants as nodes
 use Rattle.messages.specs.Bodies.{kind_of}
-use Rattle.disk_model.specs.declared.left.Left.{Left}
-use Rattle.disk_model.specs.Left.{has_new}
+use Rattle.disk_model.specs.declared.save_outcome.SaveOutcome.{SaveOutcome}
+use Rattle.disk_model.specs.SaveOutcome.{has_new}
 use Rattle.client_core.specs.Inputs.{PacketInput, Deliver}
-use Rattle.state_table.specs.Kept.{kept_of}
-use Rattle.state_table.specs.Laws.{FoundHasItsKey, LastIsFound}
+use Rattle.verify_state.specs.StateTable.{kept_of}
+use Rattle.verify_state.specs.TableLaws.{FoundHasItsKey, LastIsFound}
 use Rattle.client_core.specs.declared.note.ClientNote.{ClientNote}
 use Rattle.client_core.specs.History.{Opening, Entry, Met, Cut, Restart, Renew, Lose}
 use Rattle.client_core.specs.Saves.{Addition, unless_kept, unless_refused, noted_after, is_answer}
@@ -75,14 +75,14 @@ nothing_due None = refl
 nothing_due (Some fault) = refl
 
 -- What a server that wants a state says adds nothing to the note.
-none_by : (o : Opening) (past : List Entry) (c : PacketInput) (left : Left) (run attempt s job : ℕ) → IsSaid c s (bodies.WantState run attempt job)
+none_by : (o : Opening) (past : List Entry) (c : PacketInput) (left : SaveOutcome) (run attempt s job : ℕ) → IsSaid c s (bodies.WantState run attempt job)
     → words_noted o (Met c left ∷ past) ≡ words_noted o past
 none_by o past c left run attempt s job said =
     let d = nothing_due (refusal o past (Deliver (from_server (bodies.WantState run attempt job) s))) in
     subst (λ e. words_noted o (Met e left ∷ past) ≡ words_noted o past) (sym said)
     (ap (λ x. noted_after (has_new left) x (words_noted o past)) d)
 
-none_there : (o : Opening) (past : List Entry) (c : PacketInput) (left : Left) (run attempt server job : ℕ)
+none_there : (o : Opening) (past : List Entry) (c : PacketInput) (left : SaveOutcome) (run attempt server job : ℕ)
     → SendsTo o.servers (words_noted o past) (life o past) c (to_server (bodies.NoSaved run attempt job) server)
     → kept_state o (Met c left ∷ past) (record { run = run; server = server; job = job }) ≡ None
 none_there o past c left run attempt server job w =
@@ -104,7 +104,7 @@ no_saved_is_of_none o past (Renew g left) run attempt server job h = absurd (non
 no_saved_is_of_none o past Lose run attempt server job h = absurd (none_in (to_server (bodies.NoSaved run attempt job) server) h)
 
 -- Each Copy is of a state of the note, or of the State that has just come.
-copy_by : (o : Opening) (past : List Entry) (c : PacketInput) (left : Left) (state : State) → WhyMirror (words_noted o past) c (bodies.Copy state)
+copy_by : (o : Opening) (past : List Entry) (c : PacketInput) (left : SaveOutcome) (state : State) → WhyMirror (words_noted o past) c (bodies.Copy state)
     → Contains (words_noted o past).kept state ⊎ ((server jobs : ℕ) × Contains (packet_in (Met c left)) (from_server (bodies.State jobs state) server))
 copy_by o past c left state (inl kept) = inl kept
 copy_by o past c left state (inr said) =
@@ -126,13 +126,13 @@ copies_are_of_states o past (Renew g left) p state h e = absurd (none_in p h)
 copies_are_of_states o past Lose p state h e = absurd (none_in p h)
 
 -- a state that was answered is kept under its server's key
-answered_one : LastIsFound → (n : ClientNote) (left : Left) (state : State) (r : Option Fault)
+answered_one : LastIsFound → (n : ClientNote) (left : SaveOutcome) (state : State) (r : Option Fault)
     → (is_none r && is_answer (unless_refused r (unless_kept (kept_of state.key n.kept) state)) left) ≡ true
     → (s : State) × (kept_of state.key (noted_after (has_new left) (unless_refused r (unless_kept (kept_of state.key n.kept) state)) n).kept ≡ Some s)
 answered_one last n left state None a = has_one last n left (kept_of state.key n.kept) state refl a
 answered_one last n left state (Some f) a = cc
 
-kept_by : LastIsFound → (o : Opening) (past : List Entry) (c : PacketInput) (left : Left) (jobs s : ℕ) (state : State) → IsSaid c s (bodies.State jobs state)
+kept_by : LastIsFound → (o : Opening) (past : List Entry) (c : PacketInput) (left : SaveOutcome) (jobs s : ℕ) (state : State) → IsSaid c s (bodies.State jobs state)
     → is_answered o past c left ≡ true → refusal o past c ≡ None
     → (state.key.server ≡ s) × ((x : State) × (kept_of state.key (words_noted o (Met c left ∷ past)).kept ≡ Some x))
 kept_by last o past c left jobs s state e a r =
@@ -151,7 +151,7 @@ AckedFor after entry run server job =
     ((state : State) × (kept_of (record { run = run; server = server; job = job }) after.kept ≡ Some state))
     ⊎ ((jobs : ℕ) × Contains (packet_in entry) (from_server (bodies.NoState run job jobs) server))
 
-acked : LastIsFound → (o : Opening) (past : List Entry) (c : PacketInput) (left : Left) (run server job : ℕ) → is_answered o past c left ≡ true
+acked : LastIsFound → (o : Opening) (past : List Entry) (c : PacketInput) (left : SaveOutcome) (run server job : ℕ) → is_answered o past c left ≡ true
     → refusal o past c ≡ None → Why (words_noted o past) (life o past) c server (bodies.StateAck run job)
     → AckedFor (words_noted o (Met c left ∷ past)) (Met c left) run server job
 acked last o past c left run server job a r (inl w) =

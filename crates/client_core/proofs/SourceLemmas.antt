@@ -8,10 +8,10 @@ use Rattle.messages.specs.declared.packet.PacketParts.{PacketParts}
 use Rattle.messages.specs.declared.body.Body.{Body}
 use Rattle.messages.specs.declared.body.Body.TheVariants as bodies
 use Rattle.messages.specs.declared.node.Node.{Node}
-use Rattle.disk_model.specs.declared.left.Left.{Left}
-use Rattle.disk_model.specs.Left.{has_new}
+use Rattle.disk_model.specs.declared.save_outcome.SaveOutcome.{SaveOutcome}
+use Rattle.disk_model.specs.SaveOutcome.{has_new}
 use Rattle.client_core.specs.Inputs.{PacketInput, Begin, Trigger, Stop, Verify, Deliver, Tick}
-use Rattle.state_table.specs.Kept.{kept_of}
+use Rattle.verify_state.specs.StateTable.{kept_of}
 use Rattle.client_core.specs.declared.note.ClientNote.{ClientNote}
 use Rattle.client_core.specs.declared.peers.Peers.{Peers}
 use Rattle.client_core.specs.History.{Opening, Entry, Met, Cut, Restart, Renew, Lose}
@@ -73,7 +73,7 @@ by_packet peers n from to (bodies.Copy state) s new None ours h =
     by_copy peers n from to state s (ours refl) (was_or_is n new state s (kept_of state.key n.kept) h)
 by_packet peers n from to _ s new None ours h = inl h
 
-by_call : (peers : Peers) (on : Bool) (n : ClientNote) (c : PacketInput) (left : Left) (s : State) → Contains (noted_after (has_new left) (due_by on peers n c) n).kept s
+by_call : (peers : Peers) (on : Bool) (n : ClientNote) (c : PacketInput) (left : SaveOutcome) (s : State) → Contains (noted_after (has_new left) (due_by on peers n c) n).kept s
     → IsFrom n (packet_in (Met c left)) s
 by_call peers on n (Begin text) left s h = inl (run_keeps (has_new left) (refusal_by on peers n (Begin text)) n s h)
 by_call peers on n (Trigger run act) left s h = inl (none_keeps (has_new left) (refusal_by on peers n (Trigger run act)) n s h)

@@ -13,9 +13,9 @@ use Rattle.messages.specs.Ranges.{is_jobs, is_job_of}
 use Rattle.client_core.specs.Requests.{Telling, Request, jobs_told, tells_of, tells_all, has_misfit, when_one_tells}
 use Rattle.client_core.specs.Requests as requests
 use Rattle.client_core.specs.declared.outcome.Outcome.TheVariants as outcomes
-use Rattle.client_core.specs.declared.standing.Standing.{Standing}
+use Rattle.client_core.specs.declared.request_status.RequestStatus.{RequestStatus}
 use Rattle.client_core.specs.Outcomes.{request_outcome}
-use Rattle.client_core.specs.Standing.{IsOpen, IsRequestKept, jobs_with, all_told, outcome_with, with_answer}
+use Rattle.client_core.specs.RequestStatus.{IsOpen, IsRequestKept, jobs_with, all_told, outcome_with, with_answer}
 
 -- the number of jobs with one more answer
 told_jobs : (t : Telling) (ts : List Telling) (jobs : ℕ) → jobs ≡ jobs_told ts → (ts ≡ []) ⊎ (1 ≤ jobs_told ts) → jobs_with jobs t.jobs ≡ jobs_told (t ∷ ts)
@@ -82,13 +82,13 @@ misfits t (u ∷ ts) misfit e any =
     let n = jobs_told (u ∷ ts) in
     ap (λ y. y || (t.misfit && nat_lt t.job n)) e ∙ turn (has_misfit (u ∷ ts)) (t.misfit && nat_lt t.job n)
 
-ends : (s : Standing) (t : Telling) (ts : List Telling) (all misfit : Bool) → s.outcome ≡ outcome_with all misfit → (all ≡ false → IsOpen s (t ∷ ts))
+ends : (s : RequestStatus) (t : Telling) (ts : List Telling) (all misfit : Bool) → s.outcome ≡ outcome_with all misfit → (all ≡ false → IsOpen s (t ∷ ts))
     → IsRequestKept s (if all then (if misfit then requests.Denied reasons.Misfit else requests.Served) else requests.Open (t ∷ ts))
 ends s t ts true true e f = e
 ends s t ts true false e f = e
 ends s t ts false misfit e f = f refl
 
-answers : (t : Telling) (s : Standing) (ts : List Telling) → 1 ≤ t.jobs → t.jobs ≤ MAX_JOBS → length s.told ≡ MAX_JOBS → IsOpen s ts
+answers : (t : Telling) (s : RequestStatus) (ts : List Telling) → 1 ≤ t.jobs → t.jobs ≤ MAX_JOBS → length s.told ≡ MAX_JOBS → IsOpen s ts
     → IsRequestKept (with_answer t s) (when_one_tells t (requests.Open ts))
 answers t s ts some few long w =
     let more = slice_set s.told t.job true in
@@ -120,7 +120,7 @@ answers t s ts some few long w =
     below true x y h k = h
     below false x y h k = k
 
-pub tells : (t : Telling) (s : Standing) (q : Request) → is_job_of t.job t.jobs ≡ true → length s.told ≡ MAX_JOBS → s.outcome ≡ outcomes.Open
+pub tells : (t : Telling) (s : RequestStatus) (q : Request) → is_job_of t.job t.jobs ≡ true → length s.told ≡ MAX_JOBS → s.outcome ≡ outcomes.Open
     → IsRequestKept s q → IsRequestKept (with_answer t s) (when_one_tells t q)
 tells t s (requests.Open ts) ranges long o k =
     let p = and_parts (is_jobs t.jobs) (nat_lt t.job t.jobs) ranges in
@@ -147,7 +147,7 @@ pub unset : (j : ℕ) → slice_index_or sixteen j false ≡ false
 unset j = none_set sixteen refl j
 
 -- how what is kept of a request stands is how the request does
-pub outcome_kept : (s : Standing) (q : Request) → IsRequestKept s q → s.outcome ≡ request_outcome q
+pub outcome_kept : (s : RequestStatus) (q : Request) → IsRequestKept s q → s.outcome ≡ request_outcome q
 outcome_kept s (requests.Open ts) k = k.open_yet
 outcome_kept s requests.Unasked k = k
 outcome_kept s requests.Served k = k

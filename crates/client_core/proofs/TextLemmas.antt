@@ -9,7 +9,7 @@ use Rattle.fc_base.specs.Counted.{has, is_distinct}
 use Rattle.messages.specs.declared.packet.PacketParts.{PacketParts}
 use Rattle.messages.specs.declared.body.Body.{Body}
 use Rattle.messages.specs.declared.body.Body.TheVariants as bodies
-use Rattle.disk_model.specs.declared.left.Left.{Left}
+use Rattle.disk_model.specs.declared.save_outcome.SaveOutcome.{SaveOutcome}
 use Rattle.client_core.specs.Inputs.{PacketInput, Begin, Verify}
 use Rattle.client_core.specs.declared.note.ClientNote.{ClientNote}
 use Rattle.client_core.specs.History.{Opening, Entry, Met, Cut, Restart, Renew, Lose}
@@ -64,7 +64,7 @@ carries_more o e past (bodies.Jobs run text) h = done_stays o e past (Begins run
 carries_more o e past (bodies.Verify run attempt text) h = done_stays o e past (Verifies run attempt text) h
 carries_more o e past _ h = tt
 
-jobs_carry : (o : Opening) (past : List Entry) (c : PacketInput) (left : Left) (s run : ℕ) (text : List ℕ) → is_answered o past c left ≡ true
+jobs_carry : (o : Opening) (past : List Entry) (c : PacketInput) (left : SaveOutcome) (s run : ℕ) (text : List ℕ) → is_answered o past c left ≡ true
     → Why (words_noted o past) (life o past) c s (bodies.Jobs run text) → Carries (deeds_done o (Met c left ∷ past)) (bodies.Jobs run text)
 jobs_carry o past c left s run text a (inl w) =
     subst (λ r. Carries (deeds_done o (Met c left ∷ past)) (bodies.Jobs r text)) (sym w.1)
@@ -74,7 +74,7 @@ jobs_carry o past c left s run text a (inr w) =
     let d = life_was_done o past (Begins run (text_of run (life o past))) (begun_was run s (life o past) w.1) in
     done_stays o (Met c left) past (Begins run text) (subst (λ t. Contains (deeds_done o past) (Begins run t)) (sym w.0) d)
 
-verify_carries : (o : Opening) (past : List Entry) (c : PacketInput) (left : Left) (s run attempt : ℕ) (text : List ℕ) → is_answered o past c left ≡ true
+verify_carries : (o : Opening) (past : List Entry) (c : PacketInput) (left : SaveOutcome) (s run attempt : ℕ) (text : List ℕ) → is_answered o past c left ≡ true
     → Why (words_noted o past) (life o past) c s (bodies.Verify run attempt text) → Carries (deeds_done o (Met c left ∷ past)) (bodies.Verify run attempt text)
 verify_carries o past c left s run attempt text a (inl w) =
     subst (λ x. Carries (deeds_done o (Met c left ∷ past)) (bodies.Verify run x text)) (sym w.1)
@@ -86,13 +86,13 @@ verify_carries o past c left s run attempt text a (inr w) =
     (subst (λ r. Contains (deeds_done o past) (Verifies r attempt text)) (sym w.0)
     (subst (λ t. Contains (deeds_done o past) (Verifies (run_of attempt (life o past)) attempt t)) (sym w.1) d))
 
-pub why_carries : (o : Opening) (past : List Entry) (c : PacketInput) (left : Left) (s : ℕ) (body : Body) → is_answered o past c left ≡ true
+pub why_carries : (o : Opening) (past : List Entry) (c : PacketInput) (left : SaveOutcome) (s : ℕ) (body : Body) → is_answered o past c left ≡ true
     → Why (words_noted o past) (life o past) c s body → Carries (deeds_done o (Met c left ∷ past)) body
 why_carries o past c left s (bodies.Jobs run text) a w = jobs_carry o past c left s run text a w
 why_carries o past c left s (bodies.Verify run attempt text) a w = verify_carries o past c left s run attempt text a w
 why_carries o past c left s _ a w = tt
 
-mirror_carries : (o : Opening) (past : List Entry) (c : PacketInput) (left : Left) (body : Body) → WhyMirror (words_noted o past) c body
+mirror_carries : (o : Opening) (past : List Entry) (c : PacketInput) (left : SaveOutcome) (body : Body) → WhyMirror (words_noted o past) c body
     → Carries (deeds_done o (Met c left ∷ past)) body
 mirror_carries o past c left (bodies.Copy state) w = tt
 mirror_carries o past c left (bodies.Fetch generation) w = tt

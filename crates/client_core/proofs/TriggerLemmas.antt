@@ -13,16 +13,16 @@ use Rattle.messages.specs.declared.packet.PacketParts.{PacketParts}
 use Rattle.messages.specs.declared.body.Body.{Body}
 use Rattle.messages.specs.declared.body.Body.TheVariants as bodies
 use Rattle.messages.specs.declared.node.Node.{Node}
-use Rattle.messages.specs.declared.refusal.Asked.{Asked}
-use Rattle.messages.specs.declared.refusal.Asked.TheVariants as asks
+use Rattle.messages.specs.declared.refusal.RefusedRequest.{RefusedRequest}
+use Rattle.messages.specs.declared.refusal.RefusedRequest.TheVariants as asks
 use Rattle.messages.specs.declared.refusal.Reason.{Reason}
 use Rattle.messages.specs.declared.refusal.Reason.TheVariants as reasons
 use Rattle.messages.specs.Nodes.{node_number}
-use Rattle.disk_model.specs.declared.left.Left.{Left}
-use Rattle.disk_model.specs.Left.{has_new}
+use Rattle.disk_model.specs.declared.save_outcome.SaveOutcome.{SaveOutcome}
+use Rattle.disk_model.specs.SaveOutcome.{has_new}
 use Rattle.client_core.specs.Inputs.{PacketInput, Begin, Trigger, Stop, Verify, Deliver, Tick}
-use Rattle.state_table.specs.Kept.{kept_of}
-use Rattle.state_table.specs.Laws.{LastIsFound}
+use Rattle.verify_state.specs.StateTable.{kept_of}
+use Rattle.verify_state.specs.TableLaws.{LastIsFound}
 use Rattle.client_core.specs.declared.note.ClientNote.{ClientNote}
 use Rattle.client_core.specs.declared.peers.Peers.{Peers}
 use Rattle.client_core.specs.History.{Opening, Entry, Met, Cut, Restart, Renew, Lose}
@@ -143,7 +143,7 @@ refused_one n packets run server reason requests.Unasked k = k
 refused_one n packets run server reason requests.Served k = k
 refused_one n packets run server reason (requests.Denied r) k = k
 
-denied : (n : ClientNote) (packets : List PacketParts) (run server : ℕ) (asked : Asked) (reason : Reason) (q : Request) → Known n packets run server q
+denied : (n : ClientNote) (packets : List PacketParts) (run server : ℕ) (asked : RefusedRequest) (reason : Reason) (q : Request) → Known n packets run server q
     → Known n packets run server (trigger_refused asked reason q)
 denied n packets run server asks.Trigger reason q k = refused_one n packets run server reason q k
 denied n packets run server _ reason q k = k
@@ -153,7 +153,7 @@ either : (n : ClientNote) (packets : List PacketParts) (run server : ℕ) (b : B
 either n packets run server true q r f k = f refl
 either n packets run server false q r f k = k
 
-heard : LastIsFound → (servers : Peers) (n : ClientNote) (run server : ℕ) (from to : Node) (body : Body) (left : Left) (before : List PacketParts) (q : Request)
+heard : LastIsFound → (servers : Peers) (n : ClientNote) (run server : ℕ) (from to : Node) (body : Body) (left : SaveOutcome) (before : List PacketParts) (q : Request)
     → is_for_client servers (record { from = from; to = to; body = body }) ≡ true → is_answer (addition_by n body) left ≡ true → node_number from ≡ server
     → Known (noted_after (has_new left) (addition_by n body) n) (record { from = from; to = to; body = body } ∷ before) run server q
     → Known (noted_after (has_new left) (addition_by n body) n) (record { from = from; to = to; body = body } ∷ before) run server (trigger_heard run body q)
@@ -197,7 +197,7 @@ heard last servers n run server from to (bodies.Refused r) left before q ours a 
     either n more run server (r.run == run) (trigger_refused r.asked r.reason q) q (λ e. denied n more run server r.asked r.reason q k) k
 heard last servers n run server from to _ left before q ours a here k = k
 
-called : LastIsFound → (on : Bool) (servers : Peers) (n : ClientNote) (c : PacketInput) (left : Left) (before : List PacketParts) (run server : ℕ) (deeds : List Deed)
+called : LastIsFound → (on : Bool) (servers : Peers) (n : ClientNote) (c : PacketInput) (left : SaveOutcome) (before : List PacketParts) (run server : ℕ) (deeds : List Deed)
     (r : Option Fault) → r ≡ refusal_by on servers n c
     → Known (noted_after (has_new left) (unless_refused r (addition_of n c)) n) (packet_in (Met c left) ++ before) run server (trigger_at run server deeds)
     → Known (noted_after (has_new left) (unless_refused r (addition_of n c)) n) (packet_in (Met c left) ++ before) run server

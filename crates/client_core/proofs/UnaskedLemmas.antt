@@ -3,8 +3,8 @@ use Rattle.std.proofs.Common.{◌≡◌, refl, ap, ◌∙◌, ℕ, Bool, true, f
 use Rattle.std.specs.Prelude.{if◌then◌else◌}
 use Rattle.messages.specs.declared.body.Body.{Body}
 use Rattle.messages.specs.declared.body.Body.TheVariants as bodies
-use Rattle.messages.specs.declared.refusal.Asked.{Asked}
-use Rattle.messages.specs.declared.refusal.Asked.TheVariants as asks
+use Rattle.messages.specs.declared.refusal.RefusedRequest.{RefusedRequest}
+use Rattle.messages.specs.declared.refusal.RefusedRequest.TheVariants as asks
 use Rattle.messages.specs.declared.refusal.Reason.{Reason}
 use Rattle.messages.specs.declared.refusal.Reason.TheVariants as reasons
 use Rattle.client_core.specs.declared.beginning.Beginning.TheVariants.{Unbegun}
@@ -62,28 +62,28 @@ start_not_refused reasons.Unknown = refl
 start_not_refused reasons.BadJobs = refl
 start_not_refused reasons.Misfit = refl
 
-begin_not_refused : (asked : Asked) (reason : Reason) → begin_refused asked reason Unbegun ≡ Unbegun
+begin_not_refused : (asked : RefusedRequest) (reason : Reason) → begin_refused asked reason Unbegun ≡ Unbegun
 begin_not_refused asks.Jobs reason = jobs_not_refused reason
 begin_not_refused asks.Start reason = start_not_refused reason
 begin_not_refused asks.Trigger reason = refl
 begin_not_refused asks.Stop reason = refl
 begin_not_refused asks.Verify reason = refl
 
-trigger_not_refused : (asked : Asked) (reason : Reason) → trigger_refused asked reason Unasked ≡ Unasked
+trigger_not_refused : (asked : RefusedRequest) (reason : Reason) → trigger_refused asked reason Unasked ≡ Unasked
 trigger_not_refused asks.Jobs reason = refl
 trigger_not_refused asks.Start reason = refl
 trigger_not_refused asks.Trigger reason = not_refused reason
 trigger_not_refused asks.Stop reason = refl
 trigger_not_refused asks.Verify reason = refl
 
-stop_not_refused : (asked : Asked) (reason : Reason) → stop_refused asked reason Unasked ≡ Unasked
+stop_not_refused : (asked : RefusedRequest) (reason : Reason) → stop_refused asked reason Unasked ≡ Unasked
 stop_not_refused asks.Jobs reason = refl
 stop_not_refused asks.Start reason = refl
 stop_not_refused asks.Trigger reason = refl
 stop_not_refused asks.Stop reason = not_refused reason
 stop_not_refused asks.Verify reason = refl
 
-verify_not_refused : (asked : Asked) (t : Telling) (reason : Reason) → verify_refused asked t reason Unasked ≡ Unasked
+verify_not_refused : (asked : RefusedRequest) (t : Telling) (reason : Reason) → verify_refused asked t reason Unasked ≡ Unasked
 verify_not_refused asks.Jobs t reason = refl
 verify_not_refused asks.Start t reason = refl
 verify_not_refused asks.Trigger t reason = refl

@@ -4,9 +4,9 @@ use Rattle.std.specs.Prelude.{if◌then◌else◌, is_none, nat_le}
 use Rattle.std.specs.List.{AllByRecursion}
 use Rattle.std.proofs.lemmas.Bool.{and_parts}
 use Rattle.fc_base.specs.declared.fault.Fault.{Fault}
-use Rattle.disk_model.specs.declared.left.Left.{Left}
-use Rattle.disk_model.specs.declared.left.Left.TheVariants.{NoSave, Saved, LostNew, LostOld}
-use Rattle.disk_model.specs.Left.{has_new}
+use Rattle.disk_model.specs.declared.save_outcome.SaveOutcome.{SaveOutcome}
+use Rattle.disk_model.specs.declared.save_outcome.SaveOutcome.TheVariants.{NoSave, Saved, LostNew, LostOld}
+use Rattle.disk_model.specs.SaveOutcome.{has_new}
 use Rattle.messages.specs.Nodes.{node_number}
 use Rattle.client_core.specs.Inputs.{PacketInput, Begin, Trigger, Stop, Verify, Deliver, Tick}
 use Rattle.client_core.specs.declared.note.ClientNote.{ClientNote}
@@ -70,7 +70,7 @@ same : (runs attempts : ℕ) (b : Bool) (ds : List Deed) → AllByRecursion (Wit
 same runs attempts true ds k = k
 same runs attempts false ds k = k
 
-step : (n : ClientNote) (c : PacketInput) (r : Option Fault) (left : Left) (ds : List Deed) → (r ≡ None → Own n c) → AllByRecursion (Within n.runs n.attempts) ds
+step : (n : ClientNote) (c : PacketInput) (r : Option Fault) (left : SaveOutcome) (ds : List Deed) → (r ≡ None → Own n c) → AllByRecursion (Within n.runs n.attempts) ds
     → AllByRecursion (Within (noted_after (has_new left) (unless_refused r (addition_of n c)) n).runs
     (noted_after (has_new left) (unless_refused r (addition_of n c)) n).attempts)
     (if is_none r && is_answer (unless_refused r (addition_of n c)) left then deeds_of n c ++ ds else ds)

@@ -2,8 +2,8 @@
 use Rattle.std.specs.Prelude.{ℕ, ◌==◌, if◌then◌else◌, List, [], ◌∷◌}
 use Rattle.messages.specs.declared.body.Body.{Body}
 use Rattle.messages.specs.declared.body.Body.TheVariants as bodies
-use Rattle.messages.specs.declared.refusal.Asked.{Asked}
-use Rattle.messages.specs.declared.refusal.Asked.TheVariants as asks
+use Rattle.messages.specs.declared.refusal.RefusedRequest.{RefusedRequest}
+use Rattle.messages.specs.declared.refusal.RefusedRequest.TheVariants as asks
 use Rattle.messages.specs.declared.refusal.Reason.{Reason}
 use Rattle.messages.specs.declared.refusal.Reason.TheVariants as reasons
 use Rattle.client_core.specs.declared.beginning.Beginning.{Beginning}
@@ -15,7 +15,7 @@ abbrev pub when_staged : Beginning → Beginning
 when_staged Staging = Starting
 when_staged b = b
 
--- Started answers Start.
+-- Started answers an open Start.
 abbrev pub when_started : Beginning → Beginning
 when_started Starting = Started
 when_started b = b
@@ -28,8 +28,8 @@ jobs_refused reasons.Misfit b = b
 jobs_refused reason Staging = Denied reason
 jobs_refused reason b = b
 
--- It is the same with an open Start, but that a server which has no jobs of the run is sent them
--- again.
+-- A server that is busy is asked again, one that has no jobs of the run is sent them again, and a
+-- misfit is none of Start; any other reason ends an open Start.
 abbrev pub start_refused : Reason → Beginning → Beginning
 start_refused reasons.Busy b = b
 start_refused reasons.Misfit b = b
@@ -38,7 +38,7 @@ start_refused reason Starting = Denied reason
 start_refused reason b = b
 
 -- Only a refusal of Jobs or of Start counts.
-abbrev pub begin_refused : Asked → Reason → Beginning → Beginning
+abbrev pub begin_refused : RefusedRequest → Reason → Beginning → Beginning
 begin_refused asks.Jobs reason b = jobs_refused reason b
 begin_refused asks.Start reason b = start_refused reason b
 begin_refused _ reason b = b

@@ -2,7 +2,7 @@
 use Rattle.std.specs.Prelude.{ℕ, ◌+◌, ◌*◌, ◌≤◌, Bool, true, false, if◌then◌else◌, List, ◌∷◌, filter, length, sum_by}
 use Rattle.fc_base.specs.declared.limits.TheConstants.{MAX_SERVERS}
 use Rattle.messages.specs.declared.limits.TheConstants.{MAX_FRAMED, MAX_FRAMES}
-use Rattle.disk_model.specs.declared.left.Left.{Left}
+use Rattle.disk_model.specs.declared.save_outcome.SaveOutcome.{SaveOutcome}
 use Rattle.client_core.specs.Inputs.{PacketInput, Tick}
 use Rattle.client_core.specs.History.{Opening, Entry, Met}
 use Rattle.client_core.specs.Framed.{frame_bytes}
@@ -30,10 +30,10 @@ abbrev pub most_packets : Opening → List Entry → PacketInput → ℕ
 most_packets opening past Tick = opening.servers * requests opening past + most_copies opening past
 most_packets opening past _ = MAX_SERVERS
 
--- A call sends no more.
+-- A call sends no more packets than its bound says.
 abbrev pub PacketsAreFew : Type 0
 PacketsAreFew =
-    (opening : Opening) (past : List Entry) (c : PacketInput) (left : Left) →
+    (opening : Opening) (past : List Entry) (c : PacketInput) (left : SaveOutcome) →
     opening.servers ≤ MAX_SERVERS →
     length (packets opening past (Met c left)) ≤ most_packets opening past c
 
@@ -45,6 +45,6 @@ pub record AreShort (most : ℕ) (frames : List (List ℕ)) : Type 0 where
 -- What a call sends is short, where what came is within its ranges.
 abbrev pub FramesAreShort : Type 0
 FramesAreShort =
-    (opening : Opening) (past : List Entry) (c : PacketInput) (left : Left) →
+    (opening : Opening) (past : List Entry) (c : PacketInput) (left : SaveOutcome) →
     OpensInRange opening → CameInRange (Met c left ∷ past) →
     AreShort (most_packets opening past c) (frame_bytes (packets opening past (Met c left)))

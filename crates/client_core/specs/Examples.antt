@@ -3,16 +3,16 @@ use Rattle.std.specs.Prelude.{◌≡◌, ℕ, true, false, List, [], ◌∷◌, 
 use Rattle.fc_base.specs.declared.fault.Fault.TheVariants.{Down, Conflict, NoSuchRun, Misdirected, NumbersSpent}
 use Rattle.fc_base.specs.declared.report.ReportParts.{ReportParts}
 use Rattle.fc_base.specs.declared.report.ReportEnd.TheVariants.{Whole}
-use Rattle.disk_model.specs.declared.left.Left.{Left}
-use Rattle.disk_model.specs.declared.left.Left.TheVariants.{NoSave, Saved, LostNew, LostOld}
+use Rattle.disk_model.specs.declared.save_outcome.SaveOutcome.{SaveOutcome}
+use Rattle.disk_model.specs.declared.save_outcome.SaveOutcome.TheVariants.{NoSave, Saved, LostNew, LostOld}
 use Rattle.messages.specs.declared.body.Body.{Body}
 use Rattle.messages.specs.declared.body.Body.TheVariants as bodies
 use Rattle.messages.specs.declared.refusal.Act.TheVariants as acts
-use Rattle.messages.specs.declared.refusal.Asked.{Asked}
-use Rattle.messages.specs.declared.refusal.Asked.TheVariants as asks
+use Rattle.messages.specs.declared.refusal.RefusedRequest.{RefusedRequest}
+use Rattle.messages.specs.declared.refusal.RefusedRequest.TheVariants as asks
 use Rattle.messages.specs.declared.refusal.Reason.{Reason}
 use Rattle.messages.specs.declared.refusal.Reason.TheVariants as reasons
-use Rattle.state_table.specs.Examples.{state}
+use Rattle.verify_state.specs.Examples.{state}
 use Rattle.client_core.specs.Inputs.{PacketInput, Begin, Trigger, Stop, Verify, Deliver, Tick}
 use Rattle.client_core.specs.declared.outcome.Outcome.TheVariants as outcomes
 use Rattle.client_core.specs.declared.outcome.RequestKind.TheVariants as kinds
@@ -37,8 +37,8 @@ text = 91 ∷ []
 abbrev pub server_says : Body → PacketInput
 server_says body = Deliver (from_server body 0)
 
--- It refuses a request of run 1, in this attempt.
-abbrev pub server_refuses : Asked → Reason → ℕ → PacketInput
+-- Server 0 refuses a request of run 1, in this attempt.
+abbrev pub server_refuses : RefusedRequest → Reason → ℕ → PacketInput
 server_refuses asked reason attempt =
     server_says (bodies.Refused (record {
       asked = asked;
@@ -67,7 +67,7 @@ sent_bodies past c = map (λ p. p.body) (packets opening past (answered_entry pa
 abbrev pub after_begin : List Entry
 after_begin = with_calls (Restart false ∷ []) (Begin text ∷ [])
 
--- Its jobs are staged.
+-- The jobs of run 1 are staged.
 abbrev pub after_jobs : List Entry
 after_jobs = with_calls after_begin (server_says (bodies.JobsOk 1 2) ∷ [])
 
@@ -168,7 +168,7 @@ pub record Verifies : Type 0 where
       ∷ [])) kinds.Verify 1 0 ≡ outcomes.Refused reasons.Misfit
 
 -- A save of a begin that failed, and a restart.
-abbrev pub after_lost_begin : Left → List Entry
+abbrev pub after_lost_begin : SaveOutcome → List Entry
 after_lost_begin left = Restart false ∷ (Met (Begin text) left ∷ (Restart false ∷ []))
 
 -- A client whose save failed is down until it is restarted. The run's number is given again only
@@ -212,7 +212,7 @@ pub record AsksAgainInOrder : Type 0 where
       ≡ bodies.Jobs 1 text ∷ (bodies.Trigger 1 acts.Cut ∷
       (bodies.Stop 1 ∷ (bodies.Verify 1 1 text ∷ [])))
 
--- Numbers are spent.
+-- The numbers of a client are spent once it has given the greatest number of a run.
 pub record SpendsNumbers : Type 0 where
   pub spent :
       refusal (record {

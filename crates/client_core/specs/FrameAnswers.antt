@@ -1,7 +1,7 @@
 -- What a client answers to what comes over a network of frames: as to the packets that it hears.
 use Rattle.std.specs.Prelude.{Bool, List, Option, None, is_some}
 use Rattle.fc_base.specs.declared.fault.Fault.{Fault}
-use Rattle.disk_model.specs.Left.{saved_for}
+use Rattle.disk_model.specs.SaveOutcome.{saved_for}
 use Rattle.messages.specs.declared.frame.Frame.{Frame}
 use Rattle.messages.specs.declared.frame.Frame.TheVariants.{Whole, Piece}
 use Rattle.messages.specs.Hearing.{entry_of, frames_by}
@@ -46,7 +46,7 @@ answered_entry opening past e = Met e (saved_for (due opening past e))
 abbrev pub entry_heard : Opening → List FrameEntry → FrameEntry → Option history.Entry
 entry_heard opening past e = entry_of (rules opening) (heard_at opening past) (coming_of e)
 
--- The frames that are sent.
+-- The frames that a client sends with one more entry of its list.
 abbrev pub frames : Opening → List FrameEntry → FrameEntry → List Frame
 frames opening past e =
     frames_by (packets opening) (packets_heard opening past) (entry_heard opening past e)

@@ -3,7 +3,7 @@ use Rattle.std.specs.Prelude.{◌≡◌, ◌≢◌, ℕ, ◌+◌, ◌*◌, Bool,
 use Rattle.std.specs.Prelude.{Result, Ok, Err, IsTrue}
 use Rattle.fc_base.specs.declared.limits.TheConstants.{MAX_SERVERS}
 use Rattle.fc_base.specs.declared.fault.Fault.{Fault}
-use Rattle.disk_model.specs.declared.left.Left.TheVariants.{Saved}
+use Rattle.disk_model.specs.declared.save_outcome.SaveOutcome.TheVariants.{Saved}
 use Rattle.disk_model.specs.Notes.{Note}
 use Rattle.node.specs.Steps.{Words, Steps}
 use Rattle.messages.specs.FrameBytes.{frame_spelling}

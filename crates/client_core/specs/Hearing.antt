@@ -6,7 +6,7 @@ use Rattle.messages.specs.declared.piece.PieceParts.{PieceParts}
 use Rattle.messages.specs.Assemblies.{Row}
 use Rattle.messages.specs.Hearing.{Rules, Heard, Coming, Happens, heard}
 use Rattle.messages.specs.Senses.{Arrival, Framed, Unframed, coming}
-use Rattle.disk_model.specs.declared.left.Left.{Left}
+use Rattle.disk_model.specs.declared.save_outcome.SaveOutcome.{SaveOutcome}
 use Rattle.client_core.specs.Inputs.{PacketInput, FrameInput, Begin, Trigger, Stop, Verify, Deliver, Tick}
 use Rattle.client_core.specs.Inputs as inputs
 use Rattle.client_core.specs.History as history
@@ -17,10 +17,10 @@ use Rattle.client_core.specs.Words.{is_on, refusal}
 -- What came to a client, with what its save left; a cut; a restart, which makes no save, with a
 -- mirror or without one; a renewal with what its save left; the loss of the note.
 pub data FrameEntry : Type 0 where
-  Met : FrameInput → Left → FrameEntry
+  Met : FrameInput → SaveOutcome → FrameEntry
   Cut : FrameEntry
   Restart : Bool → FrameEntry
-  Renew : ℕ → Left → FrameEntry
+  Renew : ℕ → SaveOutcome → FrameEntry
   Lose : FrameEntry
 
 -- A piece is for a client of so many servers: it is from one of them to it, of a kind that servers
@@ -37,7 +37,7 @@ is_end (history.Renew g left) = true
 is_end history.Lose = true
 
 -- How a client hears.
-abbrev pub rules : Opening → Rules PacketInput history.Entry Left
+abbrev pub rules : Opening → Rules PacketInput history.Entry SaveOutcome
 rules opening = record {
   delivers = inputs.Deliver;
   met = history.Met;
@@ -57,7 +57,7 @@ arrival (Deliver f) = Framed f
 arrival Tick = Unframed inputs.Tick
 
 -- What happens to a client, in the terms of hearing.
-abbrev pub coming_of : FrameEntry → Coming history.Entry Left
+abbrev pub coming_of : FrameEntry → Coming history.Entry SaveOutcome
 coming_of (Met e left) = coming history.Met (arrival e) left
 coming_of Cut = Happens history.Cut
 coming_of (Restart mirror) = Happens (history.Restart mirror)
@@ -72,7 +72,7 @@ heard_at opening past = heard (rules opening) (map coming_of past)
 abbrev pub packets_heard : Opening → List FrameEntry → List history.Entry
 packets_heard opening past = (heard_at opening past).entries
 
--- It is on, by the list.
+-- The client is on, by its list of frames.
 abbrev pub is_up : Opening → List FrameEntry → Bool
 is_up opening past = is_on (packets_heard opening past)
 

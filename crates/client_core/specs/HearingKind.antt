@@ -22,7 +22,7 @@ hearing_kind note opening = record {
   IsInRange = IsInRange;
 }
 
--- It keeps the laws of hearing.
+-- The core of a client keeps the laws of hearing.
 pub hearing_laws : {T : Type 0} (note : T → Note) (opening : Opening) →
     Laws (hearing_kind note opening)
 hearing_laws note opening = record {

@@ -2,7 +2,7 @@
 use Rattle.std.specs.Prelude.{◌≡◌, ◌⊎◌, ℕ, ◌<◌, Bool, true, false, not, ◌&&◌, List, [], ◌∷◌, ◌++◌, Some, None, Contains, IsTrue}
 use Rattle.std.specs.List.{AllByRecursion}
 use Rattle.fc_base.specs.declared.numbers.Key.{Key}
-use Rattle.disk_model.specs.declared.left.Left.{Left}
+use Rattle.disk_model.specs.declared.save_outcome.SaveOutcome.{SaveOutcome}
 use Rattle.verify_state.specs.State.{State}
 use Rattle.messages.specs.declared.packet.PacketParts.{PacketParts}
 use Rattle.messages.specs.declared.body.Body.{Body}
@@ -14,7 +14,7 @@ use Rattle.messages.specs.declared.kind.PacketKind.TheVariants as kinds
 use Rattle.messages.specs.Laws.{IsPacket}
 use Rattle.client_core.specs.Inputs.{Tick}
 use Rattle.client_core.specs.declared.received.Received.{Received}
-use Rattle.state_table.specs.Kept.{kept_of}
+use Rattle.verify_state.specs.StateTable.{kept_of}
 use Rattle.client_core.specs.declared.note.ClientNote.{ClientNote}
 use Rattle.client_core.specs.Note.{IsNoted, blank}
 use Rattle.client_core.specs.History.{Opening, Entry, Met, Lose}
@@ -121,7 +121,7 @@ LooksAtAll = (past : List Entry) → is_on past ≡ true → shown_entries past 
 -- A tick asks again and changes nothing.
 abbrev pub TickOnlyLooks : Type 0
 TickOnlyLooks =
-    (opening : Opening) (past : List Entry) (left : Left) →
+    (opening : Opening) (past : List Entry) (left : SaveOutcome) →
     (words_noted opening (Met Tick left ∷ past) ≡ words_noted opening past)
     × (life opening (Met Tick left ∷ past) ≡ life opening past)
 
@@ -216,7 +216,7 @@ has_distinct_reports [] = true
 has_distinct_reports (r ∷ rs) =
     not (has_report r.attempt r.server r.job rs) && has_distinct_reports rs
 
--- So it is with those of this life.
+-- No two reports of this life are of one attempt, server and job.
 abbrev pub OneReportEach : Type 0
 OneReportEach =
     (opening : Opening) (past : List Entry) →

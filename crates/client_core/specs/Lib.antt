@@ -6,6 +6,7 @@ pub mod Examples
 pub mod MirrorExamples
 pub mod FrameAnswers
 pub mod FrameEnds
+pub mod Answers
 pub mod NodeKind
 pub mod Framed
 pub mod Hearing
@@ -25,7 +26,7 @@ pub mod ReportKeys
 pub mod Reports
 pub mod Requests
 pub mod Saves
-pub mod Standing
+pub mod RequestStatus
 pub mod Stands
 pub mod Told
 pub mod Words

@@ -15,7 +15,7 @@ use Rattle.client_core.specs.Life.{Deed, text_of, act_of, run_of, check_of}
 use Rattle.client_core.specs.Begins.{begin_at}
 use Rattle.client_core.specs.Requests.{Unasked, trigger_at, stop_at, verify_at}
 use Rattle.client_core.specs.Reports.{reports}
-use Rattle.client_core.specs.Standing.{IsRequestKept}
+use Rattle.client_core.specs.RequestStatus.{IsRequestKept}
 use Rattle.client_core.specs.Packets.{is_copied}
 
 -- P holds of each, beside its place.
@@ -73,7 +73,7 @@ abbrev pub AttemptsAre : Life → List Deed → Type 0
 AttemptsAre kept deeds =
     (attempt : ℕ) → AttemptFor attempt deeds (get nat_cmp kept.attempts attempt)
 
--- It is known of each key whether the mirror said that it keeps the state.
+-- What is kept of this life says of each key whether the mirror has said that it keeps the state.
 abbrev pub CopiedAre : Life → List Deed → Type 0
 CopiedAre kept deeds =
     (key : Key) → contains is_same_key kept.copied key ≡ is_copied key deeds

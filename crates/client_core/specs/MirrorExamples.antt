@@ -1,12 +1,12 @@
 -- A client with a mirror, followed by hand.
 use Rattle.std.specs.Prelude.{◌≡◌, true, false, List, [], ◌∷◌, Some, None}
 use Rattle.fc_base.specs.declared.fault.Fault.TheVariants.{Misdirected, NumbersSpent}
-use Rattle.disk_model.specs.declared.left.Left.TheVariants.{Saved}
+use Rattle.disk_model.specs.declared.save_outcome.SaveOutcome.TheVariants.{Saved}
 use Rattle.messages.specs.declared.body.Body.{Body}
 use Rattle.messages.specs.declared.body.Body.TheVariants as bodies
 use Rattle.messages.specs.declared.refusal.Act.TheVariants as acts
 use Rattle.verify_state.specs.State.{State}
-use Rattle.state_table.specs.Examples.{state}
+use Rattle.verify_state.specs.Examples.{state}
 use Rattle.client_core.specs.Inputs.{PacketInput, Begin, Trigger, Deliver, Tick}
 use Rattle.client_core.specs.History.{Entry, Cut, Restart, Renew, Lose}
 use Rattle.client_core.specs.Words.{refusal, kept_state}
@@ -43,15 +43,15 @@ pub record NumbersOnceGranted : Type 0 where
 abbrev pub begun_anew : List Entry
 begun_anew = with_calls after_grant (Trigger 4294967297 acts.None ∷ (Begin text ∷ []))
 
--- Its state.
+-- The state of server 0's job 0 in the first run of generation 1.
 abbrev pub state_anew : State
 state_anew = record (state 0 2) { key = record { run = 4294967297; server = 0; job = 0 } }
 
--- It is kept.
+-- The state of generation 1's first run has come to the client, which keeps it.
 abbrev pub kept_anew : List Entry
 kept_anew = with_calls begun_anew (server_says (bodies.State 1 state_anew) ∷ [])
 
--- The mirror keeps it, too.
+-- The mirror, too, keeps the state of generation 1's first run.
 abbrev pub copied_anew : List Entry
 copied_anew = with_calls kept_anew (mirror_says (bodies.CopyOk 4294967297 0 0) ∷ [])
 

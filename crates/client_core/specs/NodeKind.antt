@@ -1,5 +1,4 @@
 -- What kind of node the client is.
-use Rattle.std.specs.Prelude.{ℕ, List}
 use Rattle.disk_model.specs.Notes.{Note}
 use Rattle.client_core.specs.declared.client.Client.{Client}
 use Rattle.client_core.specs.Inputs.{FrameInput}
@@ -7,15 +6,17 @@ use Rattle.client_core.specs.History.{Opening}
 use Rattle.client_core.specs.Note.{Says}
 use Rattle.client_core.specs.Words.{words_noted}
 use Rattle.client_core.specs.Saves.{Addition}
-use Rattle.client_core.specs.Hearing.{FrameEntry, packets_heard}
-use Rattle.client_core.specs.FrameEnds.{steps}
+use Rattle.client_core.specs.Hearing.{FrameEntry, Cut, packets_heard}
+use Rattle.client_core.specs.declared.outs.Outs.{Outs}
+use Rattle.client_core.specs.Answers.{node_steps}
 use Rattle.node.specs.Kinds.{Kind}
 
 -- The kind of a client that was opened so.
 abbrev pub client_kind : {T : Type 0} → (T → Note) → Opening →
-    Kind (Client T) T FrameInput FrameEntry Addition (List (List ℕ))
+    Kind (Client T) T FrameInput FrameEntry Addition Outs
 client_kind note opening = record {
-  core = steps note opening;
+  core = node_steps note opening;
   note = note;
   Says = λ past notes. Says (note notes).bytes (words_noted opening (packets_heard opening past));
+  cut = Cut;
 }

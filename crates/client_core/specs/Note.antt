@@ -4,12 +4,12 @@ use Rattle.std.specs.List.{AllByRecursion}
 use Rattle.std.specs.Int.{w32, w64}
 use Rattle.fc_base.specs.declared.limits.TheConstants.{MAX_GENERATION}
 use Rattle.fc_base.specs.Layouts.{bytes_of, number_in}
-use Rattle.state_table.specs.declared.kept.TheConstants.{KEPT_LIMIT}
+use Rattle.verify_state.specs.declared.table.TheConstants.{KEPT_LIMIT}
 use Rattle.verify_state.specs.State.{IsState}
 use Rattle.verify_state.specs.Spelling.{spelling as state_bytes}
-use Rattle.state_table.specs.Counted.{counted_states, SayStates}
-use Rattle.state_table.specs.Kept.{has_distinct_keys}
-use Rattle.state_table.specs.Reading.{HoldStates}
+use Rattle.verify_state.specs.TableBytes.{counted_states, SayStates}
+use Rattle.verify_state.specs.StateTable.{has_distinct_keys}
+use Rattle.verify_state.specs.TableReading.{HoldStates}
 use Rattle.client_core.specs.declared.note.ClientNote.{ClientNote}
 
 -- What a blank note says.
@@ -21,7 +21,7 @@ blank = record { generation = 0; runs = 0; attempts = 0; kept = [] }
 abbrev pub new_note : ℕ → ClientNote
 new_note g = record { generation = g; runs = g * 2 ^ 32; attempts = g * 2 ^ 32; kept = [] }
 
--- The note says that.
+-- A note says what a blank one does.
 abbrev pub is_blank : ClientNote → Bool
 is_blank n =
     (n.generation == 0) && ((n.runs == 0) && ((n.attempts == 0) && (length n.kept == 0)))

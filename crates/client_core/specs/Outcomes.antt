@@ -36,7 +36,8 @@ outcome_at kinds.Trigger run server deeds = request_outcome (trigger_at run serv
 outcome_at kinds.Stop run server deeds = request_outcome (stop_at run server deeds)
 outcome_at kinds.Verify attempt server deeds = request_outcome (verify_at attempt server deeds)
 
--- There is none at a server that the client doesn't drive.
+-- How a request of the client stands at a server: there is none at one that the client doesn't
+-- drive.
 abbrev pub outcome : Opening → List Entry → RequestKind → ℕ → ℕ → Outcome
 outcome opening past kind number server =
     if nat_lt server opening.servers then outcome_at kind number server (life opening past)
@@ -55,6 +56,6 @@ all_ended run deeds servers =
     list_all (λ server. has_ended (request_outcome (trigger_at run server deeds)))
     (numbers_below servers)
 
--- It has ended at every server: a local trigger waits for it.
+-- The trigger of a run has ended at every server: a local trigger waits for it.
 abbrev pub is_settled : Opening → List Entry → ℕ → Bool
 is_settled opening past run = all_ended run (life opening past) opening.servers

@@ -9,13 +9,13 @@ use Rattle.messages.specs.declared.packet.PacketParts.{PacketParts}
 use Rattle.messages.specs.declared.body.Body.{Body}
 use Rattle.messages.specs.declared.body.Body.TheVariants as bodies
 use Rattle.messages.specs.declared.node.Node.TheVariants as nodes
-use Rattle.messages.specs.declared.refusal.Asked.{Asked}
-use Rattle.messages.specs.declared.refusal.Asked.TheVariants as asks
+use Rattle.messages.specs.declared.refusal.RefusedRequest.{RefusedRequest}
+use Rattle.messages.specs.declared.refusal.RefusedRequest.TheVariants as asks
 use Rattle.messages.specs.declared.refusal.Reason.{Reason}
 use Rattle.messages.specs.declared.refusal.Reason.TheVariants as reasons
 use Rattle.messages.specs.Nodes.{node_number}
 use Rattle.client_core.specs.Inputs.{PacketInput, Begin, Trigger, Stop, Verify, Deliver, Tick}
-use Rattle.state_table.specs.Kept.{kept_of}
+use Rattle.verify_state.specs.StateTable.{kept_of}
 use Rattle.client_core.specs.declared.note.ClientNote.{ClientNote}
 use Rattle.client_core.specs.declared.peers.Peers.{Peers}
 use Rattle.client_core.specs.History.{Opening, Entry, Met, Cut, Restart, Renew, Lose}
@@ -32,7 +32,7 @@ use Rattle.client_core.specs.Requests.{Request, trigger_at, stop_at, verify_at}
 abbrev pub to_server : Body → ℕ → PacketParts
 to_server body server = record { from = nodes.Client; to = nodes.Server server; body = body }
 
--- The same to every server, in their order.
+-- The packets that say the same to every server, in their order.
 abbrev pub to_all : ℕ → Body → List PacketParts
 to_all servers body = map (to_server body) (numbers_below servers)
 
@@ -51,7 +51,7 @@ jobs_once_more run text server begins.Starting = to_server (bodies.Jobs run text
 jobs_once_more run text server _ = []
 
 -- The server has no jobs of the run that it is to start.
-abbrev pub lacks_jobs : Asked → Reason → Bool
+abbrev pub lacks_jobs : RefusedRequest → Reason → Bool
 lacks_jobs asks.Start reasons.NoJobs = true
 lacks_jobs _ _ = false
 
@@ -123,7 +123,7 @@ fetch_again peers generation =
     if peers.mirror && (nat_lt 0 generation && not peers.granted)
     then to_mirror (bodies.Fetch generation) ∷ [] else []
 
--- It is said that the state of this key is kept.
+-- A body says that the state of this key is kept.
 abbrev pub says_kept : Key → Body → Bool
 says_kept key (bodies.CopyOk run server job) =
     is_same_key (record { run = run; server = server; job = job }) key

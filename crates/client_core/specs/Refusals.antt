@@ -13,7 +13,7 @@ use Rattle.messages.specs.Kinds.{is_of_server, is_of_mirror}
 use Rattle.messages.specs.Bodies.{kind_of}
 use Rattle.messages.specs.Ranges.{is_text}
 use Rattle.client_core.specs.Inputs.{PacketInput, Begin, Trigger, Stop, Verify, Deliver, Tick}
-pub use Rattle.state_table.specs.Refusals.{differs, lacks_room, faults_of_state}
+pub use Rattle.verify_state.specs.Refusals.{differs, lacks_room, faults_of_state}
 use Rattle.client_core.specs.declared.note.ClientNote.{ClientNote}
 use Rattle.client_core.specs.declared.peers.Peers.{Peers}
 

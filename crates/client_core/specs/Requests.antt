@@ -4,8 +4,8 @@ use Rattle.std.specs.List.{list_all, list_any}
 use Rattle.fc_base.specs.Counted.{numbers_below}
 use Rattle.messages.specs.declared.body.Body.{Body}
 use Rattle.messages.specs.declared.body.Body.TheVariants as bodies
-use Rattle.messages.specs.declared.refusal.Asked.{Asked}
-use Rattle.messages.specs.declared.refusal.Asked.TheVariants as asks
+use Rattle.messages.specs.declared.refusal.RefusedRequest.{RefusedRequest}
+use Rattle.messages.specs.declared.refusal.RefusedRequest.TheVariants as asks
 use Rattle.messages.specs.declared.refusal.Reason.{Reason}
 use Rattle.messages.specs.declared.refusal.Reason.TheVariants as reasons
 use Rattle.client_core.specs.Life.{Deed, Triggers, Stops, Verifies, Hears, run_of}
@@ -23,7 +23,7 @@ pub data Request : Type 0 where
   Served : Request  -- it ended well
   Denied : Reason → Request  -- it was refused
 
--- It isn't answered yet.
+-- A request is open: it isn't answered yet.
 abbrev pub is_open : Request → Bool
 is_open (Open told) = true
 is_open _ = false
@@ -74,13 +74,13 @@ when_refused reasons.Misfit q = q
 when_refused reason (Open ts) = Denied reason
 when_refused reason q = q
 
--- A refused trigger.
-abbrev pub trigger_refused : Asked → Reason → Request → Request
+-- How a trigger stands behind a refusal: one of another request leaves it as it was.
+abbrev pub trigger_refused : RefusedRequest → Reason → Request → Request
 trigger_refused asks.Trigger reason q = when_refused reason q
 trigger_refused _ reason q = q
 
--- A refused stop.
-abbrev pub stop_refused : Asked → Reason → Request → Request
+-- How a stop stands behind a refusal: one of another request leaves it as it was.
+abbrev pub stop_refused : RefusedRequest → Reason → Request → Request
 stop_refused asks.Stop reason q = when_refused reason q
 stop_refused _ reason q = q
 
@@ -90,7 +90,7 @@ check_refused t reasons.Misfit q = when_one_tells t q
 check_refused t reason q = when_refused reason q
 
 -- A refusal of what a request to verify asks for; it doesn't touch the others.
-abbrev pub verify_refused : Asked → Telling → Reason → Request → Request
+abbrev pub verify_refused : RefusedRequest → Telling → Reason → Request → Request
 verify_refused asks.Verify t reason q = check_refused t reason q
 verify_refused _ t reason q = q
 

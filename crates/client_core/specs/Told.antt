@@ -19,7 +19,7 @@ attempt_told (bodies.Report run attempt job jobs report) = attempt
 attempt_told (bodies.Refused r) = r.attempt
 attempt_told _ = 0
 
--- It is no report.
+-- A body is no report.
 abbrev pub IsNoReport : Body → Type 0
 IsNoReport (bodies.Report run attempt job jobs report) = ⊥
 IsNoReport _ = Unit {0}

@@ -4,8 +4,8 @@ use Rattle.std.specs.Prelude.{ℕ, Bool, false, true, not, ◌&&◌, ◌||◌, �
 use Rattle.std.specs.List.{list_any}
 use Rattle.fc_base.specs.declared.numbers.Key.{Key}
 use Rattle.fc_base.specs.declared.fault.Fault.{Fault}
-use Rattle.disk_model.specs.declared.left.Left.{Left}
-use Rattle.disk_model.specs.Left.{has_new, is_lost, is_saved}
+use Rattle.disk_model.specs.declared.save_outcome.SaveOutcome.{SaveOutcome}
+use Rattle.disk_model.specs.SaveOutcome.{has_new, is_lost, is_saved}
 use Rattle.verify_state.specs.State.{State}
 use Rattle.messages.specs.declared.body.Body.{Body}
 use Rattle.messages.specs.declared.body.Body.TheVariants as bodies
@@ -14,7 +14,7 @@ use Rattle.messages.specs.Ranges.{is_generation}
 use Rattle.client_core.specs.Inputs.{PacketInput, Deliver}
 use Rattle.client_core.specs.declared.peers.Peers.{Peers}
 use Rattle.client_core.specs.Note.{blank, is_blank, new_note}
-use Rattle.state_table.specs.Kept.{kept_of}
+use Rattle.verify_state.specs.StateTable.{kept_of}
 use Rattle.client_core.specs.declared.note.ClientNote.{ClientNote}
 use Rattle.client_core.specs.History.{Opening, Entry, Met, Cut, Restart, Renew, Lose}
 use Rattle.client_core.specs.Refusals.{refusal_by}
@@ -29,7 +29,7 @@ is_on (Restart mirror ∷ past) = true
 is_on (Renew g left ∷ past) = is_saved left
 is_on (Lose ∷ past) = false
 
--- It has a mirror, if it is on.
+-- The client has a mirror, if it is on.
 abbrev pub has_mirror : List Entry → Bool
 has_mirror [] = false
 has_mirror (Met c left ∷ past) = has_mirror past
@@ -114,7 +114,7 @@ abbrev pub would_save : Opening → List Entry → PacketInput → Bool
 would_save opening past c = is_some (due opening past c)
 
 -- The call is answered: it isn't refused, and its save, where it makes one, answered Ok.
-abbrev pub is_answered : Opening → List Entry → PacketInput → Left → Bool
+abbrev pub is_answered : Opening → List Entry → PacketInput → SaveOutcome → Bool
 is_answered opening past c left =
     is_none (refusal opening past c) && is_answer (due opening past c) left
 

@@ -5,8 +5,8 @@ ghost use Rattle.fc_base.specs.declared.limits.TheConstants.{MAX_SERVERS};
 ghost use Rattle.messages.specs.Ranges.{is_attempt, is_body, is_run, is_job_of};
 
 use crate::outcome::Outcome;
+use crate::request_status::RequestStatus;
 use crate::run_asked::SERVERS;
-use crate::standing::Standing;
 use fc_base::{Attempt, RunNo};
 use messages::{Body, Text};
 
@@ -15,7 +15,7 @@ use messages::{Body, Text};
 pub struct AttemptAsked {
     pub run: RunNo,
     pub text: Text,
-    pub verifies: [Standing; SERVERS],
+    pub verifies: [RequestStatus; SERVERS],
 }
 
 impl AttemptAsked {
@@ -38,7 +38,7 @@ impl AttemptAsked {
         AttemptAsked {
             run,
             text,
-            verifies: [Standing::open(); SERVERS],
+            verifies: [RequestStatus::open(); SERVERS],
         }
     }
 

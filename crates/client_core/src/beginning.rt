@@ -6,7 +6,7 @@ ghost use Rattle.client_core.specs.Outcomes.{begin_outcome};
 
 use crate::outcome::Outcome;
 use fc_base::RunNo;
-use messages::{Asked, Body, Reason};
+use messages::{Body, Reason, RefusedRequest};
 
 /// How far the begin of a run is at a server.
 #[derive(Clone, Copy, PartialEq, Eq)]
@@ -71,12 +71,12 @@ impl Beginning {
     }
 
     /// A refusal of Jobs or of Start.
-    fn refused(self, asked: Asked, reason: Reason) -> Beginning
+    fn refused(self, asked: RefusedRequest, reason: Reason) -> Beginning
         ensures { result ≡ begin_refused asked reason self }
     {
         match asked {
-            Asked::Jobs => self.jobs_refused(reason),
-            Asked::Start => self.start_refused(reason),
+            RefusedRequest::Jobs => self.jobs_refused(reason),
+            RefusedRequest::Start => self.start_refused(reason),
             _ => self,
         }
     }

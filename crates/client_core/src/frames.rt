@@ -11,11 +11,11 @@ ghost use Rattle.client_core.specs.Framed.{frame_bytes};
 ghost use Rattle.client_core.specs.Lives.{Each};
 ghost use Rattle.client_core.specs.Packets.{to_server, to_mirror, to_all, packets_again, begin_again};
 ghost use Rattle.client_core.specs.Requests.{Request};
-ghost use Rattle.client_core.specs.Standing.{IsRequestKept};
+ghost use Rattle.client_core.specs.RequestStatus.{IsRequestKept};
 
 use crate::beginning::Beginning;
+use crate::request_status::RequestStatus;
 use crate::run_asked::SERVERS;
-use crate::standing::Standing;
 use fc_base::{RunNo, ServerNo};
 use messages::{Body, Frames, Node, Packet, PacketParts, Text, frames_of};
 use std::alloc::{AllocError, Global};
@@ -123,7 +123,7 @@ pub(crate) fn say_again(
     alloc: Global,
     servers: u32,
     body: Body,
-    standings: &[Standing; SERVERS],
+    standings: &[RequestStatus; SERVERS],
     frames: &mut Frames,
 ) -> Result<(), AllocError>
     requires few { servers ≤ MAX_SERVERS }

@@ -10,7 +10,7 @@ ghost use Rattle.client_core.specs.MirrorExamples.{NumbersOnceGranted, CopiesWha
 pub fn first_kept_stays()
     ensures { FirstKeptStays }
 {
-    state_table::found_states();
+    verify_state::found_states();
 }
 
 /// Each kept state, and each state in the note, was there at the opening, or came from its server or from
@@ -19,14 +19,14 @@ pub fn kept_was_sent()
     ensures kept { KeptWasSent }
     ensures noted { NotedWasSent }
 {
-    state_table::found_after_a_push();
+    verify_state::found_after_a_push();
 }
 
 /// Each state that is sent to a check is the kept one of its key.
 pub fn saved_is_kept()
     ensures { SavedIsKept }
 {
-    state_table::found_states();
+    verify_state::found_states();
 }
 
 /// That there is no state is told to a check only where none of its key is kept.
@@ -43,7 +43,7 @@ pub fn copies_are_of_states()
 pub fn acks_are_for_kept_states()
     ensures { AcksAreFor }
 {
-    state_table::found_after_a_push();
+    verify_state::found_after_a_push();
 }
 
 /// No run and no attempt is given its number twice, whatever was cut, where the note isn't lost.
@@ -82,7 +82,7 @@ pub fn tick_only_looks()
 pub fn notes_keep_ranges()
     ensures { NotesKeepRanges }
 {
-    state_table::found_after_a_push();
+    verify_state::found_after_a_push();
 }
 
 /// A trigger ends well at a server only once it has an answer for each job of the run there: a state
@@ -91,7 +91,7 @@ pub fn triggers_end_well()
     ensures { TriggersEndWell }
 {
     first_kept_stays();
-    state_table::found_after_a_push();
+    verify_state::found_after_a_push();
 }
 
 /// What a client sends goes to a server that it drives or to its mirror, and is of a kind that is for it.

@@ -19,23 +19,26 @@ mod beginning;
 mod client;
 mod frames;
 mod generation;
+mod input;
 mod law;
 mod life;
 mod mirrored;
 mod note;
 mod outcome;
+mod outs;
 mod packet_client;
 mod peers;
 mod received;
 mod refusal;
 mod replies;
 mod reports;
+mod request_status;
 mod run_asked;
 mod servers;
-mod standing;
 mod told;
 
 pub use client::{Client, ClientSeed};
+pub use input::Input;
 pub use law::{
     acks_are_for_kept_states, copies_are_of_states, examples, first_kept_stays, frames_are_short,
     kept_was_sent, looks_at_all, loss_begins_anew, no_saved_is_of_none, notes_keep_ranges,
@@ -44,4 +47,5 @@ pub use law::{
 };
 pub use note::{ClientNote, notes_are_read_back, one_note};
 pub use outcome::{Outcome, RequestKind};
+pub use outs::{Answer, Outs};
 pub use received::Received;

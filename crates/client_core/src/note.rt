@@ -5,9 +5,11 @@ ghost use Rattle.client_core.specs.Note.{spelling, blank, new_note, is_blank, Ha
 
 use crate::generation::NotedGeneration;
 use fc_base::{put_u32, put_u64, split_u32, split_u64};
-use state_table::{KEPT_LIMIT, Kept, put_states, read_were_spelled, spelled_are_read, states_in};
 use std::alloc::{AllocError, Global};
-use verify_state::one_spelling;
+use verify_state::{
+    KEPT_LIMIT, StateTable, one_spelling, put_states, read_were_spelled, spelled_are_read,
+    states_in,
+};
 
 /// The bytes with which each note begins.
 const MAGIC: &[u8; 4] = b"FCC2";
@@ -34,7 +36,7 @@ pub struct ClientNote {
     /// The number up to which attempts to verify are used, likewise.
     pub attempts: u64,
     /// The kept states.
-    pub kept: Kept,
+    pub kept: StateTable,
 }
 
 /// By hand, so that the crates above need no proof of it.
@@ -58,7 +60,7 @@ impl ClientNote {
             generation: NotedGeneration::none(),
             runs: 0,
             attempts: 0,
-            kept: Kept::new(alloc),
+            kept: StateTable::new(alloc),
         }
     }
 
@@ -71,7 +73,7 @@ impl ClientNote {
             generation,
             runs: used,
             attempts: used,
-            kept: Kept::new(alloc),
+            kept: StateTable::new(alloc),
         }
     }
 

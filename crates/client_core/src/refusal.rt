@@ -12,8 +12,7 @@ use crate::note::{ClientNote, GENERATION_NUMBERS};
 use crate::peers::Peers;
 use fc_base::{Fault, MAX_TEXT, RunNo};
 use messages::{Body, Node, Packet};
-use state_table::KEPT_LIMIT;
-use verify_state::VerifyState;
+use verify_state::{KEPT_LIMIT, VerifyState};
 
 /// Whether the packet is for the client, and from one of its servers or from the mirror.
 #[tactic(auto, unfolding(crate::specs::Refusals::is_for_client))]

@@ -7,14 +7,14 @@ ghost use Rattle.messages.specs.declared.body.Body.TheVariants.{WantState};
 ghost use Rattle.client_core.specs.Framed.{frame_bytes};
 ghost use Rattle.client_core.specs.Lives.{EachLife};
 ghost use Rattle.client_core.specs.Packets.{replies, start_for, jobs_once_more, state_for};
-ghost use Rattle.state_table.specs.Kept.{kept_of};
+ghost use Rattle.verify_state.specs.StateTable.{kept_of};
 
 use crate::beginning::Beginning;
 use crate::frames::{only, say_copy};
 use crate::life::Life;
 use crate::note::ClientNote;
 use fc_base::{Attempt, JobNo, Key, RunNo, ServerNo};
-use messages::{Asked, Body, Frames, Reason, Text};
+use messages::{Body, Frames, Reason, RefusedRequest, Text};
 use std::alloc::{AllocError, Global};
 
 /// What is replied to a server that says this.
@@ -50,7 +50,7 @@ pub(crate) fn replies(
             state_for(alloc, noted, *run, *attempt, *job, server)
         }
         Body::Refused(refusal) => match (refusal.asked, refusal.reason) {
-            (Asked::Start, Reason::NoJobs) => {
+            (RefusedRequest::Start, Reason::NoJobs) => {
                 let run = refusal.run;
                 let begin = life.begin_at(run, server);
                 jobs_for(alloc, run, life.text_of(run), server, begin)

@@ -6,7 +6,7 @@ ghost use Rattle.messages.specs.Ranges.{is_body, is_run};
 
 use crate::beginning::Beginning;
 use crate::outcome::Outcome;
-use crate::standing::Standing;
+use crate::request_status::RequestStatus;
 use fc_base::{MAX_SERVERS, RunNo};
 use messages::{Act, Body, Text};
 
@@ -19,8 +19,8 @@ pub struct RunAsked {
     pub text: Option<Text>,
     pub begins: [Beginning; SERVERS],
     pub act: Act,
-    pub triggers: [Standing; SERVERS],
-    pub stops: [Standing; SERVERS],
+    pub triggers: [RequestStatus; SERVERS],
+    pub stops: [RequestStatus; SERVERS],
 }
 
 impl RunAsked {
@@ -39,8 +39,8 @@ impl RunAsked {
             text: None,
             begins: [Beginning::Unbegun; SERVERS],
             act: Act::None,
-            triggers: [Standing::unasked(); SERVERS],
-            stops: [Standing::unasked(); SERVERS],
+            triggers: [RequestStatus::unasked(); SERVERS],
+            stops: [RequestStatus::unasked(); SERVERS],
         }
     }
 
@@ -59,7 +59,7 @@ impl RunAsked {
             RunIs run (Triggers run act ∷ deeds) self.new }
     {
         self.act = act;
-        self.triggers = [Standing::open(); SERVERS];
+        self.triggers = [RequestStatus::open(); SERVERS];
     }
 
     /// It is stopped.
@@ -67,7 +67,7 @@ impl RunAsked {
         ensures { (run : _) (deeds : List Deed) → RunIs run deeds self.old →
             RunIs run (Stops run ∷ deeds) self.new }
     {
-        self.stops = [Standing::open(); SERVERS];
+        self.stops = [RequestStatus::open(); SERVERS];
     }
 
     /// The text with which it was begun, empty where it wasn't.

@@ -2,3 +2,4 @@ mod CommandLemmas
 pub mod Numbered
 pub mod UnreadLemmas
 pub mod Whole
+pub mod LiveWhole

@@ -3,13 +3,13 @@ use Rattle.std.proofs.Common.{◌≡◌, ℕ, zero, suc, ◌<◌, ◌≤◌, Boo
 use Rattle.std.specs.List.{list_any}
 use Rattle.std.proofs.lemmas.Bool.{eq-eqb, or_right}
 use Rattle.std.proofs.lemmas.List.{take_all}
-use Rattle.recheck.specs.declared.expected.Placed.{Placed}
+use Rattle.recheck.specs.declared.expected.BlockWrites.{BlockWrites}
 use Rattle.recheck.specs.Faults.{writes_to}
 
 -- ---- writes in flight to a block
 
 -- Of the writes that go to a block one passes.
-any_to : (test : ℕ → Bool) (block : ℕ) (writes : List Placed)
+any_to : (test : ℕ → Bool) (block : ℕ) (writes : List BlockWrites)
     → list_any test (writes_to block writes) ≡ list_any (λ w. eqb w.block block && test w.seq) writes
 any_to test block [] = refl
 any_to test block (w ∷ ws) = by (eqb w.block block) refl (any_to test block ws)
@@ -26,7 +26,7 @@ any_at q (x ∷ xs) zero d lt e = rw e refl
 any_at q (x ∷ xs) (suc i) d lt e = or_right (q x) (list_any q xs) (any_at q xs i d (omega arith) e)
 
 -- A write of a list that goes to the block and passes.
-pub found_at : (test : ℕ → Bool) (block : ℕ) (writes : List Placed) (i : ℕ) (w : Placed) → i < length writes → w ≡ get_or writes i w → w.block ≡ block
+pub found_at : (test : ℕ → Bool) (block : ℕ) (writes : List BlockWrites) (i : ℕ) (w : BlockWrites) → i < length writes → w ≡ get_or writes i w → w.block ≡ block
     → test w.seq ≡ true → list_any test (writes_to block writes) ≡ true
 found_at test block writes i w lt is here passes =
     any_to test block writes
@@ -34,7 +34,7 @@ found_at test block writes i w lt is here passes =
     (subst (λ v. (eqb v.block block && test v.seq) ≡ true) is (rw (eq-eqb w.block block here, passes) refl))
 
 -- None of a list goes to the block and passes.
-pub none_found : (test : ℕ → Bool) (block : ℕ) (writes : List Placed) (n : ℕ) → length writes ≤ n
+pub none_found : (test : ℕ → Bool) (block : ℕ) (writes : List BlockWrites) (n : ℕ) → length writes ≤ n
     → list_any (λ v. eqb v.block block && test v.seq) (take n writes) ≡ false → list_any test (writes_to block writes) ≡ false
 none_found test block writes n all none =
     any_to test block writes ∙ ap (list_any (λ v. eqb v.block block && test v.seq)) (sym (take_all n writes all)) ∙ none

@@ -30,7 +30,7 @@ piece_of e sector = if is_all 0 sector then pieces.Zeros else by e.job.verify
 abbrev pub sector_of : List ℕ → ℕ → List ℕ
 sector_of bytes number = take 512 (drop (number * 512) bytes)
 
--- What that sector holds.
+-- What the sector of this number of a block holds.
 unfoldable pub piece_at : Expected → List ℕ → ℕ → Piece
 piece_at e bytes number = piece_of e (sector_of bytes number)
 

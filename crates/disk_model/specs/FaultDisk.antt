@@ -21,7 +21,7 @@ calls_left disk = left_of disk.countdown
 abbrev pub disk_of : FaultDisk → MemDisk
 disk_of disk = disk.disk
 
--- The same with another disk in memory.
+-- This disk with another disk in memory: which call fails stays as it was.
 abbrev pub with_disk : FaultDisk → MemDisk → FaultDisk
 with_disk disk mem = record disk { disk = mem }
 

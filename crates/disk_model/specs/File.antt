@@ -35,7 +35,7 @@ landed picks first bytes content s =
 abbrev pub put : ℕ → List ℕ → (ℕ → List ℕ) → ℕ → List ℕ
 put first bytes content = landed (λ _. true) first bytes content
 
--- So many sectors from the first on, one after another.
+-- The bytes of this many sectors from the first on, one after another.
 abbrev pub sectors : (ℕ → List ℕ) → ℕ → ℕ → List ℕ
 sectors content first zero = []
 sectors content first (suc count) = content first ++ sectors content (first + 1) count

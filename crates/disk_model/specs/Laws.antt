@@ -40,7 +40,7 @@ StartsWhole =
     (power : Option ℕ) (failures : ℕ) →
     HasWholeSectors (record { content = λ _. zeros; power = power; failures = failures })
 
--- They stay so, whatever a write or a read answers.
+-- The sectors of a file stay whole, whatever a write or a read answers.
 abbrev pub StaysWhole : Type 0
 StaysWhole =
     (old new : File) (epoch block : ℕ) (bytes : List ℕ) (result : Result (Unit {0}) Fault) →
@@ -48,7 +48,7 @@ StaysWhole =
     (IsWritten old new epoch block bytes result → HasWholeSectors new)
     × (IsRead old new block bytes result → HasWholeSectors new)
 
--- And so they do where some of a block lands, or a sector is replaced.
+-- The sectors of a file stay whole where some of a block lands, or a sector is replaced.
 abbrev pub LandsWholeSectors : Type 0
 LandsWholeSectors =
     (picks : ℕ → Bool) (file : File) (first : ℕ) (bytes : List ℕ) → HasWholeSectors file →

@@ -9,6 +9,6 @@ pub mod Notes
 pub mod MemNotes
 pub mod Countdown
 pub mod Laws
-pub mod Left
+pub mod SaveOutcome
 pub mod FaultNotes
 pub mod FaultDisk

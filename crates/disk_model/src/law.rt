@@ -2,7 +2,7 @@
 
 ghost use Rattle.disk_model.specs.Laws.{ReadsBack, LandsWhole, KeepsOtherBlocks, ReplacesOneSector};
 ghost use Rattle.disk_model.specs.Laws.{StartsWhole, StaysWhole, LandsWholeSectors, HasItsLength};
-ghost use Rattle.disk_model.specs.Left.{TellsWhatIsLeft};
+ghost use Rattle.disk_model.specs.SaveOutcome.{TellsWhatIsLeft};
 ghost use Rattle.std.specs.Prelude.{◌≡◌, ◌==◌, replicate};
 ghost use Rattle.disk_model.specs.File.{landed, zeros};
 
@@ -25,7 +25,7 @@ pub fn sector_law()
     ensures has_its_length { HasItsLength }
 {}
 
-/// Each save, but one that finds no memory, leaves one of what [`Left`](crate::Left) names.
+/// Each save, but one that finds no memory, leaves one of what [`SaveOutcome`](crate::SaveOutcome) names.
 pub fn save_law()
     ensures { TellsWhatIsLeft }
 {}

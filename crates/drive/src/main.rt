@@ -10,7 +10,9 @@ use std::io;
 use std::io::{BufReader, BufWriter, Write};
 use std::process::ExitCode;
 use std::rt::Env;
-use targets::{Request, check_job, ledger_job, map_job, read_words, refuse, write_job};
+use targets::{
+    Request, check_job, ledger_job, map_job, read_words, refuse, tour_job, wanted_job, write_job,
+};
 
 /// How many bytes of input are read at once.
 const READ_AT_ONCE: usize = 262_144;
@@ -57,9 +59,11 @@ fn answer_by<R: AllocGlobal + Input, W: Write>(
     };
     match request {
         Request::Write { run, job } => write_job(alloc, run, job, &mut reader, writer),
+        Request::Tour { job } => tour_job(alloc, job, &mut reader, writer),
         Request::Check { run, job } => check_job(alloc, run, job, &mut reader, writer),
         Request::Map { key, unit } => map_job(alloc, key, unit, &mut reader, writer),
         Request::Ledger { key, since } => ledger_job(alloc, key, since, &mut reader, writer),
+        Request::Wanted { key, since } => wanted_job(alloc, key, since, &mut reader, writer),
     }
 }
 

@@ -7,8 +7,8 @@ use Rattle.fc_base.specs.Keys.{is_same_key}
 use Rattle.fc_base.specs.declared.fault.Fault.{Fault}
 use Rattle.fc_base.specs.declared.fault.Fault.TheVariants.{OldBoot, NotInFlight}
 use Rattle.write_order.specs.Blocks.{block_of}
-use Rattle.window.specs.declared.room.Room.TheVariants.{Open}
-use Rattle.window.specs.Kept.{is_held, room_by}
+use Rattle.engine.specs.declared.room.Room.TheVariants.{Open}
+use Rattle.engine.specs.Kept.{is_held, room_by}
 use Rattle.engine.specs.declared.issue.Ticket.{Ticket}
 use Rattle.engine.specs.declared.issue.Issue.{Issue}
 use Rattle.engine.specs.declared.issue.Issue.TheVariants.{Write, Full, Held, Overlap, Finished, Stopped}

@@ -7,8 +7,8 @@ use Rattle.fc_base.specs.declared.record.JobParts.{JobParts}
 use Rattle.fc_base.specs.JobParts.{has_block_size, has_region, has_queue, has_pattern, is_within_limits}
 use Rattle.write_order.specs.Blocks.{block_of}
 use Rattle.write_order.specs.Progress.{Progress, next_block}
-use Rattle.window.specs.declared.room.Room.TheVariants.{Open}
-use Rattle.window.specs.Kept.{is_held, room_by, room_of}
+use Rattle.engine.specs.declared.room.Room.TheVariants.{Open}
+use Rattle.engine.specs.Kept.{is_held, room_by, room_of}
 use Rattle.engine.specs.declared.writes.OpenWrite.{OpenWrite}
 use Rattle.engine.specs.declared.engine.Engine.TheInside.{Inside}
 use Rattle.engine.specs.declared.issue.Issue.{Issue}

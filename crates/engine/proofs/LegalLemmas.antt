@@ -8,10 +8,10 @@ use Rattle.fc_base.specs.Counted.{has}
 use Rattle.fc_base.specs.declared.record.JobParts.{JobParts}
 use Rattle.fc_base.specs.NumberLaws.{has_push}
 use Rattle.write_order.specs.Blocks.{block_of}
-use Rattle.window.specs.History.{Event, issue, done, fail, issues, completions, issued, is_done, in_flight, open_writes}
-use Rattle.window.specs.Legal as rules
-use Rattle.window.specs.Sets.{InFlightIsNotDone, RoomIsRight}
-use Rattle.window.specs.Kept.{is_held, room_by}
+use Rattle.engine.specs.History.{Event, issue, done, fail, issues, completions, issued, is_done, in_flight, open_writes}
+use Rattle.engine.specs.WindowRules as rules
+use Rattle.engine.specs.Sets.{InFlightIsNotDone, RoomIsRight}
+use Rattle.engine.specs.Kept.{is_held, room_by}
 use Rattle.engine.specs.declared.issue.Ticket.{Ticket}
 use Rattle.engine.specs.declared.issue.Issue.TheVariants.{Finished, Stopped}
 use Rattle.engine.specs.Legal.{IsLegal, has_failed, any_goes_to}

@@ -3,7 +3,7 @@ use Rattle.std.proofs.Common.{◌≡◌, ℕ, ◌<◌, ◌≤◌, Bool, false, n
 use Rattle.std.specs.List.{filter}
 use Rattle.std.proofs.lemmas.Bool.{ltb-false, lt-leb}
 use Rattle.fc_base.specs.Counted.{has}
-use Rattle.window.specs.History.{Event, failures, in_flight, issued, open_writes}
+use Rattle.engine.specs.History.{Event, failures, in_flight, issued, open_writes}
 use Rattle.engine.specs.declared.issue.Issue.TheVariants.{Write}
 use Rattle.engine.specs.Legal.{has_failed}
 use Rattle.engine.specs.Running.{Origin}

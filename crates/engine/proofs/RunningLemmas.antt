@@ -3,9 +3,9 @@ use Rattle.std.proofs.Common.{◌≡◌, ℕ, Bool, true, false, List, [], ◌�
 use Rattle.std.proofs.lemmas.Bool.{lt-ltb, leb-false, or_parts}
 use Rattle.std.proofs.lemmas.List.{length_push}
 use Rattle.write_order.specs.Blocks.{block_of}
-use Rattle.window.specs.History.{Event, issue, done, fail, failures, in_flight}
-use Rattle.window.specs.Kept as window
-use Rattle.window.specs.Kept.{Kept, kept_of}
+use Rattle.engine.specs.History.{Event, issue, done, fail, failures, in_flight}
+use Rattle.engine.specs.Kept as window
+use Rattle.engine.specs.Kept.{Kept, kept_of}
 use Rattle.engine.specs.declared.issue.Ticket.{Ticket}
 use Rattle.engine.specs.Legal.{has_failed, any_goes_to}
 use Rattle.engine.specs.Running.{Origin, Running, running_of, StandsFor, Adds}

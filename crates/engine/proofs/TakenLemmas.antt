@@ -10,10 +10,10 @@ use Rattle.fc_base.specs.Counted.{has, numbers_below, is_counted, counted, uncou
 use Rattle.fc_base.specs.Keys.{is_key}
 use Rattle.fc_base.specs.Marks.{counted_by, is_possible_by}
 use Rattle.fc_base.specs.NumberLaws.{has_counted}
-use Rattle.window.specs.History.{Event, issued, is_done, recent, done_marks}
-use Rattle.window.specs.Kept as window
-use Rattle.window.specs.Legal as rules
-use Rattle.window.specs.Counting.{CountsTheCompleted, ComesToPossible, MarksCountTheCompleted, ComesToPossibleMarks}
+use Rattle.engine.specs.History.{Event, issued, is_done, recent, done_marks}
+use Rattle.engine.specs.Kept as window
+use Rattle.engine.specs.WindowRules as rules
+use Rattle.engine.specs.Counting.{CountsTheCompleted, ComesToPossible, MarksCountTheCompleted, ComesToPossibleMarks}
 use Rattle.engine.specs.Running.{Running, StandsFor}
 use Rattle.engine.specs.Taken.{state_now, state_after, CountsTheDone}
 use Rattle.engine.proofs.RunningLemmas.{kept_is, in_window}

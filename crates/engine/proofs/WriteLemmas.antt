@@ -7,7 +7,7 @@ use Rattle.std.proofs.lemmas.List.Filters.{length-filter_both}
 use Rattle.fc_base.specs.Counted.{has}
 use Rattle.fc_base.specs.declared.record.JobParts.{JobParts}
 use Rattle.write_order.specs.Blocks.{block_of}
-use Rattle.window.specs.Numbers.{without}
+use Rattle.engine.specs.Numbers.{without}
 use Rattle.engine.specs.declared.writes.OpenWrite.{OpenWrite}
 use Rattle.engine.specs.Legal.{any_goes_to}
 use Rattle.engine.specs.declared.issue.Ticket.{Ticket}

@@ -5,8 +5,8 @@ use Rattle.fc_base.specs.Keys.{is_same_key}
 use Rattle.fc_base.specs.declared.fault.Fault.{Fault}
 use Rattle.fc_base.specs.declared.fault.Fault.TheVariants.{OldBoot, NotInFlight}
 use Rattle.write_order.specs.Blocks.{block_of}
-use Rattle.window.specs.History.{Event, issue, issued, in_flight, open_writes}
-use Rattle.window.specs.Kept.{is_held, after_issue}
+use Rattle.engine.specs.History.{Event, issue, issued, in_flight, open_writes}
+use Rattle.engine.specs.Kept.{is_held, after_issue}
 use Rattle.engine.specs.declared.issue.Ticket.{Ticket}
 use Rattle.engine.specs.declared.issue.Issue.{Issue}
 use Rattle.engine.specs.declared.issue.Issue.TheVariants.{Write, Full, Held, Overlap, Finished, Stopped}
@@ -65,7 +65,7 @@ abbrev pub has_ended : Origin → Bool → List Event → Bool
 has_ended origin stopped h =
     (length (open_writes h) == 0) && not (is_write (answer_to origin stopped h))
 
--- The same, by what the engine keeps.
+-- No write is open, and none can be issued, by what the engine keeps.
 abbrev pub ended_of : Running → Bool
 ended_of running = (length running.kept.open_writes == 0) && not (is_write (answer_of running))
 

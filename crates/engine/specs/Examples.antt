@@ -18,6 +18,6 @@ three_writes = record {
   window = 3;
 }
 
--- They are the writes of job 0 of run 1.
+-- Three writes come from job 0 of run 1 at server 0, in boot 1.
 abbrev pub first_run : Origin
 first_run = record { boot = 1; key = record { run = 1; server = 0; job = 0 }; job = three_writes }

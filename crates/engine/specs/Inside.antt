@@ -3,17 +3,17 @@ use Rattle.std.specs.Prelude.{◌≡◌, ℕ, ◌≤◌, false, IsTrue, List, le
 use Rattle.fc_base.specs.declared.record.JobParts.{JobParts}
 use Rattle.fc_base.specs.JobParts.{is_within_limits}
 use Rattle.write_order.specs.Blocks.{block_of}
-use Rattle.window.specs.History.{Event}
+use Rattle.engine.specs.History.{Event}
 use Rattle.engine.specs.declared.writes.OpenWrite.{OpenWrite}
 use Rattle.engine.specs.declared.engine.Engine.TheInside.{Inside}
 use Rattle.fc_base.specs.Keys.{is_key}
 use Rattle.engine.specs.Running.{Origin, Running, StandsFor}
 
--- Where the writes come from.
+-- Where the writes of an engine come from.
 abbrev pub origin_in : Inside → Origin
 origin_in engine = record { boot = engine.boot; key = engine.key; job = engine.rec }
 
--- What the fields show.
+-- What the fields of an engine show.
 abbrev pub running_in : Inside → Running
 running_in engine = record {
   origin = origin_in engine;

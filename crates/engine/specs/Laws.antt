@@ -3,7 +3,7 @@ use Rattle.std.specs.Prelude.{◌≡◌, ℕ, ◌<◌, ◌≤◌, Bool, true, fa
 use Rattle.fc_base.specs.Counted.{has}
 use Rattle.fc_base.specs.declared.record.JobParts.{JobParts}
 use Rattle.write_order.specs.Blocks.{block_of}
-use Rattle.window.specs.History.{Event, issue, done, fail, issued, is_done, in_flight, open_writes}
+use Rattle.engine.specs.History.{Event, issue, done, fail, issued, is_done, in_flight, open_writes}
 use Rattle.engine.specs.declared.issue.Ticket.{Ticket}
 use Rattle.engine.specs.declared.issue.Issue.TheVariants.{Write, Finished, Stopped}
 use Rattle.engine.specs.Legal.{IsLegal, has_failed}
@@ -47,7 +47,7 @@ LaterWaits =
     (job : JobParts) (h : List Event) (j k : ℕ) →
     IsLegal job h → j < k → k < issued h → block_of job j ≡ block_of job k → is_done h j ≡ true
 
--- So no two writes in flight go to one block.
+-- No two writes in flight go to one block.
 abbrev pub FlyApart : Type 0
 FlyApart =
     (job : JobParts) (h : List Event) (j k : ℕ) →

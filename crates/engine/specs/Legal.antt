@@ -3,8 +3,8 @@ use Rattle.std.specs.Prelude.{◌≡◌, ℕ, ◌<◌, ◌==◌, Bool, false, Li
 use Rattle.std.specs.List.{list_any}
 use Rattle.fc_base.specs.declared.record.JobParts.{JobParts}
 use Rattle.write_order.specs.Blocks.{block_of}
-use Rattle.window.specs.History.{Event, issue, done, fail, failures, in_flight}
-use Rattle.window.specs.Legal as window
+use Rattle.engine.specs.History.{Event, issue, done, fail, failures, in_flight}
+use Rattle.engine.specs.WindowRules as window
 
 -- Some write has failed.
 abbrev pub has_failed : List Event → Bool

@@ -1,7 +1,14 @@
 pub mod Answers
+pub mod Counting
 pub mod Examples
+pub mod History
+pub mod InFlight
 pub mod Inside
+pub mod Kept
 pub mod Laws
 pub mod Legal
+pub mod Numbers
 pub mod Running
+pub mod Sets
 pub mod Taken
+pub mod WindowRules

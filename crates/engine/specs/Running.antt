@@ -2,9 +2,9 @@
 use Rattle.std.specs.Prelude.{◌≡◌, ℕ, Bool, true, List, ◌∷◌}
 use Rattle.fc_base.specs.declared.numbers.Key.{Key}
 use Rattle.fc_base.specs.declared.record.JobParts.{JobParts}
-use Rattle.window.specs.History.{Event}
-use Rattle.window.specs.Kept.{Kept, kept_of}
-use Rattle.window.specs.Kept as window
+use Rattle.engine.specs.History.{Event}
+use Rattle.engine.specs.Kept.{Kept, kept_of}
+use Rattle.engine.specs.Kept as window
 use Rattle.engine.specs.Legal.{IsLegal, has_failed}
 
 -- Where an engine's writes come from: the boot of its server, the key of the job, and its settings.

@@ -2,7 +2,7 @@
 use Rattle.std.specs.Prelude.{◌≡◌, ℕ, List}
 use Rattle.fc_base.specs.Counted.{has}
 use Rattle.write_order.specs.Places.{place}
-use Rattle.window.specs.History.{Event, issued, is_done, recent}
+use Rattle.engine.specs.History.{Event, issued, is_done, recent}
 use Rattle.verify_state.specs.State.{State, state_of}
 use Rattle.engine.specs.Running.{Origin, Running}
 
@@ -13,7 +13,7 @@ state_after origin h =
     let job = origin.job in
     state_of origin.key job (issued h) (place job (issued h)) (recent job.window h)
 
--- The same, by what the engine keeps.
+-- The state of a job, by what its engine keeps.
 abbrev pub state_now : Running → State
 state_now running =
     let job = running.origin.job in

@@ -1,19 +1,21 @@
 //! The engine of a job.
 
 ghost use Rattle.std.specs.Prelude.{◌≡◌, [], length, is_ok, false, true, if◌then◌else◌, IsTrue, IfOk, OnOk};
-ghost use Rattle.window.specs.History.{done, fail, open_writes};
+ghost use Rattle.engine.specs.History.{done, fail, open_writes};
 ghost use Rattle.fc_base.specs.Keys.{is_key};
 ghost use Rattle.engine.specs.Running.{Origin, running_of, StandsFor, EachHistory, Adds, after_done, after_fail};
 ghost use Rattle.engine.specs.Answers.{answer_of, answer_to, after_answer, AddsAnswer, names_one_of, ticket_answer, open_ticket, has_ended, ended_of};
 ghost use Rattle.engine.specs.Taken.{state_now, state_after, CountsTheDone};
 
 use crate::issue::{Issue, Ticket};
+use crate::room::Room;
+use crate::window::Window;
+use crate::window_law::{counting_law, marks_law};
 use crate::writes::{OpenWrite, close, has_block, has_write, write_of};
 use fc_base::{Fault, JobRecord, Key, Seq};
 use std::alloc::{AllocError, Global};
 use std::marker::Model;
 use verify_state::VerifyState;
-use window::{Room, Window, counting_law, marks_law};
 use write_order::Order;
 
 /// Issues the writes of one job of a run, and keeps account of them until they complete.

@@ -2,13 +2,13 @@
 
 ghost use Rattle.engine.specs.Laws.{AlwaysGoesOn, WritesAreLegal, EndsAreLegal, StatesCountTheDone, LaterWaits, FlyApart, StaysStopped, StaysFinished};
 ghost use Rattle.std.specs.Prelude.{◌≡◌, true, false, [], ◌∷◌};
-ghost use Rattle.window.specs.History.{issue, done};
+ghost use Rattle.engine.specs.History.{issue, done};
 ghost use Rattle.engine.specs.Answers.{answer_to, ticket_of};
 ghost use Rattle.engine.specs.Taken.{state_after};
 ghost use Rattle.engine.specs.Examples.{first_run};
 
 use crate::issue::Issue;
-use window::{counting_law, room_law, sets_law};
+use crate::window_law::{counting_law, room_law, sets_law};
 
 /// A job never waits for nothing: with no open write it has ended, or it issues its next write.
 pub fn progress_law()

@@ -22,7 +22,7 @@ abbrev pub kept : List ℕ → Inside
 kept blocks =
     record { len = length blocks; blocks = blocks ++ replicate (MAX_LISTED - length blocks) 0 }
 
--- They are given back.
+-- The fields of a list of blocks are given back by the blocks that are listed.
 pub kept_again : (b : Inside) → HasZerosBehind b → kept (listed b) ≡ b
 kept_again b h =
     let len : length (take b.len b.blocks) ≡ b.len =

@@ -94,7 +94,7 @@ counted_again window issued p narrow old =
           ∙ true_and _ _ (lt-ltb k issued below)
     ])
 
--- They have no bit for a write that was not issued.
+-- The marks of the writes that pass a test have no bit for a write that was not issued.
 pub ends_again : (window issued : ℕ) (p : ℕ → Bool) →
     ends_by (issued - floor_of window issued)
     (marks_of (has (filter p (numbers_below issued))) (floor_of window issued)) ≡ true
@@ -150,7 +150,7 @@ counted_and_uncounted window issued xs =
     (λ k. not (is_counted window issued xs k)) (λ k. refl) (numbers_below issued) in
     omega (arith, both, length_numbers_below issued)
 
--- They are possible where the list is.
+-- The marks of what a list counts are possible where the list is.
 pub possible_as_listed : (depth window issued : ℕ) (xs : List ℕ) → window ≤ MAX_WINDOW →
     is_possible depth window issued xs ≡ true →
     is_possible_by depth window issued

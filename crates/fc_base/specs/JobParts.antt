@@ -29,6 +29,6 @@ has_pattern job = is_pattern_of job.verify job.pattern
     is_pattern_of Stamp byte = byte == 0
     is_pattern_of Pattern byte = true
 
--- All limits hold.
+-- A job's settings are within all limits: its block size, its region, its queue and its pattern.
 abbrev pub is_within_limits : JobParts → Bool
 is_within_limits job = has_block_size job && has_region job && has_queue job && has_pattern job

@@ -31,7 +31,7 @@ numbers (w ∷ ws) bytes = number_in w bytes ∷ numbers ws (drop (byte_len w) b
 abbrev pub spelled_blocks : List ℕ → List ℕ
 spelled_blocks blocks = flat_map (bytes_of w32) blocks
 
--- So many blocks, from the front of the bytes.
+-- This many blocks, from the front of the bytes, four bytes each.
 abbrev pub blocks_in : ℕ → List ℕ → List ℕ
 blocks_in zero bytes = []
 blocks_in (suc n) bytes = number_in w32 bytes ∷ blocks_in n (drop 4 bytes)

@@ -189,7 +189,7 @@ unfolding ends_by
 bits_end n marks ends i low high = not-true (is_marked marks i)
     (range_all (λ j. not (is_marked marks j)) n (MAX_WINDOW - n) ends i low (omega arith))
 
--- And where none is set from somewhere on, they end there.
+-- Where no bit is set from a number on, the marks end there.
 pub ends_where : (n : ℕ) (marks : List ℕ)
     → ((i : ℕ) → n ≤ i → i < MAX_WINDOW → is_marked marks i ≡ false) → ends_by n marks ≡ true
 unfolding ends_by

@@ -46,7 +46,7 @@ length_numbers_below zero = refl
 length_numbers_below (suc n) =
     omega (arith, length_push (numbers_below n) n, length_numbers_below n)
 
--- They are just those below it.
+-- The list of the numbers below n has just the numbers that are less than n.
 pub has_numbers_below : (n k : ℕ) → has (numbers_below n) k ≡ nat_lt k n
 has_numbers_below zero k = grind (arith, nat_tests)
 has_numbers_below (suc n) k =

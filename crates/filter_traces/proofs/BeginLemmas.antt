@@ -4,7 +4,7 @@ use Rattle.std.specs.Prelude.{if◌then◌else◌, not, ◌||◌}
 use Rattle.std.proofs.lemmas.Bool.{eqb-true}
 use Rattle.messages.specs.Ranges.{is_generation}
 use Rattle.messages.specs.declared.frame.Frame.{Frame}
-use Rattle.disk_model.specs.declared.left.Left.TheVariants.{Saved}
+use Rattle.disk_model.specs.declared.save_outcome.SaveOutcome.TheVariants.{Saved}
 use Rattle.server_core.specs.Hearing.{Restart as ServerRestart}
 use Rattle.client_core.specs.Hearing.{FrameEntry as ClientEntry, Cut, Lose, Renew}
 use Rattle.client_core.specs.Note.{Says, blank, new_note}

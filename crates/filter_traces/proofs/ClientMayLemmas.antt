@@ -7,9 +7,9 @@ use Rattle.std.specs.Int.{w64}
 use Rattle.fc_base.specs.Layouts.{number_in}
 use Rattle.fc_base.specs.declared.fault.Fault.{Fault}
 use Rattle.fc_base.specs.declared.fault.Fault.TheVariants.{BadNotice}
-use Rattle.disk_model.specs.declared.left.Left.{Left}
-use Rattle.disk_model.specs.declared.left.Left.TheVariants.{NoSave, Saved}
-use Rattle.disk_model.specs.Left.{saved_for}
+use Rattle.disk_model.specs.declared.save_outcome.SaveOutcome.{SaveOutcome}
+use Rattle.disk_model.specs.declared.save_outcome.SaveOutcome.TheVariants.{NoSave, Saved}
+use Rattle.disk_model.specs.SaveOutcome.{saved_for}
 use Rattle.messages.specs.declared.frame.Frame.{Frame}
 use Rattle.messages.specs.declared.node.Node.TheVariants.{Client}
 use Rattle.messages.specs.FrameBytes.{frame_at, frame_faults}
@@ -21,8 +21,8 @@ use Rattle.client_core.specs.Hearing.{FrameEntry, Met, Cut, Restart, Renew, Lose
 use Rattle.client_core.specs.FrameAnswers.{sense, refusal, due}
 use Rattle.net_world.specs.Setup.{Setup}
 use Rattle.net_world.specs.Trace.{client_opening}
-use Rattle.filters.specs.declared.kinds.Told.{Told}
-use Rattle.filters.specs.declared.kinds.Told.TheVariants as told
+use Rattle.filters.specs.declared.kinds.InRecordKind.{InRecordKind}
+use Rattle.filters.specs.declared.kinds.InRecordKind.TheVariants as told
 use Rattle.filters.specs.Kinds.{told_numbered}
 use Rattle.filters.specs.ClientAsks.{ends_in, input_in, or_bad, trigger_in, number_alone}
 use Rattle.filters.specs.NodeCuts.{CutsAnswer}
@@ -39,7 +39,7 @@ pub record Added (w : Setup) (sent : List Frame) (old new : ClientAt) : Type 0 w
 
 -- What a body asks may come, whatever its save leaves, and behind whatever list.
 abbrev EntryMay : Setup → List Frame → FrameInput → Type 0
-EntryMay w sent e = (past : List FrameEntry) (left : Left) → ClientMay w sent past (Met e left)
+EntryMay w sent e = (past : List FrameEntry) (left : SaveOutcome) → ClientMay w sent past (Met e left)
 
 abbrev AskedMay : Setup → List Frame → Result FrameInput Fault → Type 0
 AskedMay w sent (Ok e) = EntryMay w sent e
@@ -71,7 +71,7 @@ tick_may : (w : Setup) (sent : List Frame) (b : Bool) → AskedMay w sent (if b 
 tick_may w sent true = λ past left. tt
 tick_may w sent false = tt
 
-asked_may : (w : Setup) (sent : List Frame) (kind : Told) (body : List ℕ) → IfSome (frame_if (Some kind) body) (GoesTo sent Client)
+asked_may : (w : Setup) (sent : List Frame) (kind : InRecordKind) (body : List ℕ) → IfSome (frame_if (Some kind) body) (GoesTo sent Client)
     → AskedMay w sent (input_in kind body)
 asked_may w sent told.Frame body h = frame_may w sent (frame_faults body) (frame_at body) h
 asked_may w sent told.Begin body h = λ past left. tt
@@ -120,7 +120,7 @@ module _ (w : Setup) (o : Opening) (sent : List Frame) where
   ends_adds (Some asked) at now answer (inr (fault, memory, (is, said))) = none_more w sent at now is
   ends_adds None at now answer (is, said) = none_more w sent at now is
 
-  kind_adds : (kind : Option Told) (body : List ℕ) (at now : ClientAt) (answer : List ℕ) → IfSome (frame_if kind body) (GoesTo sent Client)
+  kind_adds : (kind : Option InRecordKind) (body : List ℕ) (at now : ClientAt) (answer : List ℕ) → IfSome (frame_if kind body) (GoesTo sent Client)
       → TakesKind o at kind body now answer → Added w sent at now
   kind_adds None body at now answer h (is, said) = none_more w sent at now is
   kind_adds (Some told.Look) body at now answer h (is, said) = none_more w sent at now is

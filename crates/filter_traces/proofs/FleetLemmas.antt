@@ -4,7 +4,7 @@ use Rattle.std.specs.Prelude.{if◌then◌else◌}
 use Rattle.std.specs.List.{AllByRecursion}
 use Rattle.std.proofs.lemmas.Bool.{eqb-true}
 use Rattle.std.proofs.lemmas.List.{append_cancel_right}
-use Rattle.disk_model.specs.declared.left.Left.{Left}
+use Rattle.disk_model.specs.declared.save_outcome.SaveOutcome.{SaveOutcome}
 use Rattle.messages.specs.declared.node.Node.TheVariants.{Server, Client, Mirror}
 use Rattle.messages.specs.Hearing.{Coming, heard}
 use Rattle.server_core.specs.History as server
@@ -139,8 +139,8 @@ holds laws claims w at t is =
     let heard_legal = laws.only_sent w t is.legal is.fits in
     record {
       servers_are =
-          λ s. (laws.own w t).servers s ∙ ap (λ (past : List (Coming server.Entry Left)). (heard (at_server s) past).entries) (is.servers_are s);
-      client_is = (laws.own w t).client ∙ ap (λ (past : List (Coming client.Entry Left)). (heard (at_client w) past).entries) is.client_is;
+          λ s. (laws.own w t).servers s ∙ ap (λ (past : List (Coming server.Entry SaveOutcome)). (heard (at_server s) past).entries) (is.servers_are s);
+      client_is = (laws.own w t).client ∙ ap (λ (past : List (Coming client.Entry SaveOutcome)). (heard (at_client w) past).entries) is.client_is;
       mirror_is = (laws.own w t).mirror ∙ is.mirror_is;
       once = claims.once w (trace_heard w t);
       held = claims.held w (trace_heard w t) heard_legal;

@@ -22,8 +22,8 @@ use Rattle.net_world.specs.Frames.{FrameStep, to_of, OfServer, OfClient, OfMirro
 use Rattle.net_world.specs.InRange.{FrameStepFits}
 use Rattle.messages.specs.declared.node.Node.{Node}
 use Rattle.messages.specs.FrameBytes.{frame_at}
-use Rattle.filters.specs.declared.kinds.Told.{Told as Kind}
-use Rattle.filters.specs.declared.kinds.Told.TheVariants as kinds
+use Rattle.filters.specs.declared.kinds.InRecordKind.{InRecordKind as Kind}
+use Rattle.filters.specs.declared.kinds.InRecordKind.TheVariants as kinds
 use Rattle.filters.specs.Kinds.{told_numbered}
 use Rattle.filter_traces.specs.Members.{Happening, Answers, Ends, EndsWithin}
 use Rattle.filter_traces.specs.Members.{may_restart, may_renew}

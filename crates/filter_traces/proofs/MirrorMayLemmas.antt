@@ -3,15 +3,15 @@ use Rattle.std.proofs.Common.{◌≡◌, refl, ◌∙◌, ap, inl, inr, ℕ, Lis
 use Rattle.std.specs.Prelude.{IfSome}
 use Rattle.std.specs.List.{AllByRecursion}
 use Rattle.fc_base.specs.declared.fault.Fault.{Fault}
-use Rattle.disk_model.specs.Left.{saved_for}
+use Rattle.disk_model.specs.SaveOutcome.{saved_for}
 use Rattle.messages.specs.declared.frame.Frame.{Frame}
 use Rattle.messages.specs.declared.node.Node.TheVariants.{Mirror}
 use Rattle.messages.specs.FrameBytes.{frame_at, frame_faults}
 use Rattle.mirror_core.specs.History.{Entry, Met, Cut, Restart}
 use Rattle.mirror_core.specs.Words.{refusal, due}
 use Rattle.net_world.specs.Trace.{mirror_opening}
-use Rattle.filters.specs.declared.kinds.Told.{Told}
-use Rattle.filters.specs.declared.kinds.Told.TheVariants as told
+use Rattle.filters.specs.declared.kinds.InRecordKind.{InRecordKind}
+use Rattle.filters.specs.declared.kinds.InRecordKind.TheVariants as told
 use Rattle.filters.specs.Kinds.{told_numbered}
 use Rattle.filters.specs.NodeCuts.{CutsAnswer}
 use Rattle.filters.specs.NodeSteps.{Leaves, with_frame}
@@ -51,7 +51,7 @@ module _ (sent : List Frame) where
   body_adds (Ok f) at now answer may (inr (fault, memory, (is, said))) = none_more sent at now is
   body_adds (Err why) at now answer may (is, said) = none_more sent at now is
 
-  kind_adds : (kind : Option Told) (body : List ℕ) (at now : MirrorAt) (answer : List ℕ) → IfSome (frame_if kind body) (GoesTo sent Mirror)
+  kind_adds : (kind : Option InRecordKind) (body : List ℕ) (at now : MirrorAt) (answer : List ℕ) → IfSome (frame_if kind body) (GoesTo sent Mirror)
       → TakesKind mirror_opening at kind body now answer → Added sent at now
   kind_adds (Some told.Frame) body at now answer h takes =
       body_adds (frame_in body) at now answer (frame_may sent (frame_faults body) (frame_at body) h) takes

@@ -10,8 +10,8 @@ use Rattle.std.proofs.lemmas.Grind.{flat_map-append}
 use Rattle.fc_base.proofs.ListLemmas.{first_of}
 use Rattle.fc_base.specs.declared.fault.Fault.{Fault}
 use Rattle.fc_base.specs.Counted.{numbers_below}
-use Rattle.disk_model.specs.declared.left.Left.{Left}
-use Rattle.disk_model.specs.declared.left.Left.TheVariants.{NoSave, Saved}
+use Rattle.disk_model.specs.declared.save_outcome.SaveOutcome.{SaveOutcome}
+use Rattle.disk_model.specs.declared.save_outcome.SaveOutcome.TheVariants.{NoSave, Saved}
 use Rattle.job_file.specs.declared.job.Job.{Job}
 use Rattle.job_file.specs.declared.job.Phase.TheVariants.{Write}
 use Rattle.messages.specs.declared.body.Body.TheVariants as bodies
@@ -117,10 +117,10 @@ pub record HasBegun (n runs from : ℕ) (past : List Entry) : Type 0 where
   pub says : words_noted (opening n) past ≡ drawn runs 0
   pub staging : (k s : ℕ) → suc k ≤ runs → from ≤ s → begin_at (suc k) s (life (opening n) past) ≡ Staging
 
-answered : Bool → Peers → ClientNote → PacketInput → Left → Bool
+answered : Bool → Peers → ClientNote → PacketInput → SaveOutcome → Bool
 answered on peers m c left = is_none (refusal_by on peers m c) && is_answer (due_by on peers m c) left
 
-is_answered_so : (n runs from : ℕ) (past : List Entry) (c : PacketInput) (left : Left) → HasBegun n runs from past
+is_answered_so : (n runs from : ℕ) (past : List Entry) (c : PacketInput) (left : SaveOutcome) → HasBegun n runs from past
     → answered true (peers_at n past 0) (drawn runs 0) c left ≡ true → is_answered (opening n) past c left ≡ true
 unfolding answered
 is_answered_so n runs from past c left has h =

@@ -5,9 +5,9 @@ use Rattle.std.specs.List.{AllByRecursion}
 use Rattle.fc_base.specs.declared.fault.Fault.{Fault}
 use Rattle.fc_base.specs.declared.fault.Fault.TheVariants.{NotInFlight}
 use Rattle.fc_base.specs.declared.report.ReportParts.{ReportParts}
-use Rattle.disk_model.specs.declared.left.Left.{Left}
-use Rattle.disk_model.specs.declared.left.Left.TheVariants.{NoSave, Saved}
-use Rattle.disk_model.specs.Left.{saved_for}
+use Rattle.disk_model.specs.declared.save_outcome.SaveOutcome.{SaveOutcome}
+use Rattle.disk_model.specs.declared.save_outcome.SaveOutcome.TheVariants.{NoSave, Saved}
+use Rattle.disk_model.specs.SaveOutcome.{saved_for}
 use Rattle.engine.specs.declared.issue.Ticket.{Ticket}
 use Rattle.messages.specs.declared.frame.Frame.{Frame}
 use Rattle.messages.specs.declared.node.Node.TheVariants.{Server}
@@ -22,8 +22,8 @@ use Rattle.server_core.specs.Hearing.{FrameEntry, Met, Cut, Restart, packets_hea
 use Rattle.server_core.specs.Answers.{shown_entries}
 use Rattle.server_core.specs.FrameAnswers.{refusal, due}
 use Rattle.net_world.specs.Trace.{opening_of}
-use Rattle.filters.specs.declared.kinds.Told.{Told}
-use Rattle.filters.specs.declared.kinds.Told.TheVariants as told
+use Rattle.filters.specs.declared.kinds.InRecordKind.{InRecordKind}
+use Rattle.filters.specs.declared.kinds.InRecordKind.TheVariants as told
 use Rattle.filters.specs.Kinds.{told_numbered}
 use Rattle.filters.specs.UnderWay.{UnderWay, report_before, with_blocks}
 use Rattle.filters.specs.ServerAt.{ServerAt, at_by, with_check}
@@ -46,7 +46,7 @@ pub record Added (s : ℕ) (sent : List Frame) (old new : ServerAt) : Type 0 whe
 
 -- What a body asks may come, whatever its save leaves.
 abbrev AskedMay : ℕ → List Frame → Result FrameInput Fault → Type 0
-AskedMay s sent (Ok e) = (left : Left) → ServerMay s sent (Met e left)
+AskedMay s sent (Ok e) = (left : SaveOutcome) → ServerMay s sent (Met e left)
 AskedMay s sent (Err why) = Unit {0}
 
 none_more : (s : ℕ) (sent : List Frame) (old new : ServerAt) → new ≡ old → Added s sent old new
@@ -92,7 +92,7 @@ added_to s sent at before now a b = record {
     both (c ∷ more) h = (h.0, both more h.1)
 
 module _ (o : Opening) (s : ℕ) (sent : List Frame) where
-  by_adds : (why : Option Fault) (e : FrameInput) (at now : ServerAt) → ((left : Left) → ServerMay s sent (Met e left)) → now ≡ at_by why o at e → Added s sent at now
+  by_adds : (why : Option Fault) (e : FrameInput) (at now : ServerAt) → ((left : SaveOutcome) → ServerMay s sent (Met e left)) → now ≡ at_by why o at e → Added s sent at now
   by_adds None e at now may is = record {
     more = Met e (saved_for (due o at.list e)) ∷ [];
     list_is = ap (λ (c : ServerAt). c.list) is;
@@ -103,7 +103,7 @@ module _ (o : Opening) (s : ℕ) (sent : List Frame) where
 
   -- What is told of a check.
   tells_adds : (why : Option Fault) (e : FrameInput) (at now : ServerAt) (end : Result (Unit {0}) Fault) (answer : List ℕ)
-      → ((left : Left) → ServerMay s sent (Met e left)) → TellsBy why o at e end now answer → Added s sent at now
+      → ((left : SaveOutcome) → ServerMay s sent (Met e left)) → TellsBy why o at e end now answer → Added s sent at now
   tells_adds None e at now end answer may (ends, (is, said)) = by_adds None e at now may is
   tells_adds (Some fault) e at now end answer may (ends, (is, said)) = by_adds (Some fault) e at now may is
 
@@ -132,7 +132,7 @@ module _ (o : Opening) (s : ℕ) (sent : List Frame) where
   turns_add (turn ∷ turns) at now written more =
       added_to s sent at more.before now (turns_add turns at more.before more.earlier more.lived) (turn_adds turn more.before now more.answer more.takes)
 
-  taken_adds : (why : Option Fault) (e : FrameInput) (at now : ServerAt) (answer : List ℕ) → ((left : Left) → ServerMay s sent (Met e left))
+  taken_adds : (why : Option Fault) (e : FrameInput) (at now : ServerAt) (answer : List ℕ) → ((left : SaveOutcome) → ServerMay s sent (Met e left))
       → TakesBy why o at e now answer → Added s sent at now
   taken_adds None e at now answer may follows =
       added_to s sent at (at_by None o at e) now (by_adds None e at (at_by None o at e) may refl)
@@ -173,7 +173,7 @@ module _ (o : Opening) (s : ℕ) (sent : List Frame) where
   ends_adds (Ok taken) front at now answer follows = turns_add follows.turns.0 at now follows.written follows.turns.1
   ends_adds (Err fault) front at now answer (is, said) = none_more s sent at now is
 
-  kind_adds : (kind : Option Told) (body : List ℕ) (at now : ServerAt) (answer : List ℕ) → IfSome (frame_if kind body) (GoesTo sent (Server s))
+  kind_adds : (kind : Option InRecordKind) (body : List ℕ) (at now : ServerAt) (answer : List ℕ) → IfSome (frame_if kind body) (GoesTo sent (Server s))
       → TakesKind o at kind body now answer → Added s sent at now
   kind_adds (Some told.Frame) body at now answer h takes =
       body_adds (frame_in (frame_faults body) (frame_at body)) at now answer (frame_may s sent (frame_faults body) (frame_at body) h) takes

@@ -5,8 +5,8 @@ use Rattle.std.specs.List.{AllByRecursion, flat_map}
 use Rattle.std.proofs.lemmas.Bool.{eqb-true}
 use Rattle.std.proofs.lemmas.Bool.Decides.{nat_tests}
 use Rattle.std.proofs.lemmas.List.Elements.{All-contains}
-use Rattle.disk_model.specs.declared.left.Left.{Left}
-use Rattle.disk_model.specs.declared.left.Left.TheVariants.{Saved}
+use Rattle.disk_model.specs.declared.save_outcome.SaveOutcome.{SaveOutcome}
+use Rattle.disk_model.specs.declared.save_outcome.SaveOutcome.TheVariants.{Saved}
 use Rattle.messages.specs.declared.frame.Frame.{Frame}
 use Rattle.messages.specs.Hearing.{Coming, entry_of, frames_by, heard}
 use Rattle.server_core.specs.History as server
@@ -30,8 +30,8 @@ use Rattle.messages.specs.declared.node.Node.{Node}
 use Rattle.messages.specs.FrameBytes.{frame_at}
 use Rattle.messages.specs.FrameLaws.{IsReadable}
 use Rattle.filter_traces.proofs.ReadableLemmas.{Laws, trace_readable}
-use Rattle.filters.specs.declared.kinds.Told.{Told as Kind}
-use Rattle.filters.specs.declared.kinds.Told.TheVariants as kinds
+use Rattle.filters.specs.declared.kinds.InRecordKind.{InRecordKind as Kind}
+use Rattle.filters.specs.declared.kinds.InRecordKind.TheVariants as kinds
 use Rattle.filters.specs.Kinds.{told_numbered}
 use Rattle.filter_traces.specs.Members.{Happening, Answers, Ends, EndsWithin, WasSentTo, frame_bytes_if, frame_bytes_read, sent_since}
 use Rattle.filter_traces.proofs.MayLemmas.{GoesTo, ClientMay, AllMay, ServerMay, MirrorMay, frame_if, frame_read, client_happens, client_allowed, server_happens, server_fits, mirror_happens, client_may_still, server_may_still, mirror_may_still}
@@ -101,7 +101,7 @@ client_adds own w servers past mirrored sent c may (t, told) = (
     );
     fits = (tt, told.fits);
     servers_are = told.servers_are;
-    client_is = ap (λ (list : List (Coming client.Entry Left)). client_coming c ∷ list) told.client_is;
+    client_is = ap (λ (list : List (Coming client.Entry SaveOutcome)). client_coming c ∷ list) told.client_is;
     mirror_is = told.mirror_is;
     sent_is =
         sent_more w (OfClient (client_coming c)) t
@@ -111,11 +111,11 @@ client_adds own w servers past mirrored sent c may (t, told) = (
 )
   where
     hears : packets.of_client w (trace_heard w t) ≡ packets_heard (client_opening w) past
-    hears = (own w t).client ∙ ap (λ (list : List (Coming client.Entry Left)). (heard (at_client w) list).entries) told.client_is
+    hears = (own w t).client ∙ ap (λ (list : List (Coming client.Entry SaveOutcome)). (heard (at_client w) list).entries) told.client_is
 
     frames_are : frames_of_step w t (OfClient (client_coming c)) ≡ client_frames (client_opening w) past c
     frames_are =
-        ap (λ (list : List (Coming client.Entry Left)). frames_by (client_packets (client_opening w)) (heard (at_client w) list).entries
+        ap (λ (list : List (Coming client.Entry SaveOutcome)). frames_by (client_packets (client_opening w)) (heard (at_client w) list).entries
         (entry_of (at_client w) (heard (at_client w) list) (client_coming c))) told.client_is
 
 pub client_adds_all : NodesHearTheirOwn → (w : Setup) (servers : ℕ → List ServerEntry) (past : List ClientEntry) (mirrored : List mirror.Entry) (sent : List Frame)
@@ -216,14 +216,14 @@ server_adds w s servers client mirrored past sent c few may (t, told) = (
 
     frames_are : frames_of_step w t (OfServer s (server_coming c)) ≡ server_frames (opening_of s) past c
     frames_are =
-        ap (λ (list : List (Coming server.Entry Left)). frames_by (server_packets (opening_of s)) (heard (at_server s) list).entries
+        ap (λ (list : List (Coming server.Entry SaveOutcome)). frames_by (server_packets (opening_of s)) (heard (at_server s) list).entries
         (entry_of (at_server s) (heard (at_server s) list) (server_coming c))) own
 
     by_test : (r : ℕ) (b : Bool) → (s == r) ≡ b
         → (if s == r then server_coming c ∷ of_server r t else of_server r t) ≡ map server_coming (if s == r then c ∷ past else servers r)
     by_test r true e =
         ap (λ b. if b then server_coming c ∷ of_server r t else of_server r t) e
-        ∙ (ap (λ (list : List (Coming server.Entry Left)). server_coming c ∷ list)
+        ∙ (ap (λ (list : List (Coming server.Entry SaveOutcome)). server_coming c ∷ list)
         (told.servers_are r ∙ ap (λ b. map server_coming (if b then past else servers r)) e)
         ∙ sym (ap (λ b. map server_coming (if b then c ∷ past else servers r)) e))
     by_test r false e =

@@ -2,7 +2,7 @@
 -- to them, in one list, the newest first.
 use Rattle.std.specs.Prelude.{◌≡◌, ◌<◌, ℕ, true, List, [], ◌∷◌, map}
 use Rattle.messages.specs.declared.frame.Frame.{Frame}
-use Rattle.disk_model.specs.declared.left.Left.TheVariants.{Saved}
+use Rattle.disk_model.specs.declared.save_outcome.SaveOutcome.TheVariants.{Saved}
 use Rattle.server_core.specs.Hearing.{FrameEntry as ServerEntry, Restart as ServerRestart, coming_of as server_coming}
 use Rattle.client_core.specs.Hearing.{FrameEntry as ClientEntry, Restart, Renew, coming_of as client_coming}
 use Rattle.client_core.specs.Note.{Says}
@@ -79,7 +79,8 @@ pub record BeginsAtClient (w : Setup) (past : List FrameStep) (at : ClientAt) : 
   pub fresh : IsFresh at.list
   pub says : Says at.note (noted (client_opening w) at.list)
 
--- So does a server's; it has saved its next boot, and no check is under way.
+-- A server's filter begins behind this trace: that is all that came to it, it has saved its next
+-- boot, and no check is under way.
 pub record BeginsAtServer (s : ℕ) (past : List FrameStep) (at : ServerAt) : Type 0 where
   pub older : List ServerEntry
   pub list_is : map server_coming at.list ≡ of_server s past
@@ -87,7 +88,8 @@ pub record BeginsAtServer (s : ℕ) (past : List FrameStep) (at : ServerAt) : Ty
   pub saved : at.note ≡ next_boot (server_noted (opening_of s) older)
   pub checks : at.checks ≡ no_checks
 
--- And the mirror's.
+-- The mirror's filter begins behind this trace: that is all that came to it, and its note says what
+-- that does.
 pub record BeginsAtMirror (past : List FrameStep) (at : MirrorAt) : Type 0 where
   pub older : List mirror.Entry
   pub list_is : at.list ≡ of_mirror past

@@ -71,8 +71,8 @@ FleetsCanBegin =
     Says note (first_note w.mirror g) → MirrorSays copies mirror_blank
     → (first : FleetAt) × BeginsEmpty w note copies first
 
--- And each without a mirror can begin over drawn numbers, and over servers that have served others
--- before, with runs up to these numbers.
+-- Each fleet without a mirror can begin over drawn numbers, and over servers that have served
+-- others before, with runs up to these numbers.
 abbrev pub FleetsCanBeginAgain : Type 0
 FleetsCanBeginAgain =
     (n runs attempts : ℕ) (said : ℕ → ServerNote) → n ≤ MAX_SERVERS →

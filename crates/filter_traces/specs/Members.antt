@@ -8,7 +8,7 @@ use Rattle.messages.specs.declared.node.Node.TheVariants.{Server, Client, Mirror
 use Rattle.messages.specs.FrameBytes.{frame_spelling}
 use Rattle.messages.specs.Pieces.{frames_of}
 use Rattle.messages.specs.Ranges.{is_generation}
-use Rattle.disk_model.specs.declared.left.Left.TheVariants.{Saved}
+use Rattle.disk_model.specs.declared.save_outcome.SaveOutcome.TheVariants.{Saved}
 use Rattle.server_core.specs.declared.note.ServerNote.{ServerNote}
 use Rattle.server_core.specs.Note.{Says as ServerSays}
 use Rattle.server_core.specs.Hearing.{FrameEntry as ServerEntry, Cut as ServerCut, Restart as ServerRestart}
@@ -22,8 +22,8 @@ use Rattle.mirror_core.specs.Packets.{packets as mirror_packets}
 use Rattle.net_world.specs.Setup.{Setup}
 use Rattle.net_world.specs.Trace.{opening_of, client_opening, mirror_opening}
 use Rattle.net_world.specs.Frames.{to_of}
-use Rattle.filters.specs.declared.kinds.Told.{Told}
-use Rattle.filters.specs.declared.kinds.Told.TheVariants as told
+use Rattle.filters.specs.declared.kinds.InRecordKind.{InRecordKind}
+use Rattle.filters.specs.declared.kinds.InRecordKind.TheVariants as told
 use Rattle.filters.specs.Kinds.{told_numbered}
 use Rattle.filters.specs.Lives.{RecordParts}
 use Rattle.filters.specs.NodeCuts.{CutsAnswer}
@@ -55,7 +55,7 @@ pub record Member (S E : Type 0) : Type 1 where
 abbrev pub may_restart : Setup → List ClientEntry → Bool
 may_restart w past = not w.mirror || nat_lt 0 (noted (client_opening w) past).generation
 
--- It may begin anew: with a mirror, in a generation in which none has begun.
+-- A client may begin anew in a fleet: with a mirror, in a generation in which none has begun.
 abbrev pub may_renew : Setup → List ClientEntry → ℕ → Bool
 may_renew w past g =
     w.mirror
@@ -69,7 +69,7 @@ pub record ClientRestarts (w : Setup) (left now : ClientAt) : Type 0 where
     note = left.note;
   }
 
--- Its note is lost, and it begins anew.
+-- The client's note is lost, and the client begins anew.
 pub record ClientRenews (w : Setup) (left now : ClientAt) : Type 0 where
   pub generation : ℕ
   pub may : IsTrue (may_renew w left.list generation)
@@ -78,7 +78,7 @@ pub record ClientRenews (w : Setup) (left now : ClientAt) : Type 0 where
     note = spelling (new_note generation);
   }
 
--- The client's filter.
+-- The filter of the client, as one of a fleet.
 abbrev pub client_member : Setup → Member ClientAt ClientEntry
 client_member w = record {
   node = Client;
@@ -110,7 +110,7 @@ server_member s = record {
   frames = server_frames (opening_of s);
 }
 
--- The mirror's filter.
+-- The filter of the mirror, as one of a fleet.
 abbrev pub mirror_member : Member MirrorAt mirror.Entry
 mirror_member = record {
   node = Mirror;
@@ -140,7 +140,7 @@ Becomes m at Ends now = m.Begins at now
 Becomes m at (EndsWithin r part) now = IsCutWithin m at r part now
 
 -- The bytes of a record of this kind, if that brings a frame.
-abbrev pub frame_bytes_if : Option Told → List ℕ → Option (List ℕ)
+abbrev pub frame_bytes_if : Option InRecordKind → List ℕ → Option (List ℕ)
 frame_bytes_if (Some told.Frame) body = Some body
 frame_bytes_if _ body = None
 

@@ -5,10 +5,10 @@ use Rattle.fc_base.specs.declared.fault.Fault.{Fault}
 use Rattle.fc_base.specs.declared.fault.FaultSort.{FaultSort}
 use Rattle.fc_base.specs.declared.fault.FaultSort.TheVariants as sorts
 use Rattle.fc_base.specs.Fault.{sort_of}
-use Rattle.disk_model.specs.Left.{saved_for}
+use Rattle.disk_model.specs.SaveOutcome.{saved_for}
 use Rattle.disk_model.specs.Notes.{Note}
-use Rattle.disk_model.specs.declared.left.Left.{Left}
-use Rattle.disk_model.specs.declared.left.Left.TheVariants.{NoSave}
+use Rattle.disk_model.specs.declared.save_outcome.SaveOutcome.{SaveOutcome}
+use Rattle.disk_model.specs.declared.save_outcome.SaveOutcome.TheVariants.{NoSave}
 use Rattle.messages.specs.declared.frame.Frame.{Frame}
 use Rattle.messages.specs.Hearing.{Meaning, Says, Waits, Spoils, Strays, meaning, heard_by, with_entry}
 use Rattle.messages.specs.Senses.{is_drop}
@@ -28,7 +28,7 @@ use Rattle.client_core.specs.Laws.{LooksAtAll}
 use Rattle.attempt_ends.specs.declared.asked.AskedPlace.{AskedPlace}
 use Rattle.attempt_ends.specs.Asked.{places_asked}
 use Rattle.attempt_ends.specs.Attempts.{attempt_by, attempts_made}
-use Rattle.filters.specs.declared.answered.Answered.{Answered}
+use Rattle.filters.specs.declared.node_step.NodeStep.{NodeStep}
 use Rattle.filters.specs.NodeSteps.{with_frame}
 use Rattle.filters.specs.ClientSteps.{noted, after_answer, after_refusal, BodyEnds, NotAnswered}
 use Rattle.filters.specs.declared.beginning.Beginning.{Beginning}
@@ -46,7 +46,7 @@ none_more o true past = append-nil (attempts_made o past)
 none_more o false past = refl
 
 -- Nothing that a frame says makes an attempt.
-heard_none : (o : Opening) (past : List FrameEntry) (left : Left) (m : Meaning)
+heard_none : (o : Opening) (past : List FrameEntry) (left : SaveOutcome) (m : Meaning)
     → attempts_made o (with_entry (heard_by (rules o) left m) (packets_heard o past)) ≡ attempts_made o (packets_heard o past)
 heard_none o past left (Says p) = none_more o (is_answered o (packets_heard o past) (inputs.Deliver p) left) (packets_heard o past)
 heard_none o past left Waits = refl
@@ -108,7 +108,7 @@ not_taken_attempts note o at e old new sorts.Refusal fault is was ends = refused
 
 -- What a body makes of them.
 pub taken_attempts : {T : Type 0} (note : T → Note) (o : Opening) (at : ClientAt) (asked : Result FrameInput Fault) (old new : Client T)
-    (result : Result Answered Fault) (was : (note_in note old).bytes ≡ at.note) (h : BodyEnds note o at.list asked old new result)
+    (result : Result NodeStep Fault) (was : (note_in note old).bytes ≡ at.note) (h : BodyEnds note o at.list asked old new result)
     → attempts_made o (packets_heard o (body_taken note o at asked old new result was h).0.list)
     ≡ attempts_made o (packets_heard o at.list) ++ attempts_added o at.list asked result
 unfolding body_taken not_taken
@@ -119,7 +119,7 @@ taken_attempts note o at (Err why) old new (Ok a) was h = absurd h
 taken_attempts note o at (Err why) old new (Err fault) was h = sym (append-nil _)
 
 -- The bytes of a frame make no attempt.
-pub frame_adds : (o : Opening) (past : List FrameEntry) (faults : List Fault) (frame : Option Frame) (r : Result Answered Fault)
+pub frame_adds : (o : Opening) (past : List FrameEntry) (faults : List Fault) (frame : Option Frame) (r : Result NodeStep Fault)
     → attempts_added o past (with_frame inputs.Deliver faults frame) r ≡ []
 frame_adds o past [] (Some f) (Ok a) = refl
 frame_adds o past [] (Some f) (Err fault) = refl

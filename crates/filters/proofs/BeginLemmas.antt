@@ -10,7 +10,7 @@ use Rattle.client_core.specs.Stands.{IsBadNote, NotOpened, NotRenewed}
 use Rattle.client_core.specs.FrameEnds.{Opens, BeginsAnew}
 use Rattle.filters.specs.declared.beginning.Beginning.{Beginning}
 use Rattle.filters.specs.declared.beginning.Beginning.TheVariants.{Alone, Mirrored, Renewed}
-use Rattle.filters.specs.declared.kept_notes.KeptNotes.{KeptNotes}
+use Rattle.filters.specs.declared.note_buffer.NoteBuffer.{NoteBuffer}
 use Rattle.filters.specs.Kept.{note_kept}
 use Rattle.filters.specs.Records.{end_bytes}
 use Rattle.filters.specs.ClientSteps.{noted, save_bytes}
@@ -39,7 +39,7 @@ first_is false past bytes = refl
 first_is true past bytes = refl
 
 -- A client that was restarted is where it begins.
-pub restarted : (mirror : Bool) (servers : ℕ) (bytes : List ℕ) (old : Note) (client : Client KeptNotes) → old.bytes ≡ bytes
+pub restarted : (mirror : Bool) (servers : ℕ) (bytes : List ℕ) (old : Note) (client : Client NoteBuffer) → old.bytes ≡ bytes
     → Opens note_kept servers mirror old client → IsOpened (restarts mirror) servers bytes client
 restarted mirror servers bytes old client is opens = record {
   may = may_begin mirror bytes (λ has none. opens.some has (is ∙ none));
@@ -77,7 +77,7 @@ blank_said = record {
 }
 
 -- A client that was begun anew is where it begins.
-pub renewed : (g servers : ℕ) (bytes : List ℕ) (old : Note) (client : Client KeptNotes) → old.bytes ≡ bytes
+pub renewed : (g servers : ℕ) (bytes : List ℕ) (old : Note) (client : Client NoteBuffer) → old.bytes ≡ bytes
     → BeginsAnew note_kept servers g old client → IsOpened (Renewed g) servers bytes client
 renewed g servers bytes old client is anew = record {
   may = (sym is ∙ anew.empty, anew.free);

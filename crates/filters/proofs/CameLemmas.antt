@@ -11,16 +11,16 @@ use Rattle.recheck.specs.Expected.{Expected}
 use Rattle.recheck.specs.Faults.{is_checked, is_expected, is_fault}
 use Rattle.recheck.specs.Report.{Tally, looked_at, report, report_of, tally, up_to_first}
 use Rattle.recheck.specs.Check.{Check, HasSeen, has_ended}
-use Rattle.filters.specs.UnderWay.{Came, came_with, held_by, next_block}
+use Rattle.filters.specs.UnderWay.{BlockBytes, came_with, held_by, next_block}
 use Rattle.filters.specs.CheckRuns.{AreBelow, AreOf}
 
 -- ---- the content that came
 
-pub below_up : (n m : ℕ) (cs : List Came) → n ≤ m → AreBelow n cs → AreBelow m cs
+pub below_up : (n m : ℕ) (cs : List BlockBytes) → n ≤ m → AreBelow n cs → AreBelow m cs
 below_up n m [] le below = tt
 below_up n m (c ∷ cs) le (lt, below) = (omega (arith, lt, le), below)
 
-others : (n : ℕ) (x : List ℕ) (held : ℕ → List ℕ) (cs : List Came) → AreBelow n cs → AreOf held cs → AreOf (λ b. if n == b then x else held b) cs
+others : (n : ℕ) (x : List ℕ) (held : ℕ → List ℕ) (cs : List BlockBytes) → AreBelow n cs → AreOf held cs → AreOf (λ b. if n == b then x else held b) cs
 others n x held [] below are = tt
 others n x held (c ∷ cs) (lt, below) (is, are) = (
   ap (λ (t : Bool). if t then x else held c.block) (ne_eqb n c.block (λ e. omega (arith, lt, e))) ∙ is,
@@ -28,19 +28,19 @@ others n x held (c ∷ cs) (lt, below) (is, are) = (
 )
 
 -- What came is a content of the blocks that came.
-pub own : (n : ℕ) (cs : List Came) → AreBelow n cs → AreOf (held_by cs) cs
+pub own : (n : ℕ) (cs : List BlockBytes) → AreBelow n cs → AreOf (held_by cs) cs
 own n [] below = tt
 own n (c ∷ cs) (lt, below) = (
   ap (λ (t : Bool). if t then c.bytes else held_by cs c.block) (eq-eqb c.block c.block refl),
   others c.block c.bytes (held_by cs) cs below (own c.block cs below),
 )
 
-pub below_with : (first size : ℕ) (bytes : List ℕ) (n : ℕ) (came : List Came) → AreBelow first came → AreBelow (first + n) (came_with first size bytes n came)
+pub below_with : (first size : ℕ) (bytes : List ℕ) (n : ℕ) (came : List BlockBytes) → AreBelow first came → AreBelow (first + n) (came_with first size bytes n came)
 below_with first size bytes zero came below = below_up first (first + zero) came (omega arith) below
 below_with first size bytes (suc n) came below = (omega arith, below_with first size bytes n came below)
 
 -- A content of more blocks is one of fewer.
-pub are_front : (held : ℕ → List ℕ) (first size : ℕ) (bytes : List ℕ) (n d : ℕ) (came : List Came) → AreOf held (came_with first size bytes (n + d) came)
+pub are_front : (held : ℕ → List ℕ) (first size : ℕ) (bytes : List ℕ) (n d : ℕ) (came : List BlockBytes) → AreOf held (came_with first size bytes (n + d) came)
     → AreOf held (came_with first size bytes n came)
 are_front held first size bytes n zero came are =
     let same : n + zero ≡ n = omega arith in subst (λ k. AreOf held (came_with first size bytes k came)) same are
@@ -49,7 +49,7 @@ are_front held first size bytes n (suc d) came are =
     let more = subst (λ k. AreOf held (came_with first size bytes k came)) same are in
     are_front held first size bytes n d came more.1
 
-pub next_with : (first size : ℕ) (bytes : List ℕ) (n : ℕ) (came : List Came) → 0 < n → next_block (came_with first size bytes n came) ≡ first + n
+pub next_with : (first size : ℕ) (bytes : List ℕ) (n : ℕ) (came : List BlockBytes) → 0 < n → next_block (came_with first size bytes n came) ≡ first + n
 next_with first size bytes zero came some = absurd (omega (arith, some))
 next_with first size bytes (suc n) came some = omega arith
 

@@ -4,7 +4,7 @@ use Rattle.std.proofs.Common.{◌*◌, ◌^◌, ◌<◌, ◌≤◌, ◌&&◌, if
 use Rattle.std.proofs.lemmas.Bool.{leb-true, and_parts}
 use Rattle.fc_base.specs.declared.limits.TheConstants.{MAX_GENERATION}
 use Rattle.fc_base.specs.declared.fault.Fault.{Fault}
-use Rattle.disk_model.specs.declared.left.Left.TheVariants.{Saved}
+use Rattle.disk_model.specs.declared.save_outcome.SaveOutcome.TheVariants.{Saved}
 use Rattle.messages.specs.Ranges.{is_generation}
 use Rattle.client_core.specs.Inputs.{FrameInput}
 use Rattle.client_core.specs.declared.note.ClientNote.{ClientNote}
@@ -14,8 +14,8 @@ use Rattle.client_core.specs.Words.{renewed_after}
 use Rattle.client_core.specs.Hearing.{Renew, Cut}
 use Rattle.client_core.specs.FrameAnswers.{refusal, due}
 use Rattle.filters.specs.declared.beginning.Beginning.TheVariants.{Renewed}
-use Rattle.filters.specs.declared.kinds.Told.{Told}
-use Rattle.filters.specs.declared.kinds.Told.TheVariants as told
+use Rattle.filters.specs.declared.kinds.InRecordKind.{InRecordKind}
+use Rattle.filters.specs.declared.kinds.InRecordKind.TheVariants as told
 use Rattle.filters.specs.Kinds.{told_numbered}
 use Rattle.filters.specs.Records.{end_bytes}
 use Rattle.filters.specs.declared.asking.EndsAsked.{EndsAsked}
@@ -59,7 +59,7 @@ ends_first o before (Some asked) after answer (inl (is, said)) = inl (ap note is
 ends_first o before (Some asked) after answer (inr (fault, memory, (is, said))) = inl (ap note is)
 ends_first o before None after answer (is, said) = inl (ap note is)
 
-kind_first : (o : Opening) (before : ClientAt) (kind : Option Told) (body : List ℕ) (after : ClientAt) (answer : List ℕ)
+kind_first : (o : Opening) (before : ClientAt) (kind : Option InRecordKind) (body : List ℕ) (after : ClientAt) (answer : List ℕ)
     → TakesKind o before kind body after answer → SaysFirst note before after answer
 kind_first o before None body after answer (is, said) = inl (ap note is)
 kind_first o before (Some told.Look) body after answer (is, said) = inl (ap note is)

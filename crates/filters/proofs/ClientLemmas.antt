@@ -6,7 +6,7 @@ use Rattle.fc_base.specs.declared.fault.FaultSort.{FaultSort}
 use Rattle.fc_base.specs.declared.fault.FaultSort.TheVariants as sorts
 use Rattle.disk_model.specs.Notes.{Note}
 use Rattle.node.specs.Steps.{Answers, Faults}
-use Rattle.disk_model.specs.declared.left.Left.TheVariants.{NoSave}
+use Rattle.disk_model.specs.declared.save_outcome.SaveOutcome.TheVariants.{NoSave}
 use Rattle.messages.specs.Senses.{is_drop}
 use Rattle.client_core.specs.Inputs.{FrameInput}
 use Rattle.client_core.specs.declared.client.Client.{Client}
@@ -14,7 +14,7 @@ use Rattle.client_core.specs.History.{Opening}
 use Rattle.client_core.specs.Hearing.{FrameEntry, Met}
 use Rattle.client_core.specs.FrameAnswers.{sense, due}
 use Rattle.client_core.specs.FrameEnds.{StandsFor, steps, note_in}
-use Rattle.filters.specs.declared.answered.Answered.{Answered}
+use Rattle.filters.specs.declared.node_step.NodeStep.{NodeStep}
 use Rattle.filters.specs.ClientSteps.{IsAnswered, NotAnswered, number_given}
 
 -- What a refused input leaves.
@@ -34,7 +34,7 @@ not_answered note o past e sorts.Save fault old new same f = absurd (omega (arit
 not_answered note o past e sorts.Refusal fault old new same r = (r.why, (r.same_note, stood note o past e new (is_drop (sense o past e)) refl r.stands r.unchanged))
 
 -- An input that is answered.
-pub answered_so : {T : Type 0} (note : T → Note) (o : Opening) (past : List FrameEntry) (e : FrameInput) (old new : Client T) (outs : List (List ℕ)) (a : Answered)
+pub answered_so : {T : Type 0} (note : T → Note) (o : Opening) (past : List FrameEntry) (e : FrameInput) (old new : Client T) (outs : List (List ℕ)) (a : NodeStep)
     → Answers (steps note o) past e old new outs → a.saves ≡ is_some (due o past e) → a.number ≡ number_given o past e → a.frames ≡ outs
     → IsAnswered note o past e old new a
 answered_so note o past e old new outs a h saves number frames = record {

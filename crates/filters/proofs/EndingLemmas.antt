@@ -9,7 +9,7 @@ use Rattle.filters.specs.Written.{Written, Puts}
 use Rattle.filters.proofs.OutputLemmas.{puts_both}
 use Rattle.filters.specs.declared.asking.EndsAsked.{EndsAsked}
 use Rattle.filters.specs.declared.ending.EndNumbers.{EndNumbers}
-use Rattle.filters.specs.declared.kinds.Said.TheVariants as said
+use Rattle.filters.specs.declared.kinds.OutRecordKind.TheVariants as said
 use Rattle.filters.specs.Kinds.{said_number}
 use Rattle.filters.specs.Records.{head_bytes}
 use Rattle.filters.specs.EndTells.{numbers_of, end_names, end_counts, place_bytes, word_number, attempt_bytes, sums_bytes, word_bytes}

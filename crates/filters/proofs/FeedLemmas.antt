@@ -18,7 +18,7 @@ use Rattle.filters.specs.Written.{Written}
 use Rattle.filters.proofs.OutputLemmas.{puts_none}
 use Rattle.filters.specs.Kept.{note_kept}
 use Rattle.filters.specs.declared.checking.Checking.{Checking}
-use Rattle.filters.specs.declared.checking.Went.{Went}
+use Rattle.filters.specs.declared.checking.CheckTurn.{CheckTurn}
 use Rattle.filters.specs.declared.names.BlockName.{BlockName}
 use Rattle.filters.specs.declared.names.TheConstants.{BLOCK_NAME}
 use Rattle.filters.specs.declared.server_filter.ServerFilter.{ServerFilter}
@@ -151,7 +151,7 @@ feeds_other old mid new body bytes name c text enough name_is bytes_are open_att
     kept_under j c u w is kept = subst (IsCheck j (Some c)) (sym is) kept
 
 -- They are, and the check goes on.
-pub feeds_so : (old mid new : ServerFilter) (body bytes : List ℕ) (name : BlockName) (c : Checking) (given : ℕ) (went : Went) (end : Result (Unit {0}) Fault)
+pub feeds_so : (old mid new : ServerFilter) (body bytes : List ℕ) (name : BlockName) (c : Checking) (given : ℕ) (went : CheckTurn) (end : Result (Unit {0}) Fault)
     (text new_text : Written) → BLOCK_NAME ≤ length body
     → name ≡ block_in (take BLOCK_NAME body) → bytes ≡ drop BLOCK_NAME body → IsOpen old name.attempt true → mid.server ≡ old.server
     → TakesOut old.checks.items name mid.checks.items (Some c) → c.check.expected.job.bs ≡ c.size → IsSome c (length bytes) (Some given)

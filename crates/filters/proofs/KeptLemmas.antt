@@ -18,9 +18,9 @@ use Rattle.server_core.specs.Check.{progress}
 use Rattle.server_core.specs.FrameEnds.{StandsFor}
 use Rattle.filters.specs.Written.{Written, Puts}
 use Rattle.filters.specs.declared.checking.Checking.{Checking}
-use Rattle.filters.specs.declared.checking.Went.{Went}
-use Rattle.filters.specs.declared.checking.Went.TheVariants.{On, Ended}
-use Rattle.filters.specs.declared.kept_notes.KeptNotes.{KeptNotes}
+use Rattle.filters.specs.declared.checking.CheckTurn.{CheckTurn}
+use Rattle.filters.specs.declared.checking.CheckTurn.TheVariants.{On, Ended}
+use Rattle.filters.specs.declared.note_buffer.NoteBuffer.{NoteBuffer}
 use Rattle.filters.specs.declared.names.BlockName.{BlockName}
 use Rattle.filters.specs.declared.server_filter.ServerFilter.{ServerFilter}
 use Rattle.filters.specs.Kept.{note_kept}
@@ -136,8 +136,8 @@ none_is old new name at (is, left) all =
 -- ---- a check goes on
 
 -- Where a filter is stays so with the same server.
-pub at_same : (old new : Server KeptNotes) (o : Opening) (at : ServerAt) → new ≡ old → IsAt note_kept old o at → IsAt note_kept new o at
-at_same old new o at same is = subst (λ (s : Server KeptNotes). IsAt note_kept s o at) (sym same) is
+pub at_same : (old new : Server NoteBuffer) (o : Opening) (at : ServerAt) → new ≡ old → IsAt note_kept old o at → IsAt note_kept new o at
+at_same old new o at same is = subst (λ (s : Server NoteBuffer). IsAt note_kept s o at) (sym same) is
 
 pub went_on : (old new : ServerFilter) (boot a j : ℕ) (c : Checking) (text new_text : Written) → new.server ≡ old.server
     → new.checks.items ≡ set old.checks.items j (Some c) → j < length old.checks.items → c.check.expected.job.bs ≡ c.size
@@ -253,7 +253,7 @@ new_so filter j c shown me job state shows ready found me_is other is = record {
   next = is.next_is;
 }
 
-pub begins_so : (old new : ServerFilter) (j : ℕ) (c : Checking) (went : Went) (end : Result (Unit {0}) Fault) (text new_text : Written)
+pub begins_so : (old new : ServerFilter) (j : ℕ) (c : Checking) (went : CheckTurn) (end : Result (Unit {0}) Fault) (text new_text : Written)
     → IsNewCheck old j c → ((i : ℕ) (u : UnderWay) → HasCome i c u → c.next ≡ next_block u.came → Goes i u went)
     → GoesSo old c.boot c.attempt j went end new text new_text → AnswersBy Turns (IsHere old) (IsHere new) text new_text
 begins_so old new j c went end text new_text is_new seeks goes =

@@ -6,8 +6,8 @@ use Rattle.mirror_core.specs.declared.note.MirrorNote.{MirrorNote}
 use Rattle.mirror_core.specs.History.{Cut}
 use Rattle.mirror_core.specs.Note.{Says, note_of, spelling}
 use Rattle.mirror_core.specs.Words.{words_noted, refusal, due}
-use Rattle.filters.specs.declared.kinds.Told.{Told}
-use Rattle.filters.specs.declared.kinds.Told.TheVariants as told
+use Rattle.filters.specs.declared.kinds.InRecordKind.{InRecordKind}
+use Rattle.filters.specs.declared.kinds.InRecordKind.TheVariants as told
 use Rattle.filters.specs.Kinds.{told_numbered}
 use Rattle.filters.specs.Lives.{RecordParts}
 use Rattle.filters.specs.NodeSteps.{Leaves}
@@ -40,7 +40,7 @@ body_first o before (Ok f) after answer (inl leaves) = frame_first o (refusal o 
 body_first o before (Ok f) after answer (inr (fault, memory, (is, said))) = inl (ap note is)
 body_first o before (Err why) after answer (is, said) = inl (ap note is)
 
-kind_first : (o : MirrorNote) (before : MirrorAt) (kind : Option Told) (body : List ℕ) (after : MirrorAt) (answer : List ℕ)
+kind_first : (o : MirrorNote) (before : MirrorAt) (kind : Option InRecordKind) (body : List ℕ) (after : MirrorAt) (answer : List ℕ)
     → TakesKind o before kind body after answer → SaysFirst note before after answer
 kind_first o before (Some told.Frame) body after answer takes = body_first o before (frame_in body) after answer takes
 kind_first o before None body after answer (is, said) = inl (ap note is)

@@ -14,7 +14,7 @@ use Rattle.mirror_core.specs.History.{Entry}
 use Rattle.mirror_core.specs.Note.{Says}
 use Rattle.mirror_core.specs.Stands.{Opens, NotOpened}
 use Rattle.mirror_core.specs.Words.{words_noted, due, would_save}
-use Rattle.filters.specs.declared.answered.Answered.{Answered}
+use Rattle.filters.specs.declared.node_step.NodeStep.{NodeStep}
 use Rattle.filters.specs.Records.{end_bytes}
 use Rattle.filters.specs.NodeSteps.{NotTaken}
 use Rattle.filters.specs.ClientSteps.{save_bytes, number_bytes, send_bytes, result_bytes}
@@ -27,7 +27,7 @@ pub note_says : {T : Type 0} (note : T → Note) (mirror : Mirror T) (o : Mirror
 note_says note mirror o at (stands, is) = subst (λ bytes. Says bytes (words_noted o at.list)) is stands.durable
 
 -- What is written of an answer is what the list says.
-answer_is : {T : Type 0} (note : T → Note) (o : MirrorNote) (past : List Entry) (f : Frame) (old new : Mirror T) (a : Answered)
+answer_is : {T : Type 0} (note : T → Note) (o : MirrorNote) (past : List Entry) (f : Frame) (old new : Mirror T) (a : NodeStep)
     → FrameEnds note o past f old new (Ok a) → result_bytes (note new.durable.notes).bytes (Ok a) ≡ taken_bytes o past f
 answer_is note o past f old new a (h, none) =
     let saved = saved_so (due o past f) (new_note o past f) (note old.durable.notes) (note new.durable.notes) a.saves h.saves_are h.answers.leaves in
@@ -50,7 +50,7 @@ frame_not_taken note o at f old new sorts.Refusal fault is was h = (
 
 -- What the mirror makes of a body, by how its call ends.
 pub body_taken : {T : Type 0} (note : T → Note) (o : MirrorNote) (at : MirrorAt) (asked : Result Frame Fault) (old new : Mirror T)
-    (result : Result Answered Fault)
+    (result : Result NodeStep Fault)
     → IsAt note old o at → BodyEnds note o at.list asked old new result
     → (now : MirrorAt) × IsAt note new o now × TakesBody o at asked now (result_bytes (note new.durable.notes).bytes result)
 body_taken note o at (Ok f) old new (Ok a) is (h, none) = (

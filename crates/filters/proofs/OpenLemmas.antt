@@ -3,7 +3,7 @@ use Rattle.std.proofs.Common.{◌≡◌, ◌⊎◌, ◌∙◌, ap, append_assoc,
 use Rattle.std.specs.Prelude.{IsTrue, OnErr}
 use Rattle.std.specs.Io.KnownBytes.{Appends, Consumes}
 use Rattle.fc_base.specs.declared.fault.Fault.{Fault}
-use Rattle.filters.specs.declared.kinds.Told.TheVariants as told
+use Rattle.filters.specs.declared.kinds.InRecordKind.TheVariants as told
 use Rattle.filters.specs.Kinds.{told_number}
 use Rattle.filters.specs.Records.{record_bytes, end_bytes}
 use Rattle.filters.specs.Written.{Written, AppendsFront, Puts, PutsBy}

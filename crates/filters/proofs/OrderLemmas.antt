@@ -7,10 +7,10 @@ use Rattle.fc_base.specs.declared.fault.Fault.{Fault}
 use Rattle.fc_base.specs.declared.fault.Fault.TheVariants.{Down}
 use Rattle.fc_base.specs.declared.limits.TheConstants.{MAX_WRITES}
 use Rattle.fc_base.specs.declared.report.ReportParts.{ReportParts}
-use Rattle.disk_model.specs.declared.left.Left.TheVariants.{NoSave}
+use Rattle.disk_model.specs.declared.save_outcome.SaveOutcome.TheVariants.{NoSave}
 use Rattle.node.specs.Steps.{unless_refused}
-use Rattle.window.specs.History as window
-use Rattle.window.specs.History.{issued, issues}
+use Rattle.engine.specs.History as window
+use Rattle.engine.specs.History.{issued, issues}
 use Rattle.engine.specs.declared.issue.Ticket.{Ticket}
 use Rattle.engine.specs.declared.issue.Issue.{Issue as Answer}
 use Rattle.engine.specs.declared.issue.Issue.TheVariants as answers

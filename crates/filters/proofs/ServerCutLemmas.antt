@@ -15,8 +15,8 @@ use Rattle.messages.specs.FrameBytes.{frame_at, frame_faults}
 use Rattle.server_core.specs.FrameAnswers.{refusal, due}
 use Rattle.filters.specs.declared.names.BlockName.{BlockName}
 use Rattle.filters.specs.declared.names.TheConstants.{BLOCK_NAME}
-use Rattle.filters.specs.declared.kinds.Told.{Told}
-use Rattle.filters.specs.declared.kinds.Told.TheVariants as told
+use Rattle.filters.specs.declared.kinds.InRecordKind.{InRecordKind}
+use Rattle.filters.specs.declared.kinds.InRecordKind.TheVariants as told
 use Rattle.filters.specs.Kinds.{told_numbered}
 use Rattle.filters.specs.Records.{end_bytes}
 use Rattle.filters.specs.UnderWay.{UnderWay, report_before, with_blocks}
@@ -121,7 +121,7 @@ ends_note : (end : Result (Unit {0}) Fault) (o : Opening) (at : ServerAt) (front
 ends_note (Ok taken) o at front now answer follows = turns_note o at now follows.written follows.turns
 ends_note (Err fault) o at front now answer (is, said) = note_of now at is
 
-kind_first : (o : Opening) (before : ServerAt) (kind : Option Told) (body : List ℕ) (after : ServerAt) (answer : List ℕ)
+kind_first : (o : Opening) (before : ServerAt) (kind : Option InRecordKind) (body : List ℕ) (after : ServerAt) (answer : List ℕ)
     → TakesKind o before kind body after answer → SaysFirst note before after answer
 kind_first o before (Some told.Frame) body after answer takes =
     body_first o before (frame_in (frame_faults body) (frame_at body)) after answer takes

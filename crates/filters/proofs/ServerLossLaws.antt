@@ -9,8 +9,8 @@ use Rattle.fc_base.specs.declared.record.JobParts.{JobParts}
 use Rattle.fc_base.specs.declared.report.ReportParts.{ReportParts}
 use Rattle.write_order.specs.Blocks.{block_of}
 use Rattle.write_order.specs.Laws.{WritesStayInTheRegion}
-use Rattle.window.specs.History.{Event, issued, is_done}
-use Rattle.window.specs.Sets.{DoneWasIssued}
+use Rattle.engine.specs.History.{Event, issued, is_done}
+use Rattle.engine.specs.Sets.{DoneWasIssued}
 use Rattle.engine.specs.Laws.{StatesCountTheDone, LaterWaits}
 use Rattle.engine.specs.Legal.{IsLegal}
 use Rattle.engine.specs.Running.{Origin}
@@ -22,13 +22,13 @@ use Rattle.recheck.specs.Laws.{HasLost, Holds}
 use Rattle.recheck.specs.Laws as recheck
 use Rattle.recheck.specs.Report.{report}
 use Rattle.server_core.specs.History.{Opening}
-use Rattle.filters.specs.UnderWay.{Came, held_by}
+use Rattle.filters.specs.UnderWay.{BlockBytes, held_by}
 use Rattle.filters.specs.ServerAt.{ServerAt}
 use Rattle.filters.specs.ServerLosses.{Reports, FaultsAreLosses, ListedHaveLost, LossesAreFaults, Survives, SurvivorsAreNoFaults, key_of}
 use Rattle.filters.proofs.ServerLossLemmas.{none_at_fault, none_told, listed_is}
 
 -- The report is the exact one, by what the check began with.
-exact : (o : Opening) (at : ServerAt) (j : ℕ) (came : List Came) (r : ReportParts) (c : Reports o at j came r)
+exact : (o : Opening) (at : ServerAt) (j : ℕ) (came : List BlockBytes) (r : ReportParts) (c : Reports o at j came r)
     → r ≡ report c.first.fatal (expected_by (key_of c) c.new.job.rec c.new.state) (held_by came) (range_with_len 0 c.new.job.rec.blocks)
 exact o at j came r c =
     c.over.report

@@ -34,11 +34,11 @@ use Rattle.server_core.specs.Laws.{LooksAtAll}
 use Rattle.filters.specs.Written.{Written, Puts}
 use Rattle.filters.proofs.OutputLemmas.{puts_both}
 use Rattle.filters.specs.declared.checking.Checking.{Checking}
-use Rattle.filters.specs.declared.kept_notes.KeptNotes.{KeptNotes}
+use Rattle.filters.specs.declared.note_buffer.NoteBuffer.{NoteBuffer}
 use Rattle.filters.specs.declared.server_filter.ServerFilter.{ServerFilter}
-use Rattle.filters.specs.declared.server_filter.writes.Handed.{Handed}
+use Rattle.filters.specs.declared.server_filter.writes.ServerStep.{ServerStep}
 use Rattle.filters.specs.Kept.{note_kept}
-use Rattle.filters.specs.declared.kinds.Said.TheVariants.{Order, Want}
+use Rattle.filters.specs.declared.kinds.OutRecordKind.TheVariants.{Order, Want}
 use Rattle.filters.specs.Kinds.{said_number}
 use Rattle.filters.specs.Records.{head_bytes, record_bytes, end_bytes}
 use Rattle.filters.specs.ClientSteps.{save_bytes, send_bytes}
@@ -55,7 +55,7 @@ use Rattle.filters.proofs.TakeLemmas.{saved_so, note_so}
 use Rattle.filters.proofs.OrderLemmas.{gave, refused_gives}
 
 -- What is written of what is handed out is what the list says.
-handed_is : {T : Type 0} (note : T → Note) (o : Opening) (past : List FrameEntry) (e : FrameInput) (old new : Server T) (h : Handed)
+handed_is : {T : Type 0} (note : T → Note) (o : Opening) (past : List FrameEntry) (e : FrameInput) (old new : Server T) (h : ServerStep)
     → IsHanded note o past e old new h → handed_bytes (note_in note new).bytes h ≡ handed o past e
 handed_is note o past e old new h is =
     ap (λ s. s ++ (send_bytes h.outs.frames ++ act_bytes h.outs.act))
@@ -66,7 +66,7 @@ handed_is note o past e old new h is =
     is.answers.sends.act_is
 
 -- The server behind an input that is taken.
-at_taken : {T : Type 0} (note : T → Note) (o : Opening) (at : ServerAt) (e : FrameInput) (old new : Server T) (h : Handed)
+at_taken : {T : Type 0} (note : T → Note) (o : Opening) (at : ServerAt) (e : FrameInput) (old new : Server T) (h : ServerStep)
     → (note_in note old).bytes ≡ at.note → IsHanded note o at.list e old new h → IsAt note new o (at_by None o at e)
 at_taken note o at e old new h was is = (
   is.answers.stands,
@@ -93,7 +93,7 @@ not_taken_here o at e old mid sorts.Refusal fault is was checks r = (
 )
 
 -- What is made of a body, by how the call ends and what is written of it.
-pub body_taken : (asked : Opening → List FrameEntry → Result FrameInput Fault) (old mid new : ServerFilter) (result : Result Handed Fault)
+pub body_taken : (asked : Opening → List FrameEntry → Result FrameInput Fault) (old mid new : ServerFilter) (result : Result ServerStep Fault)
     (first text : Written)
     → ((o : Opening) (past : List FrameEntry) → StandsFor note_kept old.server o past
     → BodyHands note_kept o past (asked o past) old.server mid.server result)
@@ -136,7 +136,7 @@ body_taken asked old mid new (Err fault) first text hands kept (wrote, same) = r
     by o at here (Err why) (is, stays) = (
       at,
       (
-        subst (λ (s : Server KeptNotes). IsAt note_kept s o at) (sym stays) here.0,
+        subst (λ (s : Server NoteBuffer). IsAt note_kept s o at) (sym stays) here.0,
         subst (λ (cs : Vec (Option Checking) Global). AreChecks cs.items at.checks) (sym kept) here.1,
       ),
       (refl, ap (λ (f : Fault). end_bytes (Err f)) is),
@@ -153,7 +153,7 @@ is_given (Ok answer) = is_write answer
 is_given (Err fault) = false
 
 -- A job was asked for its next write.
-pub asked_turn : LooksAtAll → (o : Opening) (at : ServerAt) (j : ℕ) (job : Job) (old new : Server KeptNotes) (result : Result Answer Fault)
+pub asked_turn : LooksAtAll → (o : Opening) (at : ServerAt) (j : ℕ) (job : Job) (old new : Server NoteBuffer) (result : Result Answer Fault)
     → IsAt note_kept old o at → Ends (steps note_kept o) at.list (Issue j) old new (outs_of_issue result) → TakesNone result
     → Some job ≡ run_job o (shown_entries (packets_heard o at.list)) j → job.rec.total ≤ MAX_WRITES
     → (now : ServerAt) × IsAt note_kept new o now × TakesTurn o at (Asks j) now (written_for result job) × Asked j (is_given result) o at now
@@ -207,16 +207,16 @@ pub note_says : {T : Type 0} (note : T → Note) (server : Server T) (o : Openin
 note_says note server o at (stands, is) = subst (λ bytes. Says bytes (noted o at.list)) is stands.core.durable
 
 -- What is written where a report was told, and how that ends.
-abbrev pub handed_if : Result Handed Fault → List ℕ → List ℕ
+abbrev pub handed_if : Result ServerStep Fault → List ℕ → List ℕ
 handed_if (Ok h) note = handed_bytes note h
 handed_if (Err fault) note = []
 
-abbrev pub end_of : Result Handed Fault → Result (Unit {0}) Fault
+abbrev pub end_of : Result ServerStep Fault → Result (Unit {0}) Fault
 end_of (Ok h) = Ok tt
 end_of (Err fault) = Err fault
 
 -- A report was told.
-pub told_it : (o : Opening) (at : ServerAt) (boot a j : ℕ) (report : ReportParts) (old new : Server KeptNotes) (result : Result Handed Fault)
+pub told_it : (o : Opening) (at : ServerAt) (boot a j : ℕ) (report : ReportParts) (old new : Server NoteBuffer) (result : Result ServerStep Fault)
     → IsAt note_kept old o at → HandsOut note_kept o at.list (CheckDone boot a j report) old new result
     → (now : ServerAt) × IsAt note_kept new o now
     × TellsIt o at (CheckDone boot a j report) (end_of result) now (handed_if result (note_in note_kept new).bytes) × (now.checks ≡ at.checks)

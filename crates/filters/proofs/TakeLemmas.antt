@@ -19,10 +19,10 @@ use Rattle.client_core.specs.FrameAnswers.{due}
 use Rattle.client_core.specs.FrameEnds.{note_in}
 use Rattle.filters.specs.Written.{Written, Puts}
 use Rattle.filters.proofs.OutputLemmas.{puts_both}
-use Rattle.filters.specs.declared.answered.Answered.{Answered}
-use Rattle.filters.specs.declared.kinds.Told.{Told}
-use Rattle.filters.specs.declared.kinds.Told.TheVariants as told
-use Rattle.filters.specs.declared.kinds.Said.TheVariants.{Report}
+use Rattle.filters.specs.declared.node_step.NodeStep.{NodeStep}
+use Rattle.filters.specs.declared.kinds.InRecordKind.{InRecordKind}
+use Rattle.filters.specs.declared.kinds.InRecordKind.TheVariants as told
+use Rattle.filters.specs.declared.kinds.OutRecordKind.TheVariants.{Report}
 use Rattle.filters.specs.Kept.{note_with}
 use Rattle.filters.specs.Kinds.{said_number}
 use Rattle.filters.specs.Records.{head_bytes, end_bytes}
@@ -46,7 +46,7 @@ note_so None spelled was old new leaves is = ap (λ (n : Note). n.bytes) leaves 
 note_so (Some x) spelled was old new leaves is = ap (λ (n : Note). n.bytes) leaves
 
 -- What is written of an answer is what the list says.
-pub answer_is : {T : Type 0} (note : T → Note) (o : Opening) (past : List FrameEntry) (e : FrameInput) (old new : Client T) (a : Answered)
+pub answer_is : {T : Type 0} (note : T → Note) (o : Opening) (past : List FrameEntry) (e : FrameInput) (old new : Client T) (a : NodeStep)
     → IsAnswered note o past e old new a → result_bytes (note_in note new).bytes (Ok a) ≡ taken_bytes o past e
 answer_is note o past e old new a h =
     let saved = saved_so (due o past e) (new_note o past e) (note_in note old) (note_in note new) a.saves h.saves h.leaves in
@@ -70,7 +70,7 @@ not_taken note o at e old new sorts.Refusal fault is was (why, (same, stands)) =
 
 -- What the client makes of a body, by how its call ends.
 unfoldable pub body_taken : {T : Type 0} (note : T → Note) (o : Opening) (at : ClientAt) (asked : Result FrameInput Fault) (old new : Client T)
-    (result : Result Answered Fault)
+    (result : Result NodeStep Fault)
     → (note_in note old).bytes ≡ at.note → BodyEnds note o at.list asked old new result
     → (now : ClientAt) × IsAt note new o now × TakesBody o at asked now (result_bytes (note_in note new).bytes result)
 body_taken note o at (Ok e) old new (Ok a) was h = (
@@ -88,7 +88,7 @@ pub note_says : {T : Type 0} (note : T → Note) (client : Client T) (o : Openin
 note_says note client o at (stands, is) = subst (λ bytes. Says bytes (noted o at.list)) is stands.core.durable
 
 -- All other kinds than three are asked of the client.
-pub kind_taken : (o : Opening) (at : ClientAt) (kind : Told) (body : List ℕ) (now : ClientAt) (answer : List ℕ)
+pub kind_taken : (o : Opening) (at : ClientAt) (kind : InRecordKind) (body : List ℕ) (now : ClientAt) (answer : List ℕ)
     → (kind ≡ told.Look → ⊥) → (kind ≡ told.Show → ⊥) → (kind ≡ told.Ends → ⊥) → TakesBody o at (input_in kind body) now answer
     → TakesKind o at (Some kind) body now answer
 kind_taken o at told.Look body now answer look show ends takes = absurd (look refl)
@@ -107,7 +107,7 @@ kind_taken o at told.Verify body now answer look show ends takes = takes
 kind_taken o at told.Tick body now answer look show ends takes = takes
 
 -- What only looks leaves the client where it is.
-pub only_looks : (IsHere : Opening → ClientAt → Type 0) (kind : Told) (body bytes : List ℕ) (old mid new : Written) → Puts old mid bytes
+pub only_looks : (IsHere : Opening → ClientAt → Type 0) (kind : InRecordKind) (body bytes : List ℕ) (old mid new : Written) → Puts old mid bytes
     → Puts mid new (end_bytes (Ok tt))
     → ((o : Opening) (at : ClientAt) → IsHere o at → TakesKind o at (Some kind) body at (bytes ++ end_bytes (Ok tt)))
     → AnswersBy (λ o at now answer. TakesKind o at (Some kind) body now answer) IsHere IsHere old new

@@ -12,7 +12,7 @@ use Rattle.server_core.specs.FrameEnds.{StandsFor, note_in}
 use Rattle.filters.specs.Written.{Written, Puts}
 use Rattle.filters.specs.declared.checking.Checking.{Checking}
 use Rattle.filters.specs.declared.server_filter.ServerFilter.{ServerFilter}
-use Rattle.filters.specs.declared.server_filter.writes.Handed.{Handed}
+use Rattle.filters.specs.declared.server_filter.writes.ServerStep.{ServerStep}
 use Rattle.filters.specs.Kept.{note_kept}
 use Rattle.filters.specs.ServerSteps.{HandsOut}
 use Rattle.filters.specs.UnderWay.{UnderWay}
@@ -21,7 +21,7 @@ use Rattle.filters.specs.CheckRuns.{AreChecks, TellsSo}
 use Rattle.filters.proofs.KeptLemmas.{at_same, put_checks}
 use Rattle.filters.proofs.ServerTakeLemmas.{end_of, handed_if, told_it}
 
-pub told_so : (old mid new : ServerFilter) (boot a j : ℕ) (r : ReportParts) (result : Result Handed Fault) (text new_text : Written)
+pub told_so : (old mid new : ServerFilter) (boot a j : ℕ) (r : ReportParts) (result : Result ServerStep Fault) (text new_text : Written)
     → Puts text new_text (handed_if result (note_in note_kept new.server).bytes)
     → mid.server ≡ old.server → mid.checks.items ≡ set old.checks.items j None → j < length old.checks.items
     → ((o : Opening) (past : List FrameEntry) → StandsFor note_kept mid.server o past

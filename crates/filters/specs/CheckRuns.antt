@@ -15,23 +15,23 @@ use Rattle.recheck.specs.Report.{report}
 use Rattle.server_core.specs.declared.input.Input.TheVariants.{CheckDone}
 use Rattle.server_core.specs.History.{Opening}
 use Rattle.filters.specs.declared.checking.Checking.{Checking}
-use Rattle.filters.specs.declared.checking.Went.{Went}
-use Rattle.filters.specs.declared.checking.Went.TheVariants.{On, Ended}
+use Rattle.filters.specs.declared.checking.CheckTurn.{CheckTurn}
+use Rattle.filters.specs.declared.checking.CheckTurn.TheVariants.{On, Ended}
 use Rattle.filters.specs.declared.names.BlockName.{BlockName}
 use Rattle.filters.specs.declared.server_filter.ServerFilter.{ServerFilter}
 use Rattle.filters.specs.Written.{Written, Puts}
 use Rattle.filters.specs.Kept.{note_kept}
-use Rattle.filters.specs.UnderWay.{Came, UnderWay, IsOver, WantsMore}
+use Rattle.filters.specs.UnderWay.{BlockBytes, UnderWay, IsOver, WantsMore}
 use Rattle.filters.specs.ServerAt.{ServerAt, IsAt, with_check}
 use Rattle.filters.specs.ServerTurns.{GoesOn, TellsIt, IsNew}
 
 -- A content is of the blocks that came: each of them holds its bytes.
-abbrev pub AreOf : (ℕ → List ℕ) → List Came → Type 0
+abbrev pub AreOf : (ℕ → List ℕ) → List BlockBytes → Type 0
 AreOf held [] = ⊤
 AreOf held (c ∷ cs) = (held c.block ≡ c.bytes) × AreOf held cs
 
 -- The blocks came in ascending order, and are below this one.
-abbrev pub AreBelow : ℕ → List Came → Type 0
+abbrev pub AreBelow : ℕ → List BlockBytes → Type 0
 AreBelow n [] = ⊤
 AreBelow n (c ∷ cs) = (c.block < n) × AreBelow c.block cs
 
@@ -55,14 +55,15 @@ pub record HasCome (j : ℕ) (c : Checking) (u : UnderWay) : Type 0 where
   pub seen :
       (held : ℕ → List ℕ) → AreOf held u.came → HasSeen c.check held (range_with_len 0 c.next)
 
--- So it is, and the blocks that it wants are those that are wanted.
+-- A check of job j is this one under way, has seen the blocks below the one that is next, and wants
+-- those that are wanted.
 pub record IsKept (j : ℕ) (c : Checking) (u : UnderWay) : Type 0 where
   pub come : HasCome j c u
   pub first : c.next ≡ u.first
   pub count : c.count ≡ u.count
 
 -- How a check of job j goes on that is this one under way.
-abbrev pub Goes : ℕ → UnderWay → Went → Type 0
+abbrev pub Goes : ℕ → UnderWay → CheckTurn → Type 0
 Goes j u (On c) = HasCome j c u × WantsMore u c.next c.count
 Goes j u (Ended r) = IsOver u r
 
@@ -75,12 +76,12 @@ pub record EndsAt (u : UnderWay) (r : ReportParts) : Type 0 where
   pub end : r.end ≡ AtFault
 
 -- How a check of job j was fed that is this one under way now.
-abbrev pub Fed : ℕ → UnderWay → Went → Type 0
+abbrev pub Fed : ℕ → UnderWay → CheckTurn → Type 0
 Fed j u (On c) = HasCome j c u
 Fed j u (Ended r) = EndsAt u r
 
 -- A check that goes on has a block less to want.
-abbrev pub IsNext : Checking → Went → Type 0
+abbrev pub IsNext : Checking → CheckTurn → Type 0
 IsNext old (On c) =
     (c.next ≡ old.next + 1) × (c.count + 1 ≡ old.count) × (c.size ≡ old.size)
 IsNext old (Ended r) = ⊤
@@ -89,7 +90,8 @@ IsNext old (Ended r) = ⊤
 abbrev pub with_came : UnderWay → ℕ → List ℕ → UnderWay
 with_came u block bytes = record u { came = record { block = block; bytes = bytes } ∷ u.came }
 
--- So many bytes are so many of the blocks that a check wants; or of no number of them.
+-- A length is that of this many blocks that a check wants, one at least; or of no such number of
+-- them.
 abbrev pub IsSome : Checking → ℕ → Option ℕ → Type 0
 IsSome c len (Some given) = (0 < given) × (given ≤ c.count) × (len ≡ given * c.size)
 IsSome c len None = (given : ℕ) → 0 < given → given ≤ c.count → len ≡ given * c.size → ⊥
@@ -109,7 +111,7 @@ kept_in checks j = slice_index_or checks j None
 abbrev pub AreChecks : List (Option Checking) → (ℕ → Option UnderWay) → Type 0
 AreChecks checks under = (j : ℕ) → IsCheck j (kept_in checks j) (under j)
 
--- So they are, but maybe that of job j.
+-- The checks that are kept are those under way, but maybe that of job j.
 abbrev pub AreChecksBut : ℕ → List (Option Checking) → (ℕ → Option UnderWay) → Type 0
 AreChecksBut j checks under = (i : ℕ) → i ≢ j → IsCheck i (kept_in checks i) (under i)
 
@@ -118,7 +120,7 @@ abbrev pub IsHere : ServerFilter → Opening → ServerAt → Type 0
 IsHere filter opening at =
     IsAt note_kept filter.server opening at × AreChecks filter.checks.items at.checks
 
--- So it is, but maybe for the check of job j.
+-- A filter is at this moment, but maybe for the check of job j.
 abbrev pub IsHereBut : ℕ → ServerFilter → Opening → ServerAt → Type 0
 IsHereBut j filter opening at =
     IsAt note_kept filter.server opening at × AreChecksBut j filter.checks.items at.checks
@@ -155,7 +157,7 @@ pub record TellsSo (old : ServerFilter) (boot a j : ℕ) (r : ReportParts)
       × TellsIt opening (with_check j None at) (CheckDone boot a j r) end now answer
 
 -- A check of job j went on, which is this one under way.
-pub record GoesSo (old : ServerFilter) (boot a j : ℕ) (went : Went)
+pub record GoesSo (old : ServerFilter) (boot a j : ℕ) (went : CheckTurn)
     (end : Result (Unit {0}) Fault) (new : ServerFilter)
     (text new_text : Written) : Type 0 where
   pub answer : List ℕ

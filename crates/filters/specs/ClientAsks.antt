@@ -20,8 +20,8 @@ use Rattle.client_core.specs.declared.received.Received.{Received}
 use Rattle.filters.specs.declared.asking.TriggerAsked.{TriggerAsked}
 use Rattle.filters.specs.declared.asking.LookAsked.{LookAsked}
 use Rattle.filters.specs.declared.asking.EndsAsked.{EndsAsked}
-use Rattle.filters.specs.declared.kinds.Told.{Told}
-use Rattle.filters.specs.declared.kinds.Told.TheVariants as told
+use Rattle.filters.specs.declared.kinds.InRecordKind.{InRecordKind}
+use Rattle.filters.specs.declared.kinds.InRecordKind.TheVariants as told
 use Rattle.filters.specs.NodeSteps.{with_frame}
 
 -- The number that eight bytes are.
@@ -79,7 +79,7 @@ abbrev pub tick_in : List ℕ → Result FrameInput Fault
 tick_in body = if length body == 0 then Ok inputs.Tick else Err BadNotice
 
 -- What comes to the client by a record of this kind: by those of other kinds nothing does.
-abbrev pub input_in : Told → List ℕ → Result FrameInput Fault
+abbrev pub input_in : InRecordKind → List ℕ → Result FrameInput Fault
 input_in told.Frame body = with_frame inputs.Deliver (frame_faults body) (frame_at body)
 input_in told.Begin body = Ok (inputs.Begin body)
 input_in told.Trigger body = or_bad (option_map (λ t. inputs.Trigger t.run t.act) (trigger_in body))

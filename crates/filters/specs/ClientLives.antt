@@ -5,7 +5,7 @@ use Rattle.fc_base.specs.Layouts.{spelled_blocks}
 use Rattle.fc_base.specs.declared.fault.Fault.{Fault}
 use Rattle.fc_base.specs.declared.fault.Fault.TheVariants.{BadNotice, BadNote, BadGeneration, NoMemory}
 use Rattle.disk_model.specs.Notes.{Note}
-use Rattle.disk_model.specs.declared.left.Left.TheVariants.{Saved}
+use Rattle.disk_model.specs.declared.save_outcome.SaveOutcome.TheVariants.{Saved}
 use Rattle.messages.specs.FrameBytes.{frame_spelling}
 use Rattle.messages.specs.Ranges.{is_generation}
 use Rattle.client_core.specs.declared.client.Client.{Client}
@@ -27,9 +27,9 @@ use Rattle.filters.specs.declared.asking.EndsAsked.{EndsAsked}
 use Rattle.filters.specs.declared.asking.LookAsked.{LookAsked}
 use Rattle.filters.specs.declared.beginning.Beginning.{Beginning}
 use Rattle.filters.specs.declared.beginning.Beginning.TheVariants.{Alone, Mirrored, Renewed}
-use Rattle.filters.specs.declared.kinds.Told.{Told}
-use Rattle.filters.specs.declared.kinds.Told.TheVariants as told
-use Rattle.filters.specs.declared.kinds.Said.TheVariants.{Save, Outcome, Report}
+use Rattle.filters.specs.declared.kinds.InRecordKind.{InRecordKind}
+use Rattle.filters.specs.declared.kinds.InRecordKind.TheVariants as told
+use Rattle.filters.specs.declared.kinds.OutRecordKind.TheVariants.{Save, Outcome, Report}
 use Rattle.filters.specs.Kept.{note_with}
 use Rattle.filters.specs.Kinds.{told_numbered, said_number}
 use Rattle.filters.specs.Records.{record_bytes, end_bytes}
@@ -125,7 +125,8 @@ ends_bytes opening past asked =
     told_bytes asked
     (ends_told opening (shown_entries (packets_heard opening past)) asked.run asked.attempt)
 
--- It is told how an attempt ended, which changes nothing; or memory is wanting.
+-- What is told of how an attempt ended, which changes nothing; or memory is wanting. A question
+-- that can't be read is refused.
 abbrev pub TellsEnds : Opening → ClientAt → Option EndsAsked → ClientAt → List ℕ → Type 0
 TellsEnds opening at (Some asked) now answer =
     Leaves at (ends_bytes opening at.list asked ++ end_bytes (Ok tt)) now answer
@@ -133,7 +134,7 @@ TellsEnds opening at (Some asked) now answer =
 TellsEnds opening at None now answer = Leaves at (end_bytes (Err BadNotice)) now answer
 
 -- What is made of a record of this kind, if it is one. To look and to show changes nothing.
-abbrev pub TakesKind : Opening → ClientAt → Option Told → List ℕ → ClientAt → List ℕ → Type 0
+abbrev pub TakesKind : Opening → ClientAt → Option InRecordKind → List ℕ → ClientAt → List ℕ → Type 0
 TakesKind opening at (Some told.Look) body now answer =
     Leaves at (shown_or_bad (look_bytes opening at.list body) (look_in body)) now answer
 TakesKind opening at (Some told.Show) body now answer =
@@ -208,8 +209,8 @@ NotRestarted mirror note BadNote = IsBadNote mirror note
 NotRestarted mirror note NoMemory = ⊤
 NotRestarted mirror note fault = ⊥
 
--- It doesn't begin anew, in this order: no generation has the number; there is a note; memory is
--- wanting.
+-- The client doesn't begin anew, in this order: no generation has the number; there is a note;
+-- memory is wanting.
 abbrev pub NotRenewed : ℕ → List ℕ → Fault → Type 0
 NotRenewed g note BadGeneration = is_generation g ≡ false
 NotRenewed g note BadNote = IsTrue (is_generation g) × (note ≢ [])

@@ -12,11 +12,11 @@ use Rattle.client_core.specs.Inputs as inputs
 use Rattle.attempt_ends.specs.declared.asked.AskedPlace.{AskedPlace}
 use Rattle.attempt_ends.specs.declared.attempts.Attempted.{Attempted}
 use Rattle.attempt_ends.specs.Attempts.{attempt_by, attempts_made}
-use Rattle.filters.specs.declared.answered.Answered.{Answered}
+use Rattle.filters.specs.declared.node_step.NodeStep.{NodeStep}
 use Rattle.filters.specs.ClientSteps.{noted}
 use Rattle.filters.specs.declared.beginning.Beginning.{Beginning}
 use Rattle.filters.specs.declared.client_filter.ClientFilter.{ClientFilter}
-use Rattle.filters.specs.declared.kept_notes.KeptNotes.{KeptNotes}
+use Rattle.filters.specs.declared.note_buffer.NoteBuffer.{NoteBuffer}
 use Rattle.filters.specs.Kept.{note_kept}
 use Rattle.filters.specs.ClientLives.{ClientAt, IsAt, BeginsBehind, MayBegin, RefusesNote, first_note}
 
@@ -39,7 +39,7 @@ attempts_numbered run asked (Some n) = record { attempt = n; run = run; asked = 
 attempts_numbered run asked None = []
 
 -- The attempts that come of what a record says, by how that ends.
-abbrev pub attempts_added : Opening → List FrameEntry → Result FrameInput Fault → Result Answered Fault
+abbrev pub attempts_added : Opening → List FrameEntry → Result FrameInput Fault → Result NodeStep Fault
     → List Attempted
 attempts_added opening past (Ok e) (Ok a) = attempts_by opening past e
 attempts_added opening past (Ok e) (Err fault) = []
@@ -47,12 +47,12 @@ attempts_added opening past (Err why) result = []
 
 -- What the filter knows of its attempts goes on with what a record says.
 abbrev pub AttemptsGoOn : Opening → List FrameEntry → Result FrameInput Fault → ClientFilter
-    → ClientFilter → Result Answered Fault → Type 0
+    → ClientFilter → Result NodeStep Fault → Type 0
 AttemptsGoOn opening past asked old new result =
     opening.servers ≡ old.servers → new.attempts.made
     ≡ old.attempts.made ++ attempts_added opening past asked result
 
--- It stays as it was.
+-- What the filter knows of its attempts stays as it was.
 pub record SameAttempts (old new : ClientFilter) : Type 0 where
   pub attempts : new.attempts ≡ old.attempts
   pub servers : new.servers ≡ old.servers
@@ -60,7 +60,7 @@ pub record SameAttempts (old new : ClientFilter) : Type 0 where
 -- A client is opened: it may begin so, it has the note with which it begins, and it is where it
 -- begins.
 pub record IsOpened (beginning : Beginning) (servers : ℕ) (note : List ℕ)
-    (client : Client KeptNotes) : Type 0 where
+    (client : Client NoteBuffer) : Type 0 where
   pub may : MayBegin beginning note
   pub said : ClientNote
   pub says : Says note said
@@ -70,6 +70,6 @@ pub record IsOpened (beginning : Beginning) (servers : ℕ) (note : List ℕ)
       IsAt note_kept client opening first
 
 -- A client is opened, or why none is.
-abbrev pub OpensOver : Beginning → ℕ → List ℕ → Result (Client KeptNotes) Fault → Type 0
+abbrev pub OpensOver : Beginning → ℕ → List ℕ → Result (Client NoteBuffer) Fault → Type 0
 OpensOver beginning servers note (Ok client) = IsOpened beginning servers note client
 OpensOver beginning servers note (Err fault) = RefusesNote beginning note fault

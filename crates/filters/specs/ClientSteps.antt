@@ -9,7 +9,7 @@ use Rattle.fc_base.specs.declared.fault.FaultSort.{FaultSort}
 use Rattle.fc_base.specs.declared.fault.FaultSort.TheVariants as sorts
 use Rattle.disk_model.specs.Notes.{Note}
 use Rattle.node.specs.Steps.{LeavesNote}
-use Rattle.disk_model.specs.declared.left.Left.TheVariants.{NoSave}
+use Rattle.disk_model.specs.declared.save_outcome.SaveOutcome.TheVariants.{NoSave}
 use Rattle.messages.specs.FrameBytes.{frame_spelling}
 use Rattle.messages.specs.Senses.{is_drop}
 use Rattle.client_core.specs.Inputs.{FrameInput, Begin, Verify}
@@ -21,8 +21,8 @@ use Rattle.client_core.specs.Words.{words_noted}
 use Rattle.client_core.specs.Hearing.{FrameEntry, Met, packets_heard}
 use Rattle.client_core.specs.FrameAnswers.{sense, refusal, due, frames, answered_entry}
 use Rattle.client_core.specs.FrameEnds.{StandsFor, note_in}
-use Rattle.filters.specs.declared.answered.Answered.{Answered}
-use Rattle.filters.specs.declared.kinds.Said.TheVariants.{Save, Send, Number}
+use Rattle.filters.specs.declared.node_step.NodeStep.{NodeStep}
+use Rattle.filters.specs.declared.kinds.OutRecordKind.TheVariants.{Save, Send, Number}
 use Rattle.filters.specs.Kinds.{said_number}
 use Rattle.filters.specs.Records.{record_bytes, end_bytes}
 
@@ -47,7 +47,7 @@ number_given opening past _ = None
 
 -- An input is answered as the list says, and what was due is noted.
 pub record IsAnswered {T : Type 0} (note : T → Note) (opening : Opening) (past : List FrameEntry)
-    (e : FrameInput) (old new : Client T) (a : Answered) : Type 0 where
+    (e : FrameInput) (old new : Client T) (a : NodeStep) : Type 0 where
   pub free : refusal opening past e ≡ None
   pub saves : a.saves ≡ is_some (due opening past e)
   pub number : a.number ≡ number_given opening past e
@@ -76,20 +76,20 @@ NotAnswered note opening past e sorts.Refusal fault old new =
 
 -- What comes of an input.
 abbrev pub InputEnds : {T : Type 0} → (T → Note) → Opening → List FrameEntry → FrameInput → Client T
-    → Client T → Result Answered Fault → Type 0
+    → Client T → Result NodeStep Fault → Type 0
 InputEnds note opening past e old new (Ok a) = IsAnswered note opening past e old new a
 InputEnds note opening past e old new (Err fault) =
     NotAnswered note opening past e (sort_of fault) fault old new
 
 -- A body that can't be read leaves the client as it was, and so does want of memory.
 abbrev pub NotRead : {T : Type 0} → (T → Note) → Opening → List FrameEntry → Fault → Client T
-    → Client T → Result Answered Fault → Type 0
+    → Client T → Result NodeStep Fault → Type 0
 NotRead note opening past why old new (Ok a) = ⊥
 NotRead note opening past why old new (Err fault) = (fault ≡ why) × Stands note opening past old new
 
 -- What comes of what a record says.
 abbrev pub BodyEnds : {T : Type 0} → (T → Note) → Opening → List FrameEntry → Result FrameInput Fault
-    → Client T → Client T → Result Answered Fault → Type 0
+    → Client T → Client T → Result NodeStep Fault → Type 0
 BodyEnds note opening past (Ok e) old new result = InputEnds note opening past e old new result
 BodyEnds note opening past (Err why) old new result = NotRead note opening past why old new result
 
@@ -108,10 +108,10 @@ abbrev pub send_bytes : List (List ℕ) → List ℕ
 send_bytes frames = flat_map (record_bytes (said_number Send)) frames
 
 -- What is written for an answer over a note: the save first, then the number, then the frames.
-abbrev pub answer_bytes : List ℕ → Answered → List ℕ
+abbrev pub answer_bytes : List ℕ → NodeStep → List ℕ
 answer_bytes note a = save_bytes a.saves note ++ (number_bytes a.number ++ send_bytes a.frames)
 
 -- What is written where there is an answer, and where there is none.
-abbrev pub result_bytes : List ℕ → Result Answered Fault → List ℕ
+abbrev pub result_bytes : List ℕ → Result NodeStep Fault → List ℕ
 result_bytes note (Ok a) = answer_bytes note a ++ end_bytes (Ok tt)
 result_bytes note (Err fault) = end_bytes (Err fault)

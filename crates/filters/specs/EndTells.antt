@@ -14,7 +14,7 @@ use Rattle.attempt_ends.specs.declared.place_end.PlaceEnd.TheVariants as at
 use Rattle.attempt_ends.specs.AttemptEnds.{attempt_end, sums_of}
 use Rattle.filters.specs.declared.asking.EndsAsked.{EndsAsked}
 use Rattle.filters.specs.declared.ending.EndNumbers.{EndNumbers}
-use Rattle.filters.specs.declared.kinds.Said.TheVariants as said
+use Rattle.filters.specs.declared.kinds.OutRecordKind.TheVariants as said
 use Rattle.filters.specs.Kinds.{said_number}
 use Rattle.filters.specs.Records.{record_bytes}
 

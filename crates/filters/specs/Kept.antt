@@ -1,10 +1,10 @@
 -- The note of a filter.
 use Rattle.std.specs.Prelude.{ℕ, List, Option, Some, None}
 use Rattle.disk_model.specs.Notes.{Note}
-use Rattle.filters.specs.declared.kept_notes.KeptNotes.{KeptNotes}
+use Rattle.filters.specs.declared.note_buffer.NoteBuffer.{NoteBuffer}
 
--- It lies in memory, and no save of it fails.
-abbrev pub note_kept : KeptNotes → Note
+-- The note of a filter lies in memory, and no save of it fails.
+abbrev pub note_kept : NoteBuffer → Note
 note_kept notes = record { bytes = notes.bytes.items; failures = 0 }
 
 -- The note behind a save of what is due: these new bytes, or the old ones where nothing is due.

@@ -1,12 +1,12 @@
 -- The numbers of the kinds of records.
 use Rattle.std.specs.Prelude.{ℕ, ◌==◌, [], ◌∷◌, Option, find}
-use Rattle.filters.specs.declared.kinds.Told.{Told}
-use Rattle.filters.specs.declared.kinds.Told.TheVariants as told
-use Rattle.filters.specs.declared.kinds.Said.{Said}
-use Rattle.filters.specs.declared.kinds.Said.TheVariants as said
+use Rattle.filters.specs.declared.kinds.InRecordKind.{InRecordKind}
+use Rattle.filters.specs.declared.kinds.InRecordKind.TheVariants as told
+use Rattle.filters.specs.declared.kinds.OutRecordKind.{OutRecordKind}
+use Rattle.filters.specs.declared.kinds.OutRecordKind.TheVariants as said
 
 -- The number of a kind that is read.
-abbrev pub told_number : Told → ℕ
+abbrev pub told_number : InRecordKind → ℕ
 told_number told.Note = 1
 told_number told.Frame = 2
 told_number told.Done = 3
@@ -23,14 +23,14 @@ told_number told.Show = 13
 told_number told.Ends = 14
 
 -- The kind that is read with this number.
-unfoldable pub told_numbered : ℕ → Option Told
+unfoldable pub told_numbered : ℕ → Option InRecordKind
 told_numbered n = find (λ kind. told_number kind == n)
     (told.Note ∷ told.Frame ∷ told.Done ∷ told.Failed ∷ told.Blocks ∷ told.Unread ∷ told.Begin
     ∷ told.Trigger ∷ told.Stop ∷ told.Verify ∷ told.Tick ∷ told.Look ∷ told.Show
     ∷ told.Ends ∷ [])
 
 -- The number of a kind that is written.
-abbrev pub said_number : Said → ℕ
+abbrev pub said_number : OutRecordKind → ℕ
 said_number said.Save = 65
 said_number said.Send = 66
 said_number said.Order = 67

@@ -2,7 +2,7 @@
 use Rattle.std.specs.Prelude.{◌≡◌, ◌≢◌, ◌⊎◌, ◌<◌, ◌≤◌, ◌-◌, ◌^◌, ℕ, List, [], ◌∷◌, ◌++◌, length, ⊤, Option, Err}
 use Rattle.fc_base.specs.declared.fault.Fault.{Fault}
 use Rattle.fc_base.specs.declared.fault.Fault.TheVariants as faults
-use Rattle.filters.specs.declared.kinds.Told.TheVariants.{Note}
+use Rattle.filters.specs.declared.kinds.InRecordKind.TheVariants.{Note}
 use Rattle.filters.specs.declared.record.TheConstants.{HEAD, MAX_BODY}
 use Rattle.filters.specs.Kinds.{told_number}
 use Rattle.filters.specs.Records.{head_bytes, record_bytes, end_bytes}

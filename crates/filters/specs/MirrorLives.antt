@@ -14,8 +14,8 @@ use Rattle.mirror_core.specs.Note.{Says, spelling}
 use Rattle.mirror_core.specs.Packets.{packets, frame_bytes}
 use Rattle.mirror_core.specs.Stands.{StandsFor}
 use Rattle.mirror_core.specs.Words.{words_noted, refusal, due, would_save}
-use Rattle.filters.specs.declared.kinds.Told.{Told}
-use Rattle.filters.specs.declared.kinds.Told.TheVariants as told
+use Rattle.filters.specs.declared.kinds.InRecordKind.{InRecordKind}
+use Rattle.filters.specs.declared.kinds.InRecordKind.TheVariants as told
 use Rattle.filters.specs.Kept.{note_with}
 use Rattle.filters.specs.Kinds.{told_numbered}
 use Rattle.filters.specs.Records.{end_bytes}
@@ -77,7 +77,7 @@ abbrev pub frame_in : List ℕ → Result Frame Fault
 frame_in body = with_frame (λ f. f) (frame_faults body) (frame_at body)
 
 -- What is made of a record of this kind, if it is one: only frames are for a mirror.
-abbrev pub TakesKind : MirrorNote → MirrorAt → Option Told → List ℕ → MirrorAt → List ℕ → Type 0
+abbrev pub TakesKind : MirrorNote → MirrorAt → Option InRecordKind → List ℕ → MirrorAt → List ℕ → Type 0
 TakesKind opening at (Some told.Frame) body now answer =
     TakesBody opening at (frame_in body) now answer
 TakesKind opening at _ body now answer = Leaves at (end_bytes (Err BadNotice)) now answer

@@ -1,7 +1,7 @@
 -- What is left of a node, whichever it is, whose filter is cut at any byte of its answers: in each the
 -- save comes first. `note` gives its note at some moment.
 use Rattle.std.specs.Prelude.{◌≡◌, ◌⊎◌, ◌<◌, ℕ, List, ◌++◌, length}
-use Rattle.filters.specs.declared.kinds.Said.TheVariants.{Save}
+use Rattle.filters.specs.declared.kinds.OutRecordKind.TheVariants.{Save}
 use Rattle.filters.specs.Kinds.{said_number}
 use Rattle.filters.specs.Records.{record_bytes}
 

@@ -30,8 +30,8 @@ pub record IsTaken {S E X D O : Type 0} (s : Steps S E X D O) (past : List X) (e
   pub answers : Answers s past e old new outs
   pub saves_are : saves ≡ is_some (s.words.due past e)
 
--- It isn't answered, by the sort of the fault: for want of memory, or it is refused. No save fails
--- by itself.
+-- What comes to a node isn't answered, by the sort of the fault: for want of memory, or it is
+-- refused. No save fails by itself.
 abbrev pub NotTaken : {S E X D O : Type 0} → Steps S E X D O → List X → E → FaultSort → Fault → S
     → S → Type 0
 NotTaken s past e sorts.Memory fault old new = (s.note new ≡ s.note old) × s.StandsFor past new

@@ -4,7 +4,7 @@ use Rattle.std.specs.Int.{w64}
 use Rattle.fc_base.specs.Layouts.{bytes_of}
 use Rattle.fc_base.specs.Fault.{number_of}
 use Rattle.fc_base.specs.declared.fault.Fault.{Fault}
-use Rattle.filters.specs.declared.kinds.Said.TheVariants.{End}
+use Rattle.filters.specs.declared.kinds.OutRecordKind.TheVariants.{End}
 use Rattle.filters.specs.Kinds.{said_number}
 
 -- What stands before a body: the kind, and in eight bytes the body's length.

@@ -41,12 +41,12 @@ named opening at name =
     if is_open_attempt opening at.list name.attempt then if_named name (at.checks name.job)
     else None
 
--- So it is, where there can be such a block.
+-- The check that is named, where its attempt is the open one and there can be such a block.
 abbrev pub named_with_block : Opening → ServerAt → BlockName → Option UnderWay
 named_with_block opening at name =
     if nat_lt name.block MAX_BLOCKS then named opening at name else None
 
--- So many bytes are so many of the blocks that a check wants, the first ones.
+-- Bytes of this length are the first blocks that a check wants, this many and one at least.
 pub record AreWanted (u : UnderWay) (len given : ℕ) : Type 0 where
   pub some : 0 < given
   pub wanted : given ≤ u.count

@@ -1,7 +1,7 @@
 -- What is left of a server where its filter is cut at any byte of its answers, and how the next
 -- life stands on it.
 use Rattle.std.specs.Prelude.{ℕ, List, ◌∷◌, ◌++◌}
-use Rattle.disk_model.specs.declared.left.Left.TheVariants.{Saved}
+use Rattle.disk_model.specs.declared.save_outcome.SaveOutcome.TheVariants.{Saved}
 use Rattle.server_core.specs.History.{Opening}
 use Rattle.server_core.specs.Note.{Says}
 use Rattle.server_core.specs.Hearing.{Restart, Cut}

@@ -6,7 +6,7 @@ use Rattle.fc_base.specs.Layouts.{number_in}
 use Rattle.fc_base.specs.declared.fault.Fault.{Fault}
 use Rattle.fc_base.specs.declared.fault.Fault.TheVariants.{BadNotice, NotInFlight, FrameBadField, BadNote, NumbersSpent, NoMemory}
 use Rattle.engine.specs.declared.issue.Ticket.{Ticket}
-use Rattle.disk_model.specs.declared.left.Left.TheVariants.{Saved}
+use Rattle.disk_model.specs.declared.save_outcome.SaveOutcome.TheVariants.{Saved}
 use Rattle.messages.specs.FrameBytes.{frame_at, frame_faults}
 use Rattle.messages.specs.declared.frame.Frame.{Frame}
 use Rattle.server_core.specs.declared.input.WriteEnd.{WriteEnd}
@@ -20,9 +20,9 @@ use Rattle.server_core.specs.Answers.{shown_entries}
 use Rattle.server_core.specs.OpenWrites.{open_write}
 use Rattle.server_core.specs.Hearing.{FrameEntry, Restart, packets_heard}
 use Rattle.server_core.specs.FrameAnswers.{refusal}
-use Rattle.filters.specs.declared.kinds.Told.{Told}
-use Rattle.filters.specs.declared.kinds.Told.TheVariants as told
-use Rattle.filters.specs.declared.kinds.Said.TheVariants.{Save}
+use Rattle.filters.specs.declared.kinds.InRecordKind.{InRecordKind}
+use Rattle.filters.specs.declared.kinds.InRecordKind.TheVariants as told
+use Rattle.filters.specs.declared.kinds.OutRecordKind.TheVariants.{Save}
 use Rattle.filters.specs.declared.names.WriteName.{WriteName}
 use Rattle.filters.specs.Kinds.{told_numbered, said_number}
 use Rattle.filters.specs.Records.{record_bytes, end_bytes}
@@ -104,7 +104,7 @@ pub record TakesCheck (Comes : Result (Unit {0}) Fault → ServerAt → List ℕ
   pub ends : EndsBy end opening mid front now answer
 
 -- What is made of a record of this kind, if it is one.
-abbrev pub TakesKind : Opening → ServerAt → Option Told → List ℕ → ServerAt → List ℕ → Type 0
+abbrev pub TakesKind : Opening → ServerAt → Option InRecordKind → List ℕ → ServerAt → List ℕ → Type 0
 TakesKind opening at (Some told.Frame) body now answer =
     TakesBody opening at (frame_in (frame_faults body) (frame_at body)) now answer
 TakesKind opening at (Some told.Done) body now answer =

@@ -3,16 +3,14 @@ use Rattle.std.specs.Prelude.{◌≡◌, ◌<◌, ◌≤◌, ◌+◌, ℕ, Bool,
 use Rattle.fc_base.specs.declared.fault.Fault.{Fault}
 use Rattle.fc_base.specs.declared.limits.TheConstants.{MAX_WRITES}
 use Rattle.job_file.specs.declared.job.Job.{Job}
-use Rattle.window.specs.History.{issued}
-use Rattle.server_core.specs.declared.note.ServerNote.{ServerNote}
+use Rattle.engine.specs.History.{issued}
 use Rattle.server_core.specs.History.{Opening}
 use Rattle.server_core.specs.Hearing.{FrameEntry, packets_heard}
-use Rattle.server_core.specs.Note.{Says}
 use Rattle.server_core.specs.Run.{Work, history, origin_of}
 use Rattle.server_core.specs.Words.{work}
 use Rattle.server_core.specs.FrameEnds.{note_in}
 use Rattle.filters.specs.declared.server_filter.ServerFilter.{ServerFilter}
-use Rattle.filters.specs.declared.server_filter.writes.Handed.{Handed}
+use Rattle.filters.specs.declared.server_filter.writes.ServerStep.{ServerStep}
 use Rattle.filters.specs.Written.{Written, Puts}
 use Rattle.filters.specs.Kept.{note_kept}
 use Rattle.filters.specs.Records.{end_bytes}
@@ -20,17 +18,7 @@ use Rattle.filters.specs.ServerSteps.{handed_bytes}
 use Rattle.filters.specs.ServerOrders.{GivesNone, AreAllGiven}
 use Rattle.filters.specs.ServerAt.{ServerAt}
 use Rattle.filters.specs.ServerTurns.{Turns}
-use Rattle.filters.specs.ServerLives.{BeginsBehind, next_boot}
 use Rattle.filters.specs.CheckRuns.{IsHere}
-
--- A filter is opened: the note said something, now it has the next boot, and the server is where it
--- begins.
-pub record OpenedOver (me : ℕ) (note : List ℕ) (filter : ServerFilter) : Type 0 where
-  pub said : ServerNote
-  pub says : Says note said
-  pub saved : (note_in note_kept filter.server).bytes ≡ next_boot said
-  pub begins : (opening : Opening) (first : ServerAt) → BeginsBehind me note said opening first →
-      IsHere filter opening first
 
 -- Some turns were taken, and this holds of where the server was and is.
 abbrev pub TurnsTo : (Opening → ServerAt → ServerAt → Type 0) → Opening → ServerAt → ServerAt
@@ -42,12 +30,12 @@ abbrev pub issued_of_job : Work → ℕ → Option Job → ℕ
 issued_of_job w j None = 0
 issued_of_job w j (Some job) = issued (history (origin_of w j job) w.since)
 
--- The same of the present run.
+-- How many writes of job j of a run were issued, none where there is no run.
 abbrev pub issued_by : Option Work → ℕ → ℕ
 issued_by None j = 0
 issued_by (Some w) j = issued_of_job w j (slice_get w.jobs j)
 
--- The same behind a list.
+-- How many writes of job j of the present run were issued, by the list of what came.
 abbrev pub issued_at : Opening → List FrameEntry → ℕ → ℕ
 issued_at opening past j = issued_by (work opening (packets_heard opening past)) j
 
@@ -65,7 +53,7 @@ Gave j n opening at now =
 
 -- What is handed out is written, with what follows from it and the end; or just the fault, and the
 -- filter stays as it was.
-abbrev pub WritesHanded : Result Handed Fault → ServerFilter → ServerFilter → Written
+abbrev pub WritesHanded : Result ServerStep Fault → ServerFilter → ServerFilter → Written
     → Written → Type 0
 WritesHanded (Ok h) filter after old new =
     (written : List ℕ)

@@ -6,7 +6,7 @@ use Rattle.fc_base.specs.declared.numbers.Key.{Key}
 use Rattle.messages.specs.declared.refusal.Act.{Act}
 use Rattle.messages.specs.declared.refusal.Act.TheVariants as acts
 use Rattle.server_core.specs.declared.outs.Outs.{Outs}
-use Rattle.filters.specs.declared.kinds.Said.TheVariants.{Cut}
+use Rattle.filters.specs.declared.kinds.OutRecordKind.TheVariants.{Cut}
 use Rattle.filters.specs.Kinds.{said_number}
 use Rattle.filters.specs.Records.{record_bytes}
 use Rattle.filters.specs.ClientSteps.{send_bytes}
@@ -16,7 +16,7 @@ abbrev pub order_name : Key → ℕ → ℕ → List ℕ
 order_name key k b =
     bytes_of w64 key.run ++ (bytes_of w32 key.job ++ (bytes_of w64 k ++ bytes_of w32 b))
 
--- That the caller is asked for the cut.
+-- The bytes that ask the caller for the cut, where there is to be one.
 abbrev pub act_bytes : Act → List ℕ
 act_bytes acts.Cut = record_bytes (said_number Cut) []
 act_bytes acts.None = []

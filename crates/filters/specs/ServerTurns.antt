@@ -23,7 +23,7 @@ use Rattle.server_core.specs.Check.{Progress, Full, With, progress}
 use Rattle.server_core.specs.Answers.{shown_entries, run_job, check_job, status}
 use Rattle.server_core.specs.Hearing.{FrameEntry, packets_heard}
 use Rattle.server_core.specs.FrameAnswers.{refusal, issue}
-use Rattle.filters.specs.declared.kinds.Said.TheVariants.{Order, Want}
+use Rattle.filters.specs.declared.kinds.OutRecordKind.TheVariants.{Order, Want}
 use Rattle.filters.specs.Kinds.{said_number}
 use Rattle.filters.specs.Records.{record_bytes}
 use Rattle.filters.specs.ServerTells.{order_name}
@@ -70,7 +70,7 @@ TellsBy None opening at e end now answer =
 TellsBy (Some fault) opening at e end now answer =
     (end ≡ Err fault) × Leaves (at_by (Some fault) opening at e) [] now answer
 
--- So it is told; or memory is wanting for that.
+-- What is told to the server is taken as the list says; or memory is wanting for that.
 abbrev pub TellsIt : Opening → ServerAt → FrameInput → Result (Unit {0}) Fault → ServerAt → List ℕ
     → Type 0
 TellsIt opening at e end now answer =

@@ -4,14 +4,14 @@ use Rattle.std.specs.declared.alloc.Global.{Global}
 use Rattle.std.specs.Io.KnownBytes.{Consumes, IsAtEnd}
 use Rattle.fc_base.specs.declared.fault.Fault.{Fault}
 use Rattle.fc_base.specs.declared.fault.Fault.TheVariants as faults
-use Rattle.filters.specs.declared.kinds.Told.TheVariants.{Note}
+use Rattle.filters.specs.declared.kinds.InRecordKind.TheVariants.{Note}
 use Rattle.filters.specs.declared.record.Head.{Head}
 use Rattle.filters.specs.declared.record.Record.{Record}
 use Rattle.filters.specs.declared.record.TheConstants.{MAX_BODY}
 use Rattle.filters.specs.Kinds.{told_number}
 use Rattle.filters.specs.Records.{head_bytes, record_bytes}
 use Rattle.filters.specs.Written.{Written, Puts}
-use Rattle.filters.specs.Lives.{RecordParts, HasNoRecord, HasNoNote, Lives, Closes, read_bytes}
+use Rattle.filters.specs.Lives.{RecordParts, Filter, HasNoRecord, HasNoNote, Lives, Closes, read_bytes}
 
 -- What stands before the next body, if anything is left; or why it isn't there.
 abbrev pub ReadsHead : Option (List ℕ) → Option (List ℕ) → Result (Option Head) Fault → Type 0
@@ -92,7 +92,7 @@ pub record Stops (Over : List ℕ → (List ℕ → Type 0) → ℕ → Type 0) 
   pub ran : Over read (Puts old new) end
   pub why : ((rest ≡ []) × (end ≡ status)) ⊎ IsTrue new.failed
 
--- So it stops, where its input is known.
+-- A run stops over a front of its input, where that is known, and keeps its writer.
 abbrev pub StopsBy : (List ℕ → (List ℕ → Type 0) → ℕ → Type 0) → Option (List ℕ) → Written → Written
     → ℕ → Type 0
 StopsBy Over input old new status =
@@ -110,3 +110,12 @@ pub record SoFar {O S : Type 0} (Takes : O → S → RecordParts → S → List 
   pub lives : (opening : O) (first : S) → Begins opening first →
       (now : S) × Now opening now × Lives (Takes opening) first records now answers
   pub counted : length records ≡ count
+
+-- A node is opened over a note: this says something, to which just that is answered, and the node is
+-- where it begins.
+pub record IsOpened {O S N : Type 0} (f : Filter O S N) (Now : O → S → Type 0)
+    (note answered : List ℕ) : Type 0 where
+  pub said : N
+  pub says : f.Says note said
+  pub answered_is : answered ≡ f.opening said
+  pub begins : (opening : O) (first : S) → f.Begins note said opening first → Now opening first

@@ -9,7 +9,7 @@ use Rattle.recheck.specs.Report.{report}
 use Rattle.filters.specs.declared.checking.TheConstants.{AT_ONCE}
 
 -- A block that came, and its bytes.
-pub record Came : Type 0 where
+pub record BlockBytes : Type 0 where
   pub block : ℕ
   pub bytes : List ℕ
 
@@ -21,17 +21,17 @@ pub record UnderWay : Type 0 where
   pub attempt : ℕ
   pub expected : Expected
   pub fatal : Bool
-  pub came : List Came
+  pub came : List BlockBytes
   pub first : ℕ
   pub count : ℕ
 
 -- The block behind those that came.
-abbrev pub next_block : List Came → ℕ
+abbrev pub next_block : List BlockBytes → ℕ
 next_block [] = 0
 next_block (c ∷ cs) = c.block + 1
 
 -- The bytes of a block, where it came.
-abbrev pub held_by : List Came → ℕ → List ℕ
+abbrev pub held_by : List BlockBytes → ℕ → List ℕ
 held_by [] b = []
 held_by (c ∷ cs) b = if c.block == b then c.bytes else held_by cs b
 
@@ -39,9 +39,9 @@ held_by (c ∷ cs) b = if c.block == b then c.bytes else held_by cs b
 abbrev pub report_on : UnderWay → ℕ → ReportParts
 report_on u n = report u.fatal u.expected (held_by u.came) (range_with_len 0 n)
 
--- So many blocks came behind these, the first of them this one, and their bytes stand one behind
--- the other.
-abbrev pub came_with : ℕ → ℕ → List ℕ → ℕ → List Came → List Came
+-- The blocks that came, with this many behind them, the first of these being this one: their bytes
+-- stand one behind the other.
+abbrev pub came_with : ℕ → ℕ → List ℕ → ℕ → List BlockBytes → List BlockBytes
 came_with first size bytes zero came = came
 came_with first size bytes (suc n) came =
     record { block = first + n; bytes = take size (drop (n * size) bytes) }

@@ -38,7 +38,7 @@ pub(crate) struct Checking {
 
 /// How far a check is.
 #[derive(Drop)]
-pub(crate) enum Went {
+pub(crate) enum CheckTurn {
     /// More blocks are wanted.
     On(Checking),
     /// This is its report.
@@ -79,7 +79,7 @@ impl Checking {
     }
 
     /// Looks which blocks are wanted next: none any more where the check is whole.
-    pub(crate) fn seek(self) -> Went
+    pub(crate) fn seek(self) -> CheckTurn
         ensures { (j : ℕ) (u : UnderWay) → HasCome j self u → self.next ≡ next_block u.came
             → Goes j u result }
     {
@@ -95,10 +95,10 @@ impl Checking {
         } = self;
         let first = first_wanted(&check, next, blocks);
         if first >= blocks {
-            return Went::Ended(check.finish());
+            return CheckTurn::Ended(check.finish());
         }
         let count = wanted_from(&check, first, blocks, AT_ONCE / size);
-        Went::On(Checking {
+        CheckTurn::On(Checking {
             boot,
             attempt,
             job,
@@ -111,7 +111,7 @@ impl Checking {
     }
 
     /// Checks the next block, which is wanted, by its bytes.
-    fn feed(self, bytes: &[u8]) -> Went
+    fn feed(self, bytes: &[u8]) -> CheckTurn
         requires bytes { length bytes.now ≡ self.size }
         requires wanted { 0 < self.count }
         ensures feeds { (j : ℕ) (u : UnderWay) → HasCome j self u
@@ -132,9 +132,9 @@ impl Checking {
         let mut check = check;
         check.feed(next, bytes);
         if check.ended() {
-            return Went::Ended(check.finish());
+            return CheckTurn::Ended(check.finish());
         }
-        Went::On(Checking {
+        CheckTurn::On(Checking {
             boot,
             attempt,
             job,
@@ -147,7 +147,7 @@ impl Checking {
     }
 
     /// Checks so many of the blocks that are wanted, by their bytes, and looks which are wanted next.
-    pub(crate) fn feed_all(self, given: u32, bytes: &[u8]) -> Went
+    pub(crate) fn feed_all(self, given: u32, bytes: &[u8]) -> CheckTurn
         requires some { 0 < given }
         requires wanted { given ≤ self.count }
         requires bytes { length bytes.now ≡ given * self.size }
@@ -160,8 +160,8 @@ impl Checking {
             let from = fed as usize * size;
             let block = &bytes[from..from + size];
             now = match now.feed(block) {
-                Went::On(next) => next,
-                Went::Ended(report) => return Went::Ended(report),
+                CheckTurn::On(next) => next,
+                CheckTurn::Ended(report) => return CheckTurn::Ended(report),
             };
         }
         now.seek()

@@ -4,13 +4,14 @@ ghost use Rattle.std.specs.Prelude.{◌≤◌, ◌++◌, Some, Ok, IfOk, OnErr, 
 ghost use Rattle.std.specs.Io.Buffered.{reader_remaining};
 ghost use Rattle.std.specs.Io.KnownBytes.{Appends};
 ghost use Rattle.fc_base.specs.declared.limits.TheConstants.{MAX_SERVERS};
+ghost use Rattle.client_core.specs.declared.note.ClientNote.{ClientNote};
 ghost use Rattle.client_core.specs.History.{Opening as ClientOpening};
 ghost use Rattle.client_core.specs.FrameEnds.{note_in};
 ghost use Rattle.filters.specs.Written.{Puts};
 ghost use Rattle.filters.specs.Kept.{note_kept};
-ghost use Rattle.filters.specs.Lives.{Breaks, RunsOver, Runs};
+ghost use Rattle.filters.specs.Lives.{Breaks, Runs};
 ghost use Rattle.filters.specs.Records.{end_bytes};
-ghost use Rattle.filters.specs.Steps.{AnswersBy, AnswersRecord, StopsBy, parts_of};
+ghost use Rattle.filters.specs.Steps.{AnswersBy, AnswersRecord, parts_of};
 ghost use Rattle.filters.specs.ClientSteps.{save_bytes};
 ghost use Rattle.filters.specs.ClientLives.{ClientAt, ClientTakes, TakesKind, client_filter, is_renewal};
 ghost use Rattle.filters.specs.ClientRuns.{FilterIsAt};
@@ -21,13 +22,13 @@ mod ends;
 mod tells;
 
 use crate::beginning::Beginning;
-use crate::kept_notes::KeptNotes;
-use crate::kinds::Told;
-use crate::output::{Guarded, Output, ended};
-use crate::reading::first_note;
+use crate::kinds::InRecordKind;
+use crate::note_buffer::NoteBuffer;
+use crate::output::Output;
 use crate::record::Record;
-use crate::records_node::{RecordsNode, run_records};
-use crate::writing::{put_end, put_save, refuse};
+use crate::records_node::RecordsNode;
+use crate::running::run;
+use crate::writing::{put_end, put_save};
 use attempt_ends::Attempts;
 use begins::open;
 use client_core::Client;
@@ -56,62 +57,14 @@ pub fn run_client<R: Read, W: Write>(
     ensures err { IfSome (reader_remaining R.remaining reader.old) (λ input. OnErr result
         (Breaks (client_filter beginning servers) input (W.contents writer.old) (W.contents writer.new))) }
 {
-    let mut output = Guarded {
-        writer,
-        error: None,
-    };
-    let status = serve(alloc, servers, beginning, reader, &mut output);
-    let Guarded { writer, error } = output;
-    // No effect when it runs. The proof reads from this use what the writer holds.
-    let _ = &*writer;
-    ended(error, status)
+    run::<ClientFilter, R, W>(alloc, ClientBegin { servers, beginning }, reader, writer)
 }
 
-/// Serves, and answers the exit status.
-fn serve<R: Read, W: Output>(
-    alloc: Global,
+/// The client of so many servers, which begins so.
+#[derive(Clone, Copy)]
+pub(crate) struct ClientBegin {
     servers: u32,
     beginning: Beginning,
-    reader: &mut BufReader<R>,
-    writer: &mut W,
-) -> u8
-    requires some { 1 ≤ servers }
-    requires few { servers ≤ MAX_SERVERS }
-    ensures { StopsBy (Runs (client_filter beginning servers)) (reader_remaining R.remaining reader.old)
-        (W.written writer.old) (W.written writer.new) result }
-{
-    match first_note(alloc, reader, writer) {
-        Ok(note) => run_over(alloc, servers, beginning, note, reader, writer),
-        Err(fault) => refuse(writer, fault),
-    }
-}
-
-/// Serves over this note.
-fn run_over<R: Read, W: Output>(
-    alloc: Global,
-    servers: u32,
-    beginning: Beginning,
-    note: Vec<u8>,
-    reader: &mut BufReader<R>,
-    writer: &mut W,
-) -> u8
-    requires some { 1 ≤ servers }
-    requires few { servers ≤ MAX_SERVERS }
-    ensures { StopsBy (RunsOver (client_filter beginning servers) note.items) (reader_remaining R.remaining reader.old)
-        (W.written writer.old) (W.written writer.new) result }
-{
-    let client = match open(alloc, servers, &beginning, note) {
-        Ok(client) => client,
-        Err(fault) => return refuse(writer, fault),
-    };
-    let mut filter = ClientFilter {
-        alloc,
-        servers,
-        client,
-        attempts: Attempts::new(alloc),
-    };
-    filter.put_opening(&beginning, writer);
-    run_records(alloc, &mut filter, reader, writer)
 }
 
 /// The client over its note, of so many servers, and the attempts of its life.
@@ -119,18 +72,45 @@ fn run_over<R: Read, W: Output>(
 pub(crate) struct ClientFilter {
     alloc: Global,
     servers: u32,
-    client: Client<KeptNotes>,
+    client: Client<NoteBuffer>,
     attempts: Attempts,
 }
 
 impl RecordsNode for ClientFilter {
+    type Begin = ClientBegin;
+
     ghost Opening = { ClientOpening };
 
     ghost Moment = { ClientAt };
 
-    ghost Makes = { ClientTakes };
+    ghost Said = { ClientNote };
+
+    ghost filter = { λ begin. client_filter begin.beginning begin.servers };
+
+    ghost MayBegin = { λ begin. (1 ≤ begin.servers) × (begin.servers ≤ MAX_SERVERS) };
 
     ghost StandsAt = { FilterIsAt };
+
+    ghost answered = { λ begin filter.
+        save_bytes (is_renewal begin.beginning) (note_in note_kept filter.client).bytes
+        ++ end_bytes (Ok tt) };
+
+    fn open(alloc: Global, begin: ClientBegin, note: Vec<u8>) -> Result<ClientFilter, Fault> {
+        let ClientBegin { servers, beginning } = begin;
+        match open(alloc, servers, &beginning, note) {
+            Ok(client) => Ok(ClientFilter {
+                alloc,
+                servers,
+                client,
+                attempts: Attempts::new(alloc),
+            }),
+            Err(fault) => Err(fault),
+        }
+    }
+
+    fn answer_note<W: Output>(&self, begin: ClientBegin, writer: &mut W) {
+        self.put_opening(&begin.beginning, writer)
+    }
 
     fn answer_record<W: Output>(&mut self, came: &Record, writer: &mut W) {
         self.answer(came, writer)
@@ -155,23 +135,23 @@ impl ClientFilter {
             (parts_of came.now) (W.written writer.old) (W.written writer.new) }
     {
         let body = came.body.as_slice();
-        match Told::numbered(came.kind) {
+        match InRecordKind::numbered(came.kind) {
             Some(kind) => self.answer_kind(kind, body, writer),
             None => put_end(writer, Err(Fault::BadNotice)),
         }
     }
 
     /// Answers a record of this kind.
-    fn answer_kind<W: Output>(&mut self, kind: Told, body: &[u8], writer: &mut W)
+    fn answer_kind<W: Output>(&mut self, kind: InRecordKind, body: &[u8], writer: &mut W)
         ensures { AnswersBy (λ opening at now answer.
             TakesKind opening at (Some kind) body.now now answer)
             (FilterIsAt self.old) (FilterIsAt self.new)
             (W.written writer.old) (W.written writer.new) }
     {
         match kind {
-            Told::Look => self.look(body, writer),
-            Told::Show => self.show(body, writer),
-            Told::Ends => self.tell_ends(body, writer),
+            InRecordKind::Look => self.look(body, writer),
+            InRecordKind::Show => self.show(body, writer),
+            InRecordKind::Ends => self.tell_ends(body, writer),
             _ => self.answer_body(kind, body, writer),
         }
     }

@@ -7,7 +7,7 @@ ghost use Rattle.attempt_ends.specs.declared.place.TheConstants.{PLACES};
 ghost use Rattle.filters.specs.EndTells.{bare, numbers_of, end_names, end_counts, place_bytes, word_number, attempt_bytes, sums_bytes, word_bytes, told_bytes};
 
 use crate::asking::EndsAsked;
-use crate::kinds::Said;
+use crate::kinds::OutRecordKind;
 use crate::output::Output;
 use crate::writing::{put_head, put_u32, put_u64};
 use attempt_ends::{AttemptEnd, EndAt, Place, PlaceEnd, Sums, attempt_end, sums_of};
@@ -110,7 +110,7 @@ fn put_place<W: Output>(writer: &mut W, asked: &EndsAsked, end: &EndAt)
     ensures { Puts (W.written writer.old) (W.written writer.new)
         (place_bytes asked.now end.now) }
 {
-    put_head(writer, Said::PlaceEnd, 44);
+    put_head(writer, OutRecordKind::PlaceEnd, 44);
     put_names(writer, asked, &end.place);
     put_counts(writer, numbers_of(end.end))
 }
@@ -146,7 +146,7 @@ fn put_word<W: Output>(writer: &mut W, asked: &EndsAsked, end: AttemptEnd, sums:
     ensures { Puts (W.written writer.old) (W.written writer.new)
         (word_bytes asked.now end sums) }
 {
-    put_head(writer, Said::AttemptEnd, 33);
+    put_head(writer, OutRecordKind::AttemptEnd, 33);
     put_attempt(writer, asked);
     writer.put(&[word_number(end)]);
     put_sums(writer, sums)

@@ -5,7 +5,7 @@ ghost use Rattle.filters.specs.Kinds.{told_number, told_numbered, said_number};
 
 /// The kinds of records that are read. The discriminants are their numbers.
 #[derive(Clone, Copy, Debug, PartialEq, Eq)]
-pub enum Told {
+pub enum InRecordKind {
     /// The note, as it was kept: first, and once.
     Note = 1,
     /// A frame has come.
@@ -38,7 +38,7 @@ pub enum Told {
 
 /// The kinds of records that are written. The discriminants are their numbers.
 #[derive(Clone, Copy, Debug, PartialEq, Eq)]
-pub enum Said {
+pub enum OutRecordKind {
     /// The note, which has to be durable before anything behind it is carried out.
     Save = 65,
     /// A frame to send.
@@ -63,24 +63,24 @@ pub enum Said {
     AttemptEnd = 75,
 }
 
-const ALL_TOLD: [Told; 14] = [
-    Told::Note,
-    Told::Frame,
-    Told::Done,
-    Told::Failed,
-    Told::Blocks,
-    Told::Unread,
-    Told::Begin,
-    Told::Trigger,
-    Told::Stop,
-    Told::Verify,
-    Told::Tick,
-    Told::Look,
-    Told::Show,
-    Told::Ends,
+const ALL_TOLD: [InRecordKind; 14] = [
+    InRecordKind::Note,
+    InRecordKind::Frame,
+    InRecordKind::Done,
+    InRecordKind::Failed,
+    InRecordKind::Blocks,
+    InRecordKind::Unread,
+    InRecordKind::Begin,
+    InRecordKind::Trigger,
+    InRecordKind::Stop,
+    InRecordKind::Verify,
+    InRecordKind::Tick,
+    InRecordKind::Look,
+    InRecordKind::Show,
+    InRecordKind::Ends,
 ];
 
-impl Told {
+impl InRecordKind {
     /// The kind's number.
     pub fn number(self) -> u8
         ensures { result ≡ told_number self }
@@ -90,7 +90,7 @@ impl Told {
 
     /// The kind with this number, if there is one.
     #[tactic(auto, unfolding(crate::specs::Kinds::told_numbered))]
-    pub fn numbered(number: u8) -> Option<Told>
+    pub fn numbered(number: u8) -> Option<InRecordKind>
         ensures { result ≡ told_numbered number }
     {
         ALL_TOLD
@@ -100,7 +100,7 @@ impl Told {
     }
 }
 
-impl Said {
+impl OutRecordKind {
     /// The kind's number.
     pub fn number(self) -> u8
         ensures { result ≡ said_number self }

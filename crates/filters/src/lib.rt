@@ -11,22 +11,23 @@
 //! what the client is asked.
 #![tactic(auto)]
 
-mod answered;
 mod asking;
 mod beginning;
 mod checking;
 mod client_filter;
 mod command;
 mod ending;
-mod kept_notes;
 mod kinds;
 mod law;
 mod mirror_filter;
 mod names;
+mod node_step;
+mod note_buffer;
 mod output;
 mod reading;
 mod record;
 mod records_node;
+mod running;
 mod server_filter;
 mod server_law;
 mod telling;
@@ -35,11 +36,11 @@ mod writing;
 pub use beginning::Beginning;
 pub use client_filter::run_client;
 pub use command::{Request, read_words};
-pub use kept_notes::KeptNotes;
-pub use kinds::{Said, Told};
+pub use kinds::{InRecordKind, OutRecordKind};
 pub use law::{cut_law, mirror_cut_law};
 pub use mirror_filter::run_mirror;
 pub use names::{BLOCK_NAME, BlockName};
+pub use note_buffer::NoteBuffer;
 pub use record::MAX_BODY;
 pub use server_filter::run_server;
 pub use server_law::{server_cut_law, server_loss_law};

@@ -1,6 +1,6 @@
 //! A mirror as a filter.
 
-ghost use Rattle.std.specs.Prelude.{List, Some, IfOk, OnErr, IfSome};
+ghost use Rattle.std.specs.Prelude.{List, Some, Ok, IfOk, OnErr, IfSome};
 ghost use Rattle.std.specs.Io.KnownBytes.{Appends};
 ghost use Rattle.std.specs.Io.Buffered.{reader_remaining};
 ghost use Rattle.mirror_core.specs.declared.note.MirrorNote.{MirrorNote};
@@ -8,20 +8,21 @@ ghost use Rattle.mirror_core.specs.History.{Entry};
 ghost use Rattle.mirror_core.specs.Stands.{StandsFor};
 ghost use Rattle.filters.specs.Written.{Puts};
 ghost use Rattle.filters.specs.Kept.{note_kept};
-ghost use Rattle.filters.specs.Lives.{Breaks, RunsOver, Runs};
-ghost use Rattle.filters.specs.Steps.{AnswersBy, AnswersRecord, StopsBy, parts_of};
+ghost use Rattle.filters.specs.Records.{end_bytes};
+ghost use Rattle.filters.specs.Lives.{Breaks, Runs};
+ghost use Rattle.filters.specs.Steps.{AnswersBy, AnswersRecord, parts_of};
 ghost use Rattle.filters.specs.ClientSteps.{result_bytes};
 ghost use Rattle.filters.specs.MirrorLives.{MirrorAt, IsAt, MirrorTakes, TakesBody, TakesKind, frame_in, mirror_filter};
 ghost use Rattle.filters.specs.MirrorSteps.{FrameEnds, BodyEnds};
 
-use crate::answered::{Answered, put_result};
-use crate::kept_notes::KeptNotes;
-use crate::kinds::Told;
-use crate::output::{Guarded, Output, ended};
-use crate::reading::first_note;
+use crate::kinds::InRecordKind;
+use crate::node_step::{NodeStep, put_result};
+use crate::note_buffer::NoteBuffer;
+use crate::output::Output;
 use crate::record::Record;
-use crate::records_node::{RecordsNode, run_records};
-use crate::writing::{put_end, refuse};
+use crate::records_node::RecordsNode;
+use crate::running::run;
+use crate::writing::put_end;
 use fc_base::Fault;
 use messages::{Frame, decode_frame};
 use mirror_core::Mirror;
@@ -44,62 +45,43 @@ pub fn run_mirror<R: Read, W: Write>(
     ensures err { IfSome (reader_remaining R.remaining reader.old) (λ input. OnErr result
         (Breaks mirror_filter input (W.contents writer.old) (W.contents writer.new))) }
 {
-    let mut output = Guarded {
-        writer,
-        error: None,
-    };
-    let status = serve(alloc, reader, &mut output);
-    let Guarded { writer, error } = output;
-    // No effect when it runs. The proof reads from this use what the writer holds.
-    let _ = &*writer;
-    ended(error, status)
-}
-
-/// Serves, and answers the exit status.
-fn serve<R: Read, W: Output>(alloc: Global, reader: &mut BufReader<R>, writer: &mut W) -> u8
-    ensures { StopsBy (Runs mirror_filter) (reader_remaining R.remaining reader.old)
-        (W.written writer.old) (W.written writer.new) result }
-{
-    match first_note(alloc, reader, writer) {
-        Ok(note) => run_over(alloc, note, reader, writer),
-        Err(fault) => refuse(writer, fault),
-    }
-}
-
-/// Serves over this note.
-fn run_over<R: Read, W: Output>(
-    alloc: Global,
-    note: Vec<u8>,
-    reader: &mut BufReader<R>,
-    writer: &mut W,
-) -> u8
-    ensures { StopsBy (RunsOver mirror_filter note.items) (reader_remaining R.remaining reader.old)
-        (W.written writer.old) (W.written writer.new) result }
-{
-    let mirror = match Mirror::restart(alloc, KeptNotes::new(note)) {
-        Ok(mirror) => mirror,
-        Err((_, fault)) => return refuse(writer, fault),
-    };
-    let mut filter = MirrorFilter { alloc, mirror };
-    put_end(writer, Ok(()));
-    run_records(alloc, &mut filter, reader, writer)
+    run::<MirrorFilter, R, W>(alloc, (), reader, writer)
 }
 
 /// The mirror over its note.
 #[derive(Drop)]
 pub(crate) struct MirrorFilter {
     alloc: Global,
-    mirror: Mirror<KeptNotes>,
+    mirror: Mirror<NoteBuffer>,
 }
 
 impl RecordsNode for MirrorFilter {
+    type Begin = ();
+
     ghost Opening = { MirrorNote };
 
     ghost Moment = { MirrorAt };
 
-    ghost Makes = { MirrorTakes };
+    ghost Said = { MirrorNote };
+
+    ghost filter = { λ begin. mirror_filter };
+
+    ghost MayBegin = { λ begin. Unit {0} };
 
     ghost StandsAt = { λ filter opening at. IsAt note_kept filter.mirror opening at };
+
+    ghost answered = { λ begin filter. end_bytes (Ok tt) };
+
+    fn open(alloc: Global, _begin: (), note: Vec<u8>) -> Result<MirrorFilter, Fault> {
+        match Mirror::restart(alloc, NoteBuffer::new(note)) {
+            Ok(mirror) => Ok(MirrorFilter { alloc, mirror }),
+            Err((_, fault)) => Err(fault),
+        }
+    }
+
+    fn answer_note<W: Output>(&self, _begin: (), writer: &mut W) {
+        put_end(writer, Ok(()))
+    }
 
     fn answer_record<W: Output>(&mut self, came: &Record, writer: &mut W) {
         self.answer(came, writer)
@@ -114,21 +96,21 @@ impl MirrorFilter {
             (W.written writer.old) (W.written writer.new) }
     {
         let body = came.body.as_slice();
-        match Told::numbered(came.kind) {
+        match InRecordKind::numbered(came.kind) {
             Some(kind) => self.answer_kind(kind, body, writer),
             None => put_end(writer, Err(Fault::BadNotice)),
         }
     }
 
     /// Answers a record of this kind.
-    fn answer_kind<W: Output>(&mut self, kind: Told, body: &[u8], writer: &mut W)
+    fn answer_kind<W: Output>(&mut self, kind: InRecordKind, body: &[u8], writer: &mut W)
         ensures { AnswersBy (λ opening at now answer.
             TakesKind opening at (Some kind) body.now now answer)
             (IsAt note_kept self.old.mirror) (IsAt note_kept self.new.mirror)
             (W.written writer.old) (W.written writer.new) }
     {
         match kind {
-            Told::Frame => self.answer_frame(body, writer),
+            InRecordKind::Frame => self.answer_frame(body, writer),
             _ => put_end(writer, Err(Fault::BadNotice)),
         }
     }
@@ -145,7 +127,7 @@ impl MirrorFilter {
     }
 
     /// Writes an answer, or why there is none.
-    fn write_answer<W: Output>(&self, answer: Result<Answered, Fault>, writer: &mut W)
+    fn write_answer<W: Output>(&self, answer: Result<NodeStep, Fault>, writer: &mut W)
         ensures { Puts (W.written writer.old) (W.written writer.new)
             (result_bytes (note_kept self.now.mirror.durable.notes).bytes answer) }
     {
@@ -153,7 +135,7 @@ impl MirrorFilter {
     }
 
     /// Takes the frame that these bytes are.
-    fn take(&mut self, bytes: &[u8]) -> Result<Answered, Fault>
+    fn take(&mut self, bytes: &[u8]) -> Result<NodeStep, Fault>
         ensures { (opening : MirrorNote) (past : List Entry) →
             StandsFor note_kept self.old.mirror opening past →
             BodyEnds note_kept opening past
@@ -167,14 +149,14 @@ impl MirrorFilter {
 
     /// Delivers a frame.
     #[tactic(auto, using(crate::proofs::NodeLemmas::not_taken))]
-    fn deliver(&mut self, frame: &Frame) -> Result<Answered, Fault>
+    fn deliver(&mut self, frame: &Frame) -> Result<NodeStep, Fault>
         ensures { (opening : MirrorNote) (past : List Entry) →
             StandsFor note_kept self.old.mirror opening past →
             FrameEnds note_kept opening past frame.now self.old.mirror self.new.mirror result }
     {
         let saves = self.mirror.would_save(frame);
         let frames = self.mirror.deliver(frame)?;
-        Ok(Answered {
+        Ok(NodeStep {
             saves,
             number: None,
             frames,

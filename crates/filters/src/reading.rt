@@ -5,7 +5,7 @@ ghost use Rattle.std.specs.Io.Buffered.{reader_remaining};
 ghost use Rattle.filters.specs.Written.{Puts};
 ghost use Rattle.filters.specs.Steps.{ReadsHead, ReadsBody, ReadsRecord, IsNoteOf, ReadsNote};
 
-use crate::kinds::Told;
+use crate::kinds::InRecordKind;
 use crate::output::Output;
 use crate::record::{HEAD, Head, MAX_BODY, Record, head_in, holds_record};
 use fc_base::Fault;
@@ -65,7 +65,7 @@ fn note_of(came: Record) -> Result<Vec<u8>, Fault>
     ensures { IsNoteOf came result }
 {
     let Record { kind, body } = came;
-    if kind == Told::Note.number() {
+    if kind == InRecordKind::Note.number() {
         Ok(body)
     } else {
         Err(Fault::BadNotice)

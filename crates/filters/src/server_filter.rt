@@ -1,39 +1,41 @@
 //! A server as a filter.
 
-ghost use Rattle.std.specs.Prelude.{◌≡◌, ◌<◌, true, Some, [], length, IfOk, OnErr, IfErr, IfSome};
+ghost use Rattle.std.specs.Prelude.{◌≡◌, ◌<◌, ◌++◌, true, Some, Ok, [], length, IfOk, OnErr, IfErr, IfSome};
 ghost use Rattle.std.specs.Io.Buffered.{reader_remaining};
 ghost use Rattle.std.specs.Io.KnownBytes.{Appends};
 ghost use Rattle.fc_base.specs.declared.limits.TheConstants.{MAX_SERVERS, MAX_BLOCK_SIZE as BLOCK_SIZE, MAX_JOBS as JOBS};
+ghost use Rattle.server_core.specs.declared.note.ServerNote.{ServerNote};
 ghost use Rattle.server_core.specs.History.{Opening as ServerOpening};
 ghost use Rattle.server_core.specs.FrameEnds.{note_in};
 ghost use Rattle.filters.specs.Written.{Puts};
 ghost use Rattle.filters.specs.Kept.{note_kept};
 ghost use Rattle.filters.specs.ClientSteps.{save_bytes};
-ghost use Rattle.filters.specs.Lives.{Breaks, RunsOver, Runs};
-ghost use Rattle.filters.specs.Steps.{AnswersBy, AnswersRecord, StopsBy, parts_of};
+ghost use Rattle.filters.specs.Records.{end_bytes};
+ghost use Rattle.filters.specs.Lives.{Breaks, Runs};
+ghost use Rattle.filters.specs.Steps.{AnswersBy, AnswersRecord, parts_of};
 ghost use Rattle.filters.specs.ServerOrders.{AreAllGiven};
 ghost use Rattle.filters.specs.ServerAt.{ServerAt, no_checks as none_under_way};
 ghost use Rattle.filters.specs.ServerChecks.{Feeds, GivesUp};
-ghost use Rattle.filters.specs.ServerLives.{EndsBy, RefusesNote, ServerTakes, TakesCheck, TakesKind, server_filter};
+ghost use Rattle.filters.specs.ServerLives.{EndsBy, ServerTakes, TakesCheck, TakesKind, server_filter};
 
 mod checks;
 mod writes;
 
 use crate::checking::Checking;
-use crate::kept_notes::KeptNotes;
-use crate::kinds::{Said, Told};
+use crate::kinds::{InRecordKind, OutRecordKind};
 use crate::names::write_name;
-use crate::output::{Guarded, Output, ended};
-use crate::reading::first_note;
+use crate::note_buffer::NoteBuffer;
+use crate::output::Output;
 use crate::record::Record;
-use crate::records_node::{RecordsNode, run_records};
-use crate::writing::{put_end, put_record, refuse};
+use crate::records_node::RecordsNode;
+use crate::running::run;
+use crate::writing::{put_end, put_record};
 use fc_base::{Fault, JobNo, MAX_BLOCK_SIZE, MAX_JOBS, ServerNo};
 use server_core::{Server, WriteEnd};
 use std::alloc::{AllocError, Global};
 use std::io;
 use std::io::{BufReader, Read, Write};
-use writes::Handed;
+use writes::ServerStep;
 
 /// Serves as the server with this number, until the input ends, and answers the exit status: 0, or 2 where it
 /// can't go on, which the last record says.
@@ -54,60 +56,14 @@ pub fn run_server<R: Read, W: Write>(
     ensures err { IfSome (reader_remaining R.remaining reader.old) (λ input. OnErr result
         (Breaks (server_filter me) input (W.contents writer.old) (W.contents writer.new))) }
 {
-    let mut output = Guarded {
-        writer,
-        error: None,
-    };
-    let status = serve(alloc, me, reader, &mut output);
-    let Guarded { writer, error } = output;
-    // No effect when it runs. The proof reads from this use what the writer holds.
-    let _ = &*writer;
-    ended(error, status)
-}
-
-/// Serves, and answers the exit status.
-fn serve<R: Read, W: Output>(
-    alloc: Global,
-    me: ServerNo,
-    reader: &mut BufReader<R>,
-    writer: &mut W,
-) -> u8
-    requires { me < MAX_SERVERS }
-    ensures { StopsBy (Runs (server_filter me)) (reader_remaining R.remaining reader.old)
-        (W.written writer.old) (W.written writer.new) result }
-{
-    match first_note(alloc, reader, writer) {
-        Ok(note) => run_over(alloc, me, note, reader, writer),
-        Err(fault) => refuse(writer, fault),
-    }
-}
-
-/// Serves over this note.
-fn run_over<R: Read, W: Output>(
-    alloc: Global,
-    me: ServerNo,
-    note: Vec<u8>,
-    reader: &mut BufReader<R>,
-    writer: &mut W,
-) -> u8
-    requires { me < MAX_SERVERS }
-    ensures { StopsBy (RunsOver (server_filter me) note.items) (reader_remaining R.remaining reader.old)
-        (W.written writer.old) (W.written writer.new) result }
-{
-    let mut filter = match ServerFilter::open(alloc, me, note) {
-        Ok(filter) => filter,
-        Err(fault) => return refuse(writer, fault),
-    };
-    filter.save(writer);
-    put_end(writer, Ok(()));
-    run_records(alloc, &mut filter, reader, writer)
+    run::<ServerFilter, R, W>(alloc, me, reader, writer)
 }
 
 /// A server, its checks that are under way, by job, and room for the bytes of a block.
 #[derive(Drop)]
 pub(crate) struct ServerFilter {
     alloc: Global,
-    server: Server<KeptNotes>,
+    server: Server<NoteBuffer>,
     checks: Vec<Option<Checking>>,
     memory: Vec<u8>,
     ghost whole: { length memory.items ≡ BLOCK_SIZE },
@@ -124,13 +80,46 @@ fn room_for_a_block(alloc: Global) -> Result<Vec<u8>, AllocError>
 impl RecordsNode for ServerFilter {
     ghost use Rattle.filters.specs.CheckRuns.{IsHere};
 
+    type Begin = ServerNo;
+
     ghost Opening = { ServerOpening };
 
     ghost Moment = { ServerAt };
 
-    ghost Makes = { ServerTakes };
+    ghost Said = { ServerNote };
+
+    ghost filter = { server_filter };
+
+    ghost MayBegin = { λ me. me < MAX_SERVERS };
 
     ghost StandsAt = { IsHere };
+
+    ghost answered = { λ me filter.
+        save_bytes true (note_in note_kept filter.server).bytes ++ end_bytes (Ok tt) };
+
+    /// The next boot is saved.
+    fn open(alloc: Global, me: ServerNo, note: Vec<u8>) -> Result<ServerFilter, Fault> {
+        let Ok(memory) = room_for_a_block(alloc) else {
+            return Err(Fault::NoMemory);
+        };
+        let Ok(checks) = ServerFilter::no_checks(alloc) else {
+            return Err(Fault::NoMemory);
+        };
+        match Server::restart(alloc, me, NoteBuffer::new(note)) {
+            Ok(server) => Ok(ServerFilter {
+                alloc,
+                server,
+                checks,
+                memory,
+            }),
+            Err((_, fault)) => Err(fault),
+        }
+    }
+
+    fn answer_note<W: Output>(&self, _me: ServerNo, writer: &mut W) {
+        self.save(writer);
+        put_end(writer, Ok(()))
+    }
 
     fn answer_record<W: Output>(&mut self, came: &Record, writer: &mut W) {
         self.answer(came, writer)
@@ -139,7 +128,7 @@ impl RecordsNode for ServerFilter {
 
 impl ServerFilter {
     ghost use Rattle.filters.specs.CheckRuns.{AreChecks, IsHere};
-    ghost use Rattle.filters.specs.ServerRuns.{OpenedOver, TurnsTo, WritesHanded};
+    ghost use Rattle.filters.specs.ServerRuns.{TurnsTo, WritesHanded};
 
     /// No check of any job.
     fn no_checks(alloc: Global) -> Result<Vec<Option<Checking>>, AllocError>
@@ -153,35 +142,12 @@ impl ServerFilter {
         Ok(checks)
     }
 
-    /// The filter over this note, in which the next boot is saved.
-    fn open(alloc: Global, me: ServerNo, note: Vec<u8>) -> Result<ServerFilter, Fault>
-        requires { me < MAX_SERVERS }
-        ensures ok { IfOk result (λ filter. OpenedOver me note.items filter) }
-        ensures err { IfErr result (RefusesNote note.items) }
-    {
-        let Ok(memory) = room_for_a_block(alloc) else {
-            return Err(Fault::NoMemory);
-        };
-        let Ok(checks) = ServerFilter::no_checks(alloc) else {
-            return Err(Fault::NoMemory);
-        };
-        match Server::restart(alloc, me, KeptNotes::new(note)) {
-            Ok(server) => Ok(ServerFilter {
-                alloc,
-                server,
-                checks,
-                memory,
-            }),
-            Err((_, fault)) => Err(fault),
-        }
-    }
-
     /// Writes the note that was saved.
     fn save<W: Output>(&self, writer: &mut W)
         ensures { Puts (W.written writer.old) (W.written writer.new)
             (save_bytes true (note_in note_kept self.now.server).bytes) }
     {
-        put_record(writer, Said::Save, self.server.notes().as_slice())
+        put_record(writer, OutRecordKind::Save, self.server.notes().as_slice())
     }
 
     /// Answers a record.
@@ -190,39 +156,39 @@ impl ServerFilter {
             (W.written writer.old) (W.written writer.new) }
     {
         let body = came.body.as_slice();
-        match Told::numbered(came.kind) {
+        match InRecordKind::numbered(came.kind) {
             Some(kind) => self.answer_kind(kind, body, writer),
             None => put_end(writer, Err(Fault::BadNotice)),
         }
     }
 
     /// Answers a record of this kind.
-    fn answer_kind<W: Output>(&mut self, kind: Told, body: &[u8], writer: &mut W)
+    fn answer_kind<W: Output>(&mut self, kind: InRecordKind, body: &[u8], writer: &mut W)
         ensures { AnswersBy (λ opening at now answer.
             TakesKind opening at (Some kind) body.now now answer)
             (IsHere self.old) (IsHere self.new) (W.written writer.old) (W.written writer.new) }
     {
         match kind {
-            Told::Frame => {
+            InRecordKind::Frame => {
                 let answer = self.deliver(body);
                 self.write_answer(answer, writer)
             }
-            Told::Done => {
+            InRecordKind::Done => {
                 let answer = self.end_write(write_name(body), WriteEnd::Done);
                 self.write_answer(answer, writer)
             }
-            Told::Failed => {
+            InRecordKind::Failed => {
                 let answer = self.end_write(write_name(body), WriteEnd::Failed);
                 self.write_answer(answer, writer)
             }
-            Told::Blocks => self.answer_blocks(body, writer),
-            Told::Unread => self.answer_unread(body, writer),
+            InRecordKind::Blocks => self.answer_blocks(body, writer),
+            InRecordKind::Unread => self.answer_unread(body, writer),
             _ => put_end(writer, Err(Fault::BadNotice)),
         }
     }
 
     /// Writes an answer and what follows from it, or why there is none.
-    fn write_answer<W: Output>(&mut self, answer: Result<Handed, Fault>, writer: &mut W)
+    fn write_answer<W: Output>(&mut self, answer: Result<ServerStep, Fault>, writer: &mut W)
         ensures { WritesHanded answer self.old self.new
             (W.written writer.old) (W.written writer.new) }
     {

@@ -3,9 +3,8 @@
 ghost use Rattle.filters.specs.ServerCuts.{LivesGoOn};
 ghost use Rattle.filters.specs.ServerLosses.{FaultsAreLosses, ListedHaveLost, SurvivorsAreNoFaults, LossesAreFaults};
 
-use engine::{overlap_law, taken_law};
+use engine::{overlap_law, sets_law, taken_law};
 use recheck::faults_are_losses;
-use window::sets_law;
 use write_order::writes_stay_in_the_region;
 
 /// Wherever the answers of a server's filter are cut, at any byte, the note that was saved last says what the list of

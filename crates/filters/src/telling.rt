@@ -6,7 +6,7 @@ ghost use Rattle.fc_base.specs.Layouts.{spelled_blocks};
 ghost use Rattle.filters.specs.ClientAsks.{outcome_number, report_names, report_counts, end_numbers};
 ghost use Rattle.filters.specs.ClientLives.{report_bytes};
 
-use crate::kinds::Said;
+use crate::kinds::OutRecordKind;
 use crate::output::Output;
 use crate::writing::{put_head, put_u32, put_u64};
 use client_core::{Outcome, Received};
@@ -32,7 +32,7 @@ pub(crate) fn put_report<W: Output>(writer: &mut W, received: &Received)
 {
     let report = &received.report;
     let blocks = report.first();
-    put_head(writer, Said::Report, 40 + 4 * blocks.len() as u64);
+    put_head(writer, OutRecordKind::Report, 40 + 4 * blocks.len() as u64);
     put_names(writer, received);
     put_counts(writer, report);
     put_blocks(writer, blocks)

@@ -7,12 +7,12 @@ ghost use Rattle.std.specs.List.{flat_map};
 ghost use Rattle.std.specs.Io.KnownBytes.{Appends};
 ghost use Rattle.filters.specs.Written.{Puts};
 ghost use Rattle.fc_base.specs.declared.fault.Fault.TheVariants.{NoMemory as NO_MEMORY};
-ghost use Rattle.filters.specs.declared.kinds.Said.TheVariants.{Send as SENT};
+ghost use Rattle.filters.specs.declared.kinds.OutRecordKind.TheVariants.{Send as SENT};
 ghost use Rattle.filters.specs.Kinds.{said_number};
 ghost use Rattle.filters.specs.Records.{head_bytes, record_bytes, end_bytes};
 ghost use Rattle.filters.specs.ClientSteps.{save_bytes};
 
-use crate::kinds::Said;
+use crate::kinds::OutRecordKind;
 use crate::output::{Guarded, Output, ended};
 use fc_base::Fault;
 use messages::Frames;
@@ -23,7 +23,7 @@ use std::io::Write;
 pub(crate) const REFUSED: u8 = 2;
 
 /// Writes what stands before a body of so many bytes.
-pub(crate) fn put_head<W: Output>(writer: &mut W, kind: Said, length: u64)
+pub(crate) fn put_head<W: Output>(writer: &mut W, kind: OutRecordKind, length: u64)
     ensures { Puts (W.written writer.old) (W.written writer.new)
         (head_bytes (said_number kind) length) }
 {
@@ -32,7 +32,7 @@ pub(crate) fn put_head<W: Output>(writer: &mut W, kind: Said, length: u64)
 }
 
 /// Writes a record of this kind.
-pub(crate) fn put_record<W: Output>(writer: &mut W, kind: Said, body: &[u8])
+pub(crate) fn put_record<W: Output>(writer: &mut W, kind: OutRecordKind, body: &[u8])
     ensures { Puts (W.written writer.old) (W.written writer.new)
         (record_bytes (said_number kind) body.now) }
 {
@@ -41,7 +41,7 @@ pub(crate) fn put_record<W: Output>(writer: &mut W, kind: Said, body: &[u8])
 }
 
 /// Writes a record of this kind, whose body has one byte behind these.
-pub(crate) fn put_with<W: Output>(writer: &mut W, kind: Said, front: &[u8], last: u8)
+pub(crate) fn put_with<W: Output>(writer: &mut W, kind: OutRecordKind, front: &[u8], last: u8)
     ensures { Puts (W.written writer.old) (W.written writer.new)
         (record_bytes (said_number kind) (front.now ++ last ∷ [])) }
 {
@@ -59,7 +59,7 @@ pub(crate) fn put_end<W: Output>(writer: &mut W, answer: Result<(), Fault>)
         Ok(()) => 0,
         Err(fault) => fault.number(),
     };
-    put_record(writer, Said::End, &[number])
+    put_record(writer, OutRecordKind::End, &[number])
 }
 
 /// Writes a note, where it was saved.
@@ -68,7 +68,7 @@ pub(crate) fn put_save<W: Output>(writer: &mut W, saves: bool, note: &[u8])
         (save_bytes saves note.now) }
 {
     if saves {
-        put_record(writer, Said::Save, note);
+        put_record(writer, OutRecordKind::Save, note);
     }
 }
 
@@ -82,7 +82,7 @@ pub(crate) fn put_frames<W: Output>(writer: &mut W, frames: &Frames)
         let Some(bytes) = frames.get(index) else {
             return;
         };
-        put_record(writer, Said::Send, bytes);
+        put_record(writer, OutRecordKind::Send, bytes);
     }
 }
 

@@ -4,9 +4,10 @@
 
 ghost use Rattle.commands.specs.Command.{IsFleetSize};
 
-use commands::{FleetSize, Request, read_words, refuse_script, run_in_blocks, run_jobs};
+use commands::{
+    FileTrigger, FleetSize, Request, read_words, refuse_script, run_in_blocks, run_jobs, run_live,
+};
 use fc_base::Fault;
-use live::{FileTrigger, run_live};
 use program_io::{REFUSED, refuse_words};
 use std::fs::Files;
 use std::io;

@@ -2,7 +2,7 @@
 
 use fc_base::Key;
 use messages::{Body, Frame, decode_frame};
-use net_world::{Sent, World};
+use net_world::{FrameLog, World};
 use std::alloc::Global;
 use verify_state::VerifyState;
 
@@ -68,7 +68,7 @@ impl Notes {
     }
 
     /// Adds the keys of the frames that are new.
-    fn look_at_frames(&mut self, frames: &Sent) -> Option<()> {
+    fn look_at_frames(&mut self, frames: &FrameLog) -> Option<()> {
         for number in self.looked..frames.len() {
             if let Some(bytes) = frames.get(number) {
                 self.look_at_frame(bytes)?;

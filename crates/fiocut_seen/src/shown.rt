@@ -1,13 +1,13 @@
 //! What a world shows, as it is printed: its frames, and what the client's note showed.
 
 use crate::notes::Change;
-use net_world::Sent;
+use net_world::FrameLog;
 use std::io;
 use std::io::Write;
 
 /// Writes a line for each frame, in the order of their numbers: `frame N HEX`, where HEX has two digits
 /// for each byte. An error is that of a write: nothing is written after it.
-pub fn write_frames<W: Write>(writer: &mut W, frames: &Sent) -> io::Result<()> {
+pub fn write_frames<W: Write>(writer: &mut W, frames: &FrameLog) -> io::Result<()> {
     for number in 0..frames.len() {
         if let Some(bytes) = frames.get(number) {
             write!(writer, "frame {number} ")?;

@@ -1,1 +1,4 @@
 pub mod Sending
+mod CountLemmas
+mod SeatLemmas
+mod SlotLemmas

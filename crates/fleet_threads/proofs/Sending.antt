@@ -3,9 +3,9 @@ use denote.Param.Send.{IsSend, IsSync, sendable}
 use Rattle.std.proofs.Crossing.{crosses}
 use Rattle.fc_base.proofs.Sending.{fault_sent}
 use Rattle.disk_model.proofs.Sending.{disk_sent}
-use Rattle.hub.proofs.Sending.{hub_sent}
+use Rattle.messages.proofs.Sending.{hub_sent}
 use Rattle.cells.proofs.Sending.{client_sent, server_sent, seat_sent}
-use Rattle.fleet_threads.specs.contracts.crew.Hand as hand
+use Rattle.fleet_threads.specs.contracts.crew.WorkerSeat as hand
 use Rattle.fleet_threads.specs.contracts.flags.Flags as flags
 use Rattle.fleet_threads.specs.contracts.nodes.Nodes as nodes
 

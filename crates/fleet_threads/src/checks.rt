@@ -4,11 +4,12 @@ ghost use Rattle.std.specs.Prelude.{◌≤◌};
 
 use crate::fault::FleetFault;
 use crate::nodes::{Nodes, Server, add};
+use crate::parallel::check_jobs;
 use crate::post::post;
+use crate::task::CheckTask;
 use cells::Report;
 use disk_model::MemDisk;
 use fc_base::{Attempt, CheckReport, Fault, JobNo, JobRecord, Key, MAX_JOBS, MAX_WORKERS};
-use parallel_checks::{CheckTask, check_jobs};
 use server_core::Progress;
 use std::alloc::Global;
 use std::mem;
@@ -19,7 +20,7 @@ use verify_state::VerifyState;
 /// A check that is due: the place of the server and its boot, its job, and whether that is checked with a
 /// state.
 #[derive(Clone, Copy)]
-struct Due {
+struct DueCheck {
     place: usize,
     boot: u64,
     rec: JobRecord,
@@ -47,7 +48,11 @@ pub(crate) fn check_all<R: Threads + Wait + Sync>(
 }
 
 /// The checks that are due at all servers.
-fn dues_of<R: Wait>(rt: &R, alloc: Global, servers: &[Mutex<Server>]) -> Result<Vec<Due>, Fault> {
+fn dues_of<R: Wait>(
+    rt: &R,
+    alloc: Global,
+    servers: &[Mutex<Server>],
+) -> Result<Vec<DueCheck>, Fault> {
     let mut dues = Vec::new(alloc);
     for (place, server) in servers.iter().enumerate() {
         add_all_due(&server.lock(rt), place, &mut dues)?;
@@ -56,7 +61,7 @@ fn dues_of<R: Wait>(rt: &R, alloc: Global, servers: &[Mutex<Server>]) -> Result<
 }
 
 /// Adds the checks that are due at a server: of each job of its open check that isn't refused.
-fn add_all_due(server: &Server, place: usize, dues: &mut Vec<Due>) -> Result<(), Fault> {
+fn add_all_due(server: &Server, place: usize, dues: &mut Vec<DueCheck>) -> Result<(), Fault> {
     for job in 0..MAX_JOBS {
         add_due(server, place, JobNo(job), dues)?;
     }
@@ -64,7 +69,12 @@ fn add_all_due(server: &Server, place: usize, dues: &mut Vec<Due>) -> Result<(),
 }
 
 /// Adds the check of a job, if it is due.
-fn add_due(server: &Server, place: usize, number: JobNo, dues: &mut Vec<Due>) -> Result<(), Fault> {
+fn add_due(
+    server: &Server,
+    place: usize,
+    number: JobNo,
+    dues: &mut Vec<DueCheck>,
+) -> Result<(), Fault> {
     match due_of(server, place, number) {
         Some(due) => add(dues, due),
         None => Ok(()),
@@ -72,7 +82,7 @@ fn add_due(server: &Server, place: usize, number: JobNo, dues: &mut Vec<Due>) ->
 }
 
 /// The check of a job, if it is due.
-fn due_of(server: &Server, place: usize, number: JobNo) -> Option<Due> {
+fn due_of(server: &Server, place: usize, number: JobNo) -> Option<DueCheck> {
     let core = server.server()?;
     let job = core.check_job(number)?;
     let has_state = match core.check_progress(number)? {
@@ -81,7 +91,7 @@ fn due_of(server: &Server, place: usize, number: JobNo) -> Option<Due> {
         Progress::Wanting | Progress::Refused(_) | Progress::Done(_) => return None,
     };
     let status = core.status();
-    Some(Due {
+    Some(DueCheck {
         place,
         boot: status.boot,
         rec: job.rec,
@@ -100,7 +110,7 @@ fn tasks_of<R: Wait>(
     rt: &R,
     alloc: Global,
     nodes: &Nodes,
-    dues: &[Due],
+    dues: &[DueCheck],
 ) -> Result<Vec<CheckTask<MemDisk>>, FleetFault> {
     let mut tasks = Vec::new(alloc);
     for due in dues {
@@ -114,7 +124,7 @@ fn task_of<R: Wait>(
     rt: &R,
     alloc: Global,
     nodes: &Nodes,
-    due: &Due,
+    due: &DueCheck,
 ) -> Result<CheckTask<MemDisk>, FleetFault> {
     let state = if due.has_state {
         Some(state_of(rt, nodes, due)?)
@@ -131,7 +141,7 @@ fn task_of<R: Wait>(
 }
 
 /// The state by which a job is checked.
-fn state_of<R: Wait>(rt: &R, nodes: &Nodes, due: &Due) -> Result<VerifyState, FleetFault> {
+fn state_of<R: Wait>(rt: &R, nodes: &Nodes, due: &DueCheck) -> Result<VerifyState, FleetFault> {
     match nodes.servers.get(due.place) {
         Some(server) => state_at(&server.lock(rt), due.key.job),
         None => Err(FleetFault::NoServer),
@@ -153,7 +163,7 @@ fn take_file<R: Wait>(
     rt: &R,
     alloc: Global,
     nodes: &Nodes,
-    due: &Due,
+    due: &DueCheck,
 ) -> Result<MemDisk, FleetFault> {
     match file_of(nodes, due) {
         Some(file) => Ok(mem::replace(&mut *file.lock(rt), MemDisk::new(alloc))),
@@ -162,7 +172,7 @@ fn take_file<R: Wait>(
 }
 
 /// The file of a job.
-fn file_of<'n>(nodes: &'n Nodes, due: &Due) -> Option<&'n Mutex<MemDisk>> {
+fn file_of<'n>(nodes: &'n Nodes, due: &DueCheck) -> Option<&'n Mutex<MemDisk>> {
     nodes.files.get(due.place)?.get(due.key.job.0 as usize)
 }
 
@@ -171,7 +181,7 @@ fn tell_all<R: Wait>(
     rt: &R,
     nodes: &Nodes,
     attempt: Attempt,
-    dues: &[Due],
+    dues: &[DueCheck],
     reports: &[CheckReport],
 ) -> Result<(), FleetFault> {
     for (due, report) in dues.iter().zip(reports.iter()) {
@@ -185,7 +195,7 @@ fn tell<R: Wait>(
     rt: &R,
     nodes: &Nodes,
     attempt: Attempt,
-    due: &Due,
+    due: &DueCheck,
     report: &CheckReport,
 ) -> Result<(), FleetFault> {
     let Some(server) = nodes.servers.get(due.place) else {

@@ -3,26 +3,27 @@
 ghost use Rattle.std.specs.Prelude.{◌≤◌, length};
 
 use crate::flags::Flags;
+use crate::gate::Gate;
 use crate::nodes::{Nodes, Server};
+use crate::worker::run_worker;
 use cells::Seat;
 use disk_model::MemDisk;
 use std::alloc::Global;
 use std::sync::{Mutex, Wait};
 use std::thread;
 use std::thread::Threads;
-use workers::{Gate, run_worker};
 
 /// A worker: the place of its server, and its seat there, unless it is at work.
 #[derive(Drop)]
-pub struct Hand {
+pub struct WorkerSeat {
     server: usize,
     seat: Option<Seat>,
 }
 
-impl Hand {
+impl WorkerSeat {
     /// A worker of the server at this place.
-    pub(crate) fn new(server: usize, seat: Seat) -> Hand {
-        Hand {
+    pub(crate) fn new(server: usize, seat: Seat) -> WorkerSeat {
+        WorkerSeat {
             server,
             seat: Some(seat),
         }
@@ -30,7 +31,7 @@ impl Hand {
 
     /// Its seat.
     pub fn into_seat(self) -> Option<Seat> {
-        let Hand { seat, .. } = self;
+        let WorkerSeat { seat, .. } = self;
         seat
     }
 
@@ -85,10 +86,10 @@ pub(crate) fn work_all<R: Threads + Wait + Sync, G: Gate + Sync>(
     rt: &R,
     alloc: Global,
     nodes: &Nodes,
-    mut hands: Vec<Hand>,
+    mut hands: Vec<WorkerSeat>,
     gate: &G,
     flags: &Flags,
-) -> Vec<Hand> {
+) -> Vec<WorkerSeat> {
     if !wait_for_start(rt, flags) {
         return hands;
     }

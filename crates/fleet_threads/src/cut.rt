@@ -2,7 +2,7 @@
 
 ghost use Rattle.std.specs.Prelude.{◌≡◌, length};
 
-use cells::{CallerAnswer, Seat, ServerCell, ServerTask};
+use cells::{Receipt, Seat, ServerCell, ServerTask};
 use disk_model::{MemDisk, Notes};
 use fc_base::Fault;
 use std::sync::{Mutex, Wait};
@@ -77,7 +77,7 @@ fn start_again<N: Notes + Drop>(cell: &mut ServerCell<N>, seat: &mut Seat) -> Re
 }
 
 /// That it was done, and no more.
-fn done(answer: Result<CallerAnswer, Fault>) -> Result<(), Fault> {
+fn done(answer: Result<Receipt, Fault>) -> Result<(), Fault> {
     match answer {
         Ok(_) => Ok(()),
         Err(fault) => Err(fault),

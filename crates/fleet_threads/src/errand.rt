@@ -2,7 +2,7 @@
 
 ghost use Rattle.std.specs.Prelude.{◌≤◌};
 
-use crate::awaited::{Awaited, wait_for};
+use crate::answer_status::{AnswerStatus, wait_for};
 use crate::checks::check_all;
 use crate::fault::FleetFault;
 use crate::flags::Flags;
@@ -62,11 +62,11 @@ fn write_until_cut<R: Wait, T: Trigger>(
     run: RunNo,
     trigger: &mut T,
 ) -> Result<(), FleetFault> {
-    wait_for(rt, nodes, flags, &Awaited::Writing(run))?;
+    wait_for(rt, nodes, flags, &AnswerStatus::Writing(run))?;
     flags.start();
     wait_for_trigger(rt, flags, trigger)?;
     trigger_cuts(rt, nodes, run)?;
-    wait_for(rt, nodes, flags, &Awaited::Restarted(run))
+    wait_for(rt, nodes, flags, &AnswerStatus::Restarted(run))
 }
 
 /// The files of all servers are checked once they have their states, and the client hears of each check.
@@ -81,9 +81,9 @@ fn check_files<R: Threads + Wait + Sync>(
     requires some { 1 ≤ workers }
     requires few { workers ≤ MAX_WORKERS }
 {
-    wait_for(rt, nodes, flags, &Awaited::Ready(attempt))?;
+    wait_for(rt, nodes, flags, &AnswerStatus::Ready(attempt))?;
     check_all(rt, alloc, nodes, attempt, workers)?;
-    wait_for(rt, nodes, flags, &Awaited::Reported(attempt))
+    wait_for(rt, nodes, flags, &AnswerStatus::Reported(attempt))
 }
 
 /// The text of a job file.

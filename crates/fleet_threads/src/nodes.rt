@@ -2,12 +2,12 @@
 
 ghost use Rattle.std.specs.Prelude.{◌≡◌, ◌<◌, ◌≤◌, ◌+◌, ◌++◌, ◌∷◌, [], length, IfOk, OnOk};
 
-use crate::crew::Hand;
+use crate::crew::WorkerSeat;
 use crate::fault::FleetFault;
 use cells::{ClientCell, Seat, ServerCell};
 use disk_model::{MemDisk, MemNotes};
 use fc_base::{Fault, MAX_JOBS, MAX_SERVERS, MAX_WORKERS, ServerNo};
-use hub::Hub;
+use messages::Hub;
 use std::alloc::Global;
 use std::sync::Mutex;
 
@@ -30,15 +30,15 @@ pub struct Nodes {
 /// Nodes that have just been opened, with their seats: one of each server for the post, and one in the
 /// hand of each worker.
 #[derive(Drop)]
-pub struct Opened {
+pub struct OpenFleet {
     pub nodes: Nodes,
     pub posts: Vec<Seat>,
-    pub hands: Vec<Hand>,
+    pub hands: Vec<WorkerSeat>,
 }
 
 /// A client and so many servers, of so many workers each, over blank notes and blank files: 1 to 8 servers,
 /// 1 to 16 workers. `NoMemory` is want of memory.
-pub fn open(alloc: Global, servers: u32, workers: u32) -> Result<Opened, FleetFault>
+pub fn open(alloc: Global, servers: u32, workers: u32) -> Result<OpenFleet, FleetFault>
     requires some { 1 ≤ servers }
     requires few { servers ≤ MAX_SERVERS }
     requires crew { workers ≤ MAX_WORKERS }
@@ -46,16 +46,16 @@ pub fn open(alloc: Global, servers: u32, workers: u32) -> Result<Opened, FleetFa
     ensures files { IfOk result (λ opened. length opened.nodes.files.items ≡ servers) }
     ensures posts { IfOk result (λ opened. length opened.posts.items ≡ servers) }
 {
-    let mut opened = Opened::new(alloc, open_client(alloc, servers)?);
+    let mut opened = OpenFleet::new(alloc, open_client(alloc, servers)?);
     for number in 0..servers {
         opened.add_server(alloc, number, workers)?;
     }
     Ok(opened)
 }
 
-impl Opened {
+impl OpenFleet {
     /// A client without servers.
-    fn new(alloc: Global, client: Client) -> Opened
+    fn new(alloc: Global, client: Client) -> OpenFleet
         ensures servers { length result.nodes.servers.items ≡ 0 }
         ensures files { length result.nodes.files.items ≡ 0 }
         ensures posts { length result.posts.items ≡ 0 }
@@ -66,7 +66,7 @@ impl Opened {
             servers: Vec::new(alloc),
             files: Vec::new(alloc),
         };
-        Opened {
+        OpenFleet {
             nodes,
             posts: Vec::new(alloc),
             hands: Vec::new(alloc),
@@ -149,7 +149,7 @@ fn deal(
     server: usize,
     mut seats: Vec<Seat>,
     posts: &mut Vec<Seat>,
-    hands: &mut Vec<Hand>,
+    hands: &mut Vec<WorkerSeat>,
 ) -> Result<(), FleetFault>
     ensures { OnOk result (length posts.new.items ≡ length posts.old.items + 1) }
 {
@@ -158,7 +158,7 @@ fn deal(
     };
     add(posts, post)?;
     for seat in seats {
-        add(hands, Hand::new(server, seat))?;
+        add(hands, WorkerSeat::new(server, seat))?;
     }
     Ok(())
 }

@@ -3,11 +3,10 @@
 ghost use Rattle.std.specs.Prelude.{◌≡◌, length};
 
 use crate::cut::cut;
-use cells::{CallerAnswer, ClientCell, Node, Seat, ServerCell};
+use cells::{ClientCell, Node, Receipt, Seat, ServerCell};
 use disk_model::{MemDisk, Notes};
 use fc_base::Fault;
-use hub::Hub;
-use messages::{Act, Node as NodeName};
+use messages::{Act, Hub, Node as NodeName};
 use rand_xoshiro::Xoshiro256PlusPlus;
 use rand_xoshiro::rand_core::SeedableRng;
 use rand_xoshiro::rand_core::utils::NextWord;
@@ -140,7 +139,7 @@ pub(crate) fn post<R: Wait, C: Node>(
     hub: &Mutex<Hub>,
     node: &Mutex<C>,
     command: C::Command,
-) -> Result<CallerAnswer, Fault> {
+) -> Result<Receipt, Fault> {
     let mut node = node.lock(rt);
     let mut hub = hub.lock(rt);
     node.post(&mut hub, command)

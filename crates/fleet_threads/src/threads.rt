@@ -2,12 +2,13 @@
 
 ghost use Rattle.std.specs.Prelude.{◌≡◌, ◌≤◌, length};
 
-use crate::crew::{Hand, work_all};
+use crate::crew::{WorkerSeat, work_all};
 use crate::cut::cut_all;
 use crate::errand;
 use crate::errand::Plan;
 use crate::fault::FleetFault;
 use crate::flags::Flags;
+use crate::gate::Gate;
 use crate::nodes::Nodes;
 use crate::post::run_post;
 use crate::trigger::Trigger;
@@ -17,17 +18,16 @@ use std::alloc::Global;
 use std::sync::Wait;
 use std::thread;
 use std::thread::Threads;
-use workers::Gate;
 
 /// The seed of the words by which the post picks frames.
 const SEED: u64 = 1;
 
 /// How the threads of a fleet have ended, by the first fault of one; and the seats, which come back.
 #[derive(Drop)]
-pub struct Ran {
+pub struct FleetEnd {
     pub ended: Result<RunNo, FleetFault>,
     pub posts: Vec<Seat>,
-    pub hands: Vec<Hand>,
+    pub hands: Vec<WorkerSeat>,
 }
 
 /// Runs the threads: one delivers frames, one has the workers work, and the calling one does the errand.
@@ -37,11 +37,11 @@ pub fn run_threads<R: Threads + Wait + Sync, T: Trigger, G: Gate + Sync>(
     alloc: Global,
     nodes: &Nodes,
     posts: Vec<Seat>,
-    hands: Vec<Hand>,
+    hands: Vec<WorkerSeat>,
     plan: Plan<'_, '_>,
     trigger: &mut T,
     gate: &G,
-) -> Result<Ran, Fault>
+) -> Result<FleetEnd, Fault>
     requires posts { length posts.items ≡ length nodes.now.servers.items }
     requires files { length nodes.now.files.items ≡ length nodes.now.servers.items }
     requires some { 1 ≤ plan.workers }
@@ -52,7 +52,7 @@ pub fn run_threads<R: Threads + Wait + Sync, T: Trigger, G: Gate + Sync>(
     thread::scope(
         thread::scope_env(),
         rt,
-        move |scope| -> Result<Ran, Fault>
+        move |scope| -> Result<FleetEnd, Fault>
             requires posts { length posts.items ≡ length nodes.now.servers.items }
             requires files { length nodes.now.files.items ≡ length nodes.now.servers.items }
             requires some { 1 ≤ plan.workers }
@@ -74,7 +74,7 @@ pub fn run_threads<R: Threads + Wait + Sync, T: Trigger, G: Gate + Sync>(
             flags.stop_after(rt, &ended);
             let (posts, hands) = (post.join(rt), crew.join(rt));
             let ended = flags.or_fault(rt, ended);
-            Ok(Ran {
+            Ok(FleetEnd {
                 ended,
                 posts,
                 hands,

@@ -6,7 +6,7 @@ use Rattle.std.specs.List.{prefix_len, suffix_len}
 abbrev pub is_text_byte : ℕ → Bool
 is_text_byte b = b == 9 || b == 10 || b == 13 || (nat_le 32 b && nat_le b 126)
 
--- Space and tab.
+-- A byte is a space or a tab.
 abbrev pub is_blank : ℕ → Bool
 is_blank b = b == 32 || b == 9
 

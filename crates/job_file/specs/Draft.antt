@@ -21,7 +21,7 @@ use Rattle.job_file.specs.Fault.{when}
 abbrev pub read_write_of : Settings → ReadWrite
 read_write_of settings = unwrap_or settings.read_write Read
 
--- Whether that is to write.
+-- Whether a value of `rw` is to write.
 abbrev pub is_write : ReadWrite → Bool
 is_write Read = false
 is_write Write = true

@@ -40,7 +40,8 @@ abbrev pub Checks : {X : Type 0} → Result X JobFault → List JobFault → Typ
 Checks (Ok found) faults = faults ≡ []
 Checks (Err fault) faults = (fault ≡ NoMemory) ⊎ (slice_get faults 0 ≡ Some fault)
 
--- And where it finds none, it gives its value.
+-- A layer finds no fault and gives this value, or it finds the first of its faults, unless memory
+-- ran out.
 abbrev pub Gives : {X Y : Type 0} → (X → Y) → Result X JobFault → List JobFault → Y → Type 0
 Gives view (Ok found) faults value = (faults ≡ []) × (view found ≡ value)
 Gives view (Err fault) faults value = (fault ≡ NoMemory) ⊎ (slice_get faults 0 ≡ Some fault)

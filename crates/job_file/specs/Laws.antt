@@ -12,7 +12,7 @@ pub record AreWithinLimits (jobs : List Job) : Type 0 where
   pub few : length jobs ≤ MAX_JOBS
   pub within : AllByRecursion (λ job. IsTrue (is_within_limits job.rec)) jobs
 
--- So it is with the jobs of each text without faults.
+-- The jobs of each text without faults are 1 to 16, and each is within the limits.
 abbrev pub JobsAreWithinLimits : Type 0
 JobsAreWithinLimits = (text : List ℕ) → refusal_of text ≡ None → AreWithinLimits (jobs_of text)
 
@@ -21,6 +21,7 @@ pub record FitsItsWidths (job : Job) : Type 0 where
   pub seed : job.rec.seed < 2 ^ 64
   pub pattern : job.rec.pattern < 256
 
--- So it is with each job of a text, whether the text has faults or not.
+-- The seed and the pattern of each job of a text fit their widths, whether the text has faults or
+-- not.
 abbrev pub JobsFit : Type 0
 JobsFit = (text : List ℕ) → AllByRecursion FitsItsWidths (jobs_of text)

@@ -50,6 +50,6 @@ drafts_after (scope.Job draft) defaults drafts below =
     drafts ++ (record draft { settings = with_all draft.settings (own_options below) }
     ∷ drafts_with defaults below)
 
--- The same of all that the reader keeps.
+-- The jobs of a text, where these lines come behind all that the reader keeps.
 abbrev pub drafts_coming : Reader → List Line → List Draft
 drafts_coming reader below = drafts_after reader.scope reader.defaults reader.drafts.items below

@@ -17,7 +17,8 @@ last_in gives (s ∷ ss) = option_or (last_in gives ss) (gives s)
 abbrev pub value_of : {X : Type 0} → (Setting → Option X) → List Setting → List Setting → Option X
 value_of gives own above = option_or (last_in gives own) (last_in gives above)
 
--- What a setting gives each option: a value to one, and nothing to the others.
+-- The value of `rw` that a setting gives: it gives a value to one option, and nothing to the
+-- others.
 abbrev pub read_write_in : Setting → Option ReadWrite
 read_write_in (set.ReadWrite value) = Some value
 read_write_in _ = None
@@ -27,72 +28,72 @@ abbrev pub block_size_in : Setting → Option ℕ
 block_size_in (set.BlockSize value) = Some value
 block_size_in _ = None
 
--- The size that it gives.
+-- The size that a setting gives.
 abbrev pub size_in : Setting → Option ℕ
 size_in (set.Size value) = Some value
 size_in _ = None
 
--- How many bytes it has written in all.
+-- How many bytes a setting has a job write in all.
 abbrev pub io_size_in : Setting → Option ℕ
 io_size_in (set.IoSize value) = Some value
 io_size_in _ = None
 
--- How many writes it asks for.
+-- How many writes a setting asks for.
 abbrev pub number_ios_in : Setting → Option ℕ
 number_ios_in (set.NumberIos value) = Some value
 number_ios_in _ = None
 
--- The depth that it gives.
+-- The depth that a setting gives.
 abbrev pub io_depth_in : Setting → Option ℕ
 io_depth_in (set.IoDepth value) = Some value
 io_depth_in _ = None
 
--- The window that it gives.
+-- The window that a setting gives.
 abbrev pub x_window_in : Setting → Option ℕ
 x_window_in (set.XWindow value) = Some value
 x_window_in _ = None
 
--- How many jobs it makes of one section.
+-- How many jobs a setting makes of one section.
 abbrev pub num_jobs_in : Setting → Option ℕ
 num_jobs_in (set.NumJobs value) = Some value
 num_jobs_in _ = None
 
--- The seed that it gives.
+-- The seed that a setting gives.
 abbrev pub rand_seed_in : Setting → Option ℕ
 rand_seed_in (set.RandSeed value) = Some value
 rand_seed_in _ = None
 
--- Whether blocks may repeat before all were written.
+-- Whether blocks may repeat before all were written, where a setting says so.
 abbrev pub no_random_map_in : Setting → Option Bool
 no_random_map_in (set.NoRandomMap value) = Some value
 no_random_map_in _ = None
 
--- How blocks are filled and verified.
+-- How blocks are filled and verified, where a setting says so.
 abbrev pub verify_in : Setting → Option Verify
 verify_in (set.Verify value) = Some value
 verify_in _ = None
 
--- The byte of a pattern.
+-- The byte of a pattern, where a setting gives one.
 abbrev pub verify_pattern_in : Setting → Option ℕ
 verify_pattern_in (set.VerifyPattern value) = Some value
 verify_pattern_in _ = None
 
--- Whether a check ends at the first fault.
+-- Whether a check ends at the first fault, where a setting says so.
 abbrev pub verify_fatal_in : Setting → Option Bool
 verify_fatal_in (set.VerifyFatal value) = Some value
 verify_fatal_in _ = None
 
--- Whether a verify state is saved.
+-- Whether a verify state is saved, where a setting says so.
 abbrev pub verify_state_save_in : Setting → Option Bool
 verify_state_save_in (set.VerifyStateSave value) = Some value
 verify_state_save_in _ = None
 
--- Whether a verify state is loaded.
+-- Whether a verify state is loaded, where a setting says so.
 abbrev pub verify_state_load_in : Setting → Option Bool
 verify_state_load_in (set.VerifyStateLoad value) = Some value
 verify_state_load_in _ = None
 
--- The name of the file.
+-- The name of the file, where a setting gives one.
 abbrev pub filename_in : Setting → Option (List ℕ)
 filename_in (set.Filename value) = Some value
 filename_in _ = None

@@ -6,6 +6,7 @@ pub mod StoryLemmas
 mod TallyLemmas
 mod TouchedLemmas
 mod ReadingLemmas
+mod RunLemmas
 mod TableLemmas
 mod WritingLemmas
 mod PossibleLemmas

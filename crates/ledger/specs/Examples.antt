@@ -38,7 +38,7 @@ second_run = expected_by second_key one_write None
 abbrev pub two_runs : Place
 two_runs = after_run second_run (after_check sevens (after_run first_run (empty 512 2)))
 
--- The same as a story, newest first, in which nothing is lost.
+-- Two runs with a check between them as a story, newest first, in which nothing is lost.
 abbrev pub story : List Step
 story =
     record { what = ran second_run; content = eights_and_sevens }

@@ -50,7 +50,8 @@ LossAtRestIsTold =
 abbrev pub check_of : (ℕ → List ℕ) → Step
 check_of seen = record { what = checked; content = seen }
 
--- So it is however many steps came behind that check, none of which had to do with the block.
+-- A loss at rest is a fault however many steps came behind the check that found a write of the
+-- entry, none of which had to do with the block.
 abbrev pub OldLossIsTold : Type 0
 OldLossIsTold =
     (older newer : List Step) (seen later : ℕ → List ℕ) (block : ℕ) →
@@ -65,7 +66,7 @@ PlacesHaveTheirEntries =
     (bs blocks : ℕ) (steps : List Step) (block : ℕ) → block < blocks →
     entry_of (place_after bs blocks steps) block ≡ entry_after steps block
 
--- So where no step has lost anything, no report tells a fault.
+-- Where no step has lost anything, no report tells a fault.
 abbrev pub NoReportTellsAFault : Type 0
 NoReportTellsAFault =
     (first : ℕ → List ℕ) (bs blocks : ℕ) (steps : List Step)

@@ -22,7 +22,8 @@ pub record IsRangedEntry (entry : List RunWrite) : Type 0 where
   pub len : length entry < 2 ^ 64
   pub writes : AllByRecursion IsRanged entry
 
--- So have those of all entries, of which there are no more than a job has blocks.
+-- The numbers of a place and of all its entries have their widths, and there are no more entries
+-- than a job may have blocks.
 pub record IsRangedPlace (place : Place) : Type 0 where
   pub bs : place.bs < 2 ^ 32
   pub blocks : length place.entries ≤ MAX_BLOCKS

@@ -13,7 +13,7 @@ abbrev pub Reads : {X : Type 0} → Result X LedgerFault → X → Type 0
 Reads (Ok read) it = read ≡ it
 Reads (Err fault) it = fault ≡ NoMemory
 
--- So it is of a ledger.
+-- Of bytes that spell a ledger, that is read, or memory has run out.
 abbrev pub IsRead : Result Place LedgerFault → Place → Type 0
 IsRead result place = Reads result place
 
@@ -29,7 +29,7 @@ pub record IsReadable (table : List (List ℕ)) (w : RunWrite) : Type 0 where
   pub ranged : IsRanged w
   pub there : index_in (run_numbers w) table < length table
 
--- So can the writes of an entry.
+-- The writes of an entry can be read, and they are no more than can be counted.
 pub record IsReadableEntry (table : List (List ℕ)) (entry : List RunWrite) : Type 0 where
   pub len : length entry < 2 ^ 64
   pub writes : AllByRecursion (IsReadable table) entry

@@ -6,7 +6,7 @@ ghost use Rattle.fc_base.specs.declared.limits.TheConstants.{MAX_BLOCKS};
 ghost use Rattle.ledger.specs.Possible.{is_possible, is_block_size, is_within_job};
 ghost use Rattle.ledger.specs.Ranges.{IsRangedPlace};
 ghost use Rattle.ledger.specs.Reading.{IsRead};
-ghost use Rattle.ledger.specs.Spelling.{is_damaged, spelling};
+ghost use Rattle.ledger.specs.Spelling.{body_of, is_damaged, spelling};
 ghost use Rattle.ledger.specs.Places.{Place};
 ghost use Rattle.ledger.specs.Places.{empty, entry_of, after_run, after_lost_run, is_checked, verdict_at, with_block_checked};
 
@@ -146,6 +146,17 @@ impl Ledger {
         ensures spelling { IfOk result (λ bytes. bytes.items ≡ spelling self.now) }
         ensures ranged { IfOk result (λ _. IsRangedPlace self.now) }
     {
+        let mut bytes = self.body(alloc)?;
+        let digest = Sha1::digest(&bytes);
+        bytes.extend_from_slice(&digest)?;
+        Ok(bytes)
+    }
+
+    /// The bytes before the digest.
+    fn body(&self, alloc: Global) -> Result<Vec<u8>, AllocError>
+        ensures body { IfOk result (λ bytes. bytes.items ≡ body_of self.now) }
+        ensures ranged { IfOk result (λ _. IsRangedPlace self.now) }
+    {
         let table = table_of(alloc, &self.entries)?;
         let mut bytes = Vec::new(alloc);
         let blocks = u64::from(self.blocks());
@@ -156,10 +167,8 @@ impl Ledger {
             table.len() as u64,
         ];
         put_words(&mut bytes, &head)?;
-        put_table(&mut bytes, &table)?;
+        put_table(&mut bytes, table.as_slice())?;
         put_entries(&mut bytes, &table, &self.entries)?;
-        let digest = Sha1::digest(&bytes);
-        bytes.extend_from_slice(&digest)?;
         Ok(bytes)
     }
 
@@ -179,8 +188,8 @@ impl Ledger {
         if !ledger.is_possible() {
             return Err(LedgerFault::Impossible);
         }
-        let again = ledger.encode(alloc)?;
-        if again.as_slice() != bytes {
+        let again = ledger.body(alloc)?;
+        if again.as_slice() != body {
             return Err(LedgerFault::OtherSpelling);
         }
         Ok(ledger)

@@ -17,6 +17,7 @@ mod fault;
 mod law;
 mod ledger;
 mod reading;
+mod runs;
 mod spelling;
 mod tally;
 mod touched;

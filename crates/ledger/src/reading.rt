@@ -28,6 +28,7 @@ const ROW: usize = 12;
 
 /// The bytes before the digest, where it is theirs.
 pub(crate) fn body_of(bytes: &[u8]) -> Result<&[u8], LedgerFault>
+    ensures body { IfOk result (λ b. bytes.now ≡ b.now ++ sha1 b.now) }
     ensures read { (body : List ℕ) → bytes.now ≡ body ++ sha1 body
         → MatchResult result (λ b. b.now ≡ body) (λ _. ⊥) }
     ensures damaged { IsTrue (is_damaged bytes.now)

@@ -8,14 +8,12 @@ ghost use Rattle.ledger.specs.Spelling.{run_numbers, with_run, with_runs, with_e
 ghost use Rattle.ledger.specs.Ranges.{IsRanged, IsRangedEntry, IsRangedPlace};
 
 use crate::entry::{Entry, RunWrite};
+use crate::runs::{Run, Runs};
 use fc_base::{Kind, Verify, put_u64};
 use std::alloc::{AllocError, Global};
 
 /// What the bytes of a ledger begin with: `FCLEDGR1`.
 pub(crate) const MAGIC: u64 = 0x4643_4c45_4447_5231;
-
-/// The run of a write: whose it is, and the settings of its job.
-pub(crate) type Run = [u64; 12];
 
 pub(crate) fn kind_code(kind: Kind) -> u64
     ensures { result ≡ kind_code kind }
@@ -83,35 +81,9 @@ fn run_of(write: &RunWrite) -> Run
     ]
 }
 
-/// Whether a table has this run.
-fn has_run(table: &[Run], run: &Run) -> bool
-    ensures { result ≡ list_any (bytes_eq run.now) table.now }
-{
-    for row in table {
-        if run == row {
-            return true;
-        }
-    }
-    false
-}
-
-/// The place of a run in a table, which is behind its last row where it isn't there.
-fn index_in(table: &[Run], run: &Run) -> u64
-    ensures { result ≡ index_in run.now table.now }
-{
-    let mut index = 0;
-    for row in table {
-        if run == row {
-            return index;
-        }
-        index += 1;
-    }
-    index
-}
-
 /// Adds the runs of writes that aren't there yet.
-fn add_runs(table: &mut Vec<Run>, writes: &[RunWrite]) -> Result<(), AllocError>
-    ensures { OnOk result (table.new.items ≡ with_runs table.old.items writes.now) }
+fn add_runs(table: &mut Runs, writes: &[RunWrite]) -> Result<(), AllocError>
+    ensures { OnOk result (table.new ≡ with_runs table.old writes.now) }
 {
     for write in writes {
         add_run(table, write)?;
@@ -120,22 +92,17 @@ fn add_runs(table: &mut Vec<Run>, writes: &[RunWrite]) -> Result<(), AllocError>
 }
 
 /// Adds the run of a write, where it isn't there yet.
-fn add_run(table: &mut Vec<Run>, write: &RunWrite) -> Result<(), AllocError>
-    ensures { OnOk result (table.new.items ≡ with_run table.old.items write.now) }
+fn add_run(table: &mut Runs, write: &RunWrite) -> Result<(), AllocError>
+    ensures { OnOk result (table.new ≡ with_run table.old write.now) }
 {
-    let run = run_of(write);
-    if has_run(table, &run) {
-        return Ok(());
-    }
-    table.push(run)?;
-    Ok(())
+    table.add(run_of(write))
 }
 
-/// The runs that entries name, each once. It takes as many steps for a write as there are runs before its own.
-pub(crate) fn table_of(alloc: Global, entries: &[Entry]) -> Result<Vec<Run>, AllocError>
-    ensures { IfOk result (λ table. table.items ≡ table_of entries.now) }
+/// The runs that entries name, each once.
+pub(crate) fn table_of(alloc: Global, entries: &[Entry]) -> Result<Runs, AllocError>
+    ensures { IfOk result (λ table. table ≡ table_of entries.now) }
 {
-    let mut table = Vec::new(alloc);
+    let mut table = Runs::new(alloc);
     for entry in entries {
         add_runs(&mut table, entry.as_slice())?;
     }
@@ -163,7 +130,7 @@ pub(crate) fn put_table(out: &mut Vec<u8>, table: &[Run]) -> Result<(), AllocErr
 }
 
 /// Adds an entry.
-fn put_entry(out: &mut Vec<u8>, table: &[Run], writes: &[RunWrite]) -> Result<(), AllocError>
+fn put_entry(out: &mut Vec<u8>, table: &Runs, writes: &[RunWrite]) -> Result<(), AllocError>
     ensures bytes { OnOk result (out.new.items ≡ out.old.items
         ++ words (entry_numbers table.now writes.now)) }
     ensures ranged { OnOk result (IsRangedEntry writes.now) }
@@ -176,20 +143,19 @@ fn put_entry(out: &mut Vec<u8>, table: &[Run], writes: &[RunWrite]) -> Result<()
 }
 
 /// Adds a write.
-fn put_write(out: &mut Vec<u8>, table: &[Run], write: &RunWrite) -> Result<(), AllocError>
+fn put_write(out: &mut Vec<u8>, table: &Runs, write: &RunWrite) -> Result<(), AllocError>
     ensures bytes { OnOk result (out.new.items ≡ out.old.items
         ++ words (write_numbers table.now write.now)) }
     ensures ranged { IsRanged write.now }
 {
-    let run = run_of(write);
-    let index = index_in(table, &run);
-    put_words(out, &[index, write.seq.0])
+    let place = table.place_of(&run_of(write));
+    put_words(out, &[place, write.seq.0])
 }
 
 /// Adds entries.
 pub(crate) fn put_entries(
     out: &mut Vec<u8>,
-    table: &[Run],
+    table: &Runs,
     entries: &[Entry],
 ) -> Result<(), AllocError>
     ensures bytes { OnOk result (out.new.items ≡ out.old.items

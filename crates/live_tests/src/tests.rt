@@ -5,5 +5,6 @@ mod client_cells;
 mod crews;
 mod fleets;
 mod nodes;
+mod parallel;
 mod server_cells;
 mod subcommands;

@@ -12,7 +12,7 @@ use Rattle.verify_state.specs.Laws.{ReadsBack}
 use Rattle.messages.proofs.BodyLemmas.{length-spelled_body}
 use Rattle.messages.specs.declared.piece.Tag.{Tag}
 use Rattle.messages.specs.declared.piece.PieceParts.{PieceParts}
-use Rattle.messages.specs.declared.places.Filled.{Filled}
+use Rattle.messages.specs.declared.places.PlaceSet.{PlaceSet}
 use Rattle.messages.specs.Assemblies.{Row}
 use Rattle.messages.specs.Tags.{is_tag}
 use Rattle.messages.specs.Pieces.{tag_of, places, bytes_at, pieces_of}
@@ -26,7 +26,7 @@ use Rattle.messages.proofs.Assembled.{at_its_place, in_range, gives_body}
 
 -- What is put for a tag is found for it.
 
-found_again : (tag : Tag) (fs : List Filled) (row : Row) (rows more : List Row) (t : Bool) → is_tag row.tag tag ≡ t → (t ≡ false → filled_of tag more ≡ fs)
+found_again : (tag : Tag) (fs : List PlaceSet) (row : Row) (rows more : List Row) (t : Bool) → is_tag row.tag tag ≡ t → (t ≡ false → filled_of tag more ≡ fs)
     → filled_of tag (if t then record { tag = row.tag; filled = fs } ∷ rows else row ∷ more) ≡ fs
 found_again tag fs row rows more true e f = rw e refl
 found_again tag fs row rows more false e f = rw e (f refl)
@@ -35,7 +35,7 @@ in_rest : (t u : Bool) → t ≡ false → (if t then true else u) ≡ true → 
 in_rest true u e h = absurd cc
 in_rest false u e h = h
 
-replaced_found : (tag : Tag) (fs : List Filled) (rows : List Row) → has_tag tag rows ≡ true → filled_of tag (with_row_replaced tag fs rows) ≡ fs
+replaced_found : (tag : Tag) (fs : List PlaceSet) (rows : List Row) → has_tag tag rows ≡ true → filled_of tag (with_row_replaced tag fs rows) ≡ fs
 replaced_found tag fs [] h = absurd cc
 replaced_found tag fs (row ∷ rows) h = found_again tag fs row rows (with_row_replaced tag fs rows) (is_tag row.tag tag) refl
     (λ e. replaced_found tag fs rows (in_rest (is_tag row.tag tag) (has_tag tag rows) e h))
@@ -54,11 +54,11 @@ drop_before_last zero rows row h = refl
 drop_before_last (suc n) [] row h = absurd (omega (arith, h))
 drop_before_last (suc n) (r ∷ rows) row h = drop_before_last n rows row (omega (arith, h))
 
-last_found : (tag : Tag) (fs : List Filled) (rows : List Row) → has_tag tag rows ≡ false → filled_of tag (rows ++ record { tag = tag; filled = fs } ∷ []) ≡ fs
+last_found : (tag : Tag) (fs : List PlaceSet) (rows : List Row) → has_tag tag rows ≡ false → filled_of tag (rows ++ record { tag = tag; filled = fs } ∷ []) ≡ fs
 last_found tag fs [] h = rw (is_tag_self tag) refl
 last_found tag fs (row ∷ rows) h = let p = not_here (is_tag row.tag tag) (has_tag tag rows) h in rw p.0 (last_found tag fs rows p.1)
 
-put_found : (tag : Tag) (fs : List Filled) (rows : List Row) (t : Bool) → has_tag tag rows ≡ t → filled_of tag (with_row t tag fs rows) ≡ fs
+put_found : (tag : Tag) (fs : List PlaceSet) (rows : List Row) (t : Bool) → has_tag tag rows ≡ t → filled_of tag (with_row t tag fs rows) ≡ fs
 put_found tag fs rows true h = replaced_found tag fs rows h
 put_found tag fs rows false h =
     let row : Row = record { tag = tag; filled = fs } in
@@ -75,7 +75,7 @@ absent_empty tag (row ∷ rows) h = let p = not_here (is_tag row.tag tag) (has_t
 abbrev pub expected : List ℕ → Bool → ℕ → Option (List ℕ)
 expected b t at = if t then Some (bytes_at b at) else None
 
-abbrev pub AreThese : List ℕ → List PieceParts → List Filled → Type 0
+abbrev pub AreThese : List ℕ → List PieceParts → List PlaceSet → Type 0
 AreThese b qs fs = (at : ℕ) → filled_at fs at ≡ expected b (has_place qs at) at
 
 -- The place of the new piece, and another one.
@@ -93,7 +93,7 @@ already b place at x true t true is same h = rw (sym (same (is refl))) refl
 already b place at x true t false is same h = absurd cc
 already b place at x false t u is same h = refl
 
-fill_case : (b : List ℕ) (q : PieceParts) → q.bytes ≡ bytes_at b q.at → (qs : List PieceParts) (fs : List Filled) → AreThese b qs fs → (o : Option (List ℕ))
+fill_case : (b : List ℕ) (q : PieceParts) → q.bytes ≡ bytes_at b q.at → (qs : List PieceParts) (fs : List PlaceSet) → AreThese b qs fs → (o : Option (List ℕ))
     → filled_at fs q.at ≡ o → AreThese b (q ∷ qs) (unless_filled o q fs)
 fill_case b q is qs fs are None e at =
     filled_last fs (record { at = q.at; bytes = q.bytes }) at
@@ -103,7 +103,7 @@ fill_case b q is qs fs are None e at =
 fill_case b q is qs fs are (Some x) e at =
     are at ∙ already b q.at at x (q.at == at) (has_place qs at) (has_place qs q.at) (eqb-true q.at at) (ap (has_place qs)) (sym (are q.at) ∙ e)
 
-filled_by : (b : List ℕ) (q : PieceParts) → q.bytes ≡ bytes_at b q.at → (qs : List PieceParts) (fs : List Filled) → AreThese b qs fs
+filled_by : (b : List ℕ) (q : PieceParts) → q.bytes ≡ bytes_at b q.at → (qs : List PieceParts) (fs : List PlaceSet) → AreThese b qs fs
     → AreThese b (q ∷ qs) (fill q fs)
 filled_by b q is qs fs are = fill_case b q is qs fs are (filled_at fs q.at) refl
 
@@ -112,7 +112,7 @@ both_parts true true x y = refl
 both_parts true false x y = refl
 both_parts false u x y = refl
 
-joined_these : (b : List ℕ) (qs : List PieceParts) (fs : List Filled) → AreThese b qs fs → (ats : List ℕ)
+joined_these : (b : List ℕ) (qs : List PieceParts) (fs : List PlaceSet) → AreThese b qs fs → (ats : List ℕ)
     → joined_bytes fs ats ≡ (if has_places qs ats then Some (slices b ats) else None)
 joined_these b qs fs are [] = refl
 joined_these b qs fs are (at ∷ ats) =

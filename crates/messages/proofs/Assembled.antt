@@ -17,7 +17,7 @@ use Rattle.messages.proofs.BodyLemmas.{length-spelled_body}
 use Rattle.messages.specs.declared.piece.Tag.{Tag}
 use Rattle.messages.specs.declared.piece.PieceParts.{PieceParts}
 use Rattle.messages.specs.Pieces.{is_cut, tag_in, tag_of, places, bytes_at, piece_at, pieces_of}
-use Rattle.messages.specs.declared.places.Filled.{Filled}
+use Rattle.messages.specs.declared.places.PlaceSet.{PlaceSet}
 use Rattle.messages.specs.Assemblies.{Row}
 use Rattle.messages.specs.Tags.{is_tag}
 use Rattle.messages.specs.Assemblies.{filled_at, unless_filled, joined_bytes, filled_of, with_piece, completed_body, Look, Waits, Gives, NoPacket, packet_of}
@@ -33,27 +33,27 @@ at_its_place p q h = let s = of_map (piece_at p) (places (length_of p.body)) q h
 
 -- What is filled is of sent packets.
 
-found : (sent : List PacketParts) (tag : Tag) (at : ℕ) (x : List ℕ) (f : Filled) (t : Bool) (rest : Option (List ℕ)) → (t ≡ true → f.at ≡ at)
+found : (sent : List PacketParts) (tag : Tag) (at : ℕ) (x : List ℕ) (f : PlaceSet) (t : Bool) (rest : Option (List ℕ)) → (t ≡ true → f.at ≡ at)
     → WasCut sent tag f.at f.bytes → (rest ≡ Some x → WasCut sent tag at x) → (if t then Some f.bytes else rest) ≡ Some x → WasCut sent tag at x
 found sent tag at x f true rest is w more h = let e : f.bytes ≡ x = cc in subst (λ n. WasCut sent tag n x) (is refl) (subst (λ b. WasCut sent tag f.at b) e w)
 found sent tag at x f false rest is w more h = more h
 
-pub filled_was_cut : (sent : List PacketParts) (tag : Tag) (fs : List Filled) → AreCut sent tag fs → (at : ℕ) (x : List ℕ) → filled_at fs at ≡ Some x
+pub filled_was_cut : (sent : List PacketParts) (tag : Tag) (fs : List PlaceSet) → AreCut sent tag fs → (at : ℕ) (x : List ℕ) → filled_at fs at ≡ Some x
     → WasCut sent tag at x
 filled_was_cut sent tag [] a at x h = absurd cc
 filled_was_cut sent tag (f ∷ fs) a at x h = found sent tag at x f (f.at == at) (filled_at fs at) (eqb-true f.at at) a.0 (filled_was_cut sent tag fs a.1 at x) h
 
-one_more : (sent : List PacketParts) (tag : Tag) (fs : List Filled) (f : Filled) → AreCut sent tag fs → WasCut sent tag f.at f.bytes
+one_more : (sent : List PacketParts) (tag : Tag) (fs : List PlaceSet) (f : PlaceSet) → AreCut sent tag fs → WasCut sent tag f.at f.bytes
     → AreCut sent tag (fs ++ f ∷ [])
 one_more sent tag [] f a w = (w, tt)
 one_more sent tag (g ∷ fs) f a w = (a.0, one_more sent tag fs f a.1 w)
 
-filled_more : (sent : List PacketParts) (tag : Tag) (q : PieceParts) (o : Option (List ℕ)) (fs : List Filled) → AreCut sent tag fs
+filled_more : (sent : List PacketParts) (tag : Tag) (q : PieceParts) (o : Option (List ℕ)) (fs : List PlaceSet) → AreCut sent tag fs
     → WasCut sent tag q.at q.bytes → AreCut sent tag (unless_filled o q fs)
 filled_more sent tag q None fs a w = one_more sent tag fs (record { at = q.at; bytes = q.bytes }) a w
 filled_more sent tag q (Some b) fs a w = a
 
-row_or_rest : (sent : List PacketParts) (tag : Tag) (row : Row) (t : Bool) (rest : List Filled) → (t ≡ true → row.tag ≡ tag) → AreCut sent row.tag row.filled
+row_or_rest : (sent : List PacketParts) (tag : Tag) (row : Row) (t : Bool) (rest : List PlaceSet) → (t ≡ true → row.tag ≡ tag) → AreCut sent row.tag row.filled
     → AreCut sent tag rest → AreCut sent tag (if t then row.filled else rest)
 row_or_rest sent tag row true rest is a b = subst (λ x. AreCut sent x row.filled) (is refl) a
 row_or_rest sent tag row false rest is a b = b
@@ -73,13 +73,13 @@ without_sent : (sent : List PacketParts) (tag : Tag) (rows : List Row) → WasSe
 without_sent sent tag [] w = tt
 without_sent sent tag (row ∷ rows) w = sent_or sent (is_tag row.tag tag) rows (row ∷ without_tag tag rows) w.1 (w.0, without_sent sent tag rows w.1)
 
-replaced_here : (sent : List PacketParts) (tag : Tag) (fs : List Filled) (row : Row) (rows more : List Row) (t : Bool) → (t ≡ true → row.tag ≡ tag)
+replaced_here : (sent : List PacketParts) (tag : Tag) (fs : List PlaceSet) (row : Row) (rows more : List Row) (t : Bool) → (t ≡ true → row.tag ≡ tag)
     → AreCut sent tag fs → AreCut sent row.tag row.filled → WasSent sent rows → WasSent sent more
     → WasSent sent (if t then record { tag = row.tag; filled = fs } ∷ rows else row ∷ more)
 replaced_here sent tag fs row rows more true is a b w v = (subst (λ x. AreCut sent x fs) (sym (is refl)) a, w)
 replaced_here sent tag fs row rows more false is a b w v = (b, v)
 
-replaced_sent : (sent : List PacketParts) (tag : Tag) (fs : List Filled) (rows : List Row) → AreCut sent tag fs → WasSent sent rows
+replaced_sent : (sent : List PacketParts) (tag : Tag) (fs : List PlaceSet) (rows : List Row) → AreCut sent tag fs → WasSent sent rows
     → WasSent sent (with_row_replaced tag fs rows)
 replaced_sent sent tag fs [] a w = tt
 replaced_sent sent tag fs (row ∷ rows) a w = replaced_here sent tag fs row rows (with_row_replaced tag fs rows) (is_tag row.tag tag)
@@ -94,14 +94,14 @@ dropped_sent sent zero rows w = w
 dropped_sent sent (suc n) [] w = tt
 dropped_sent sent (suc n) (row ∷ rows) w = dropped_sent sent n rows w.1
 
-put_sent : (sent : List PacketParts) (t : Bool) (tag : Tag) (fs : List Filled) (rows : List Row) → AreCut sent tag fs → WasSent sent rows
+put_sent : (sent : List PacketParts) (t : Bool) (tag : Tag) (fs : List PlaceSet) (rows : List Row) → AreCut sent tag fs → WasSent sent rows
     → WasSent sent (with_row t tag fs rows)
 put_sent sent true tag fs rows a w = replaced_sent sent tag fs rows a w
 put_sent sent false tag fs rows a w =
     let row : Row = record { tag = tag; filled = fs } in
     dropped_sent sent (length (rows ++ row ∷ []) - MAX_TAGS) (rows ++ row ∷ []) (row_more sent row rows a w)
 
-taken_at_sent : (sent : List PacketParts) (o : Option (List ℕ)) (q : PieceParts) (fs : List Filled) (rows : List Row) → AreCut sent q.tag fs → WasSent sent rows
+taken_at_sent : (sent : List PacketParts) (o : Option (List ℕ)) (q : PieceParts) (fs : List PlaceSet) (rows : List Row) → AreCut sent q.tag fs → WasSent sent rows
     → WasSent sent (rows_after_body o q fs rows)
 taken_at_sent sent None q fs rows a w = put_sent sent (has_tag q.tag rows) q.tag fs rows a w
 taken_at_sent sent (Some b) q fs rows a w = without_sent sent q.tag rows w
@@ -123,14 +123,14 @@ pub record InRange (p : PacketParts) : Type 0 where
 pub in_range : (p : PacketParts) → IsPacket p → InRange p
 in_range p h = record { body = (and_parts (is_node p.from && is_node p.to) (is_body p.body) h.in_range).1; keeps = h.state }
 
-are_of : (sent : List PacketParts) → OneBodyOfEachTag sent → (p : PacketParts) → Contains sent p → is_cut p.body ≡ true → (fs : List Filled)
+are_of : (sent : List PacketParts) → OneBodyOfEachTag sent → (p : PacketParts) → Contains sent p → is_cut p.body ≡ true → (fs : List PlaceSet)
     → AreCut sent (tag_of p.body) fs → AreOf (spelled_body p.body) fs
 are_of sent one p s cut fs a at x h =
     let w = filled_was_cut sent (tag_of p.body) fs a at x h in
     let same : w.packet.body ≡ p.body = one w.packet p w.was_sent s w.cut cut w.tag_is in
     ap (λ (b : Body). bytes_at (spelled_body b) at) (sym same) ∙ w.bytes_are
 
-pub whole_body : (b : Body) (fs : List Filled) (x : List ℕ) → AreOf (spelled_body b) fs → joined_bytes fs (places (length_of b)) ≡ Some x → spelled_body b ≡ x
+pub whole_body : (b : Body) (fs : List PlaceSet) (x : List ℕ) → AreOf (spelled_body b) fs → joined_bytes fs (places (length_of b)) ≡ Some x → spelled_body b ≡ x
 whole_body b fs x are h =
     let len : length (spelled_body b) ≡ length_of b = length-spelled_body b in
     sym (slices_all (spelled_body b)) ∙ ap (λ (n : ℕ). slices (spelled_body b) (places n)) len
@@ -145,7 +145,7 @@ gives_body law p h at =
     ap (of_tag (piece_at p at)) (body_at-spelled law p.body h.body h.keeps)
     ∙ gives_tagged (piece_at p at) p.body (is_tag (tag_of p.body) (tag_of p.body)) (Gives p) (is_tag_self (tag_of p.body))
 
-told : ReadsBack → (p : PacketParts) → InRange p → (at : ℕ) (fs : List Filled) → AreOf (spelled_body p.body) fs → (o : Option (List ℕ))
+told : ReadsBack → (p : PacketParts) → InRange p → (at : ℕ) (fs : List PlaceSet) → AreOf (spelled_body p.body) fs → (o : Option (List ℕ))
     → joined_bytes fs (places (length_of p.body)) ≡ o
     → (look_by_body (piece_at p at) o ≡ Waits) ⊎ (look_by_body (piece_at p at) o ≡ Gives p)
 told law p h at fs are None e = inl refl

@@ -19,7 +19,7 @@ use Rattle.messages.specs.declared.limits.TheConstants.{MAX_BODY}
 use Rattle.messages.specs.Ranges.{is_run, is_attempt, is_job_of, is_text, is_body, KeepsState}
 use Rattle.messages.specs.Bodies.{kind_of, layout, numbers_of, tail_of, spelled_body, length_of, length_limit, takes_all, body_of, is_whole, whole, body_at}
 use Rattle.messages.specs.Choices.{asked_numbered, reason_numbered}
-use Rattle.messages.specs.declared.refusal.Asked.{Asked}
+use Rattle.messages.specs.declared.refusal.RefusedRequest.{RefusedRequest}
 use Rattle.messages.specs.declared.refusal.Reason.{Reason}
 use Rattle.verify_state.specs.Laws.{ReadsBack}
 use Rattle.messages.proofs.StateLemmas.{length-spelled_state}
@@ -142,7 +142,7 @@ body_at-in_range k bytes b e =
     (and_parts (takes_all b (length bytes)) (is_body b) (whole_some bytes (body_of k (numbers (layout k) bytes) (drop (size (layout k)) bytes)) b e).1).1
 
 -- The refusal that the numbers say, once its request and its reason are known.
-abbrev pub refusal_in : List ℕ → Asked → Reason → Body
+abbrev pub refusal_in : List ℕ → RefusedRequest → Reason → Body
 refusal_in bytes a r =
     let job = drop 1 (drop 1 bytes) in
     let run = drop 4 (drop 4 job) in
@@ -156,7 +156,7 @@ refusal_in bytes a r =
       value = number_in w64 (drop 8 (drop 8 run));
     })
 
-pub refused_at : (bytes : List ℕ) (a : Asked) (r : Reason) → length bytes ≡ 34 → asked_numbered (number_in w8 bytes) ≡ Some a
+pub refused_at : (bytes : List ℕ) (a : RefusedRequest) (r : Reason) → length bytes ≡ 34 → asked_numbered (number_in w8 bytes) ≡ Some a
     → reason_numbered (number_in w8 (drop 1 bytes)) ≡ Some r
     → body_at kinds.Refused bytes ≡ (if is_body (refusal_in bytes a r) then Some (refusal_in bytes a r) else None)
 refused_at bytes a r len ea er = rw (ea, er, len) refl

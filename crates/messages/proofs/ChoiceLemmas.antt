@@ -13,8 +13,8 @@ use Rattle.messages.specs.declared.node.Node.{Node}
 use Rattle.messages.specs.declared.node.Node.TheVariants.{Server, Client, Mirror}
 use Rattle.messages.specs.declared.refusal.Act.{Act}
 use Rattle.messages.specs.declared.refusal.Act.TheVariants as acts
-use Rattle.messages.specs.declared.refusal.Asked.{Asked}
-use Rattle.messages.specs.declared.refusal.Asked.TheVariants as asks
+use Rattle.messages.specs.declared.refusal.RefusedRequest.{RefusedRequest}
+use Rattle.messages.specs.declared.refusal.RefusedRequest.TheVariants as asks
 use Rattle.messages.specs.declared.refusal.Reason.{Reason}
 use Rattle.messages.specs.declared.refusal.Reason.TheVariants as reasons
 use Rattle.messages.specs.Kinds.{number_of, kind_numbered, kinds as all_kinds}
@@ -94,7 +94,7 @@ pub act_fits : (a : Act) → act_number a < 256
 act_fits acts.None = omega arith
 act_fits acts.Cut = omega arith
 
-pub asked_again : (a : Asked) → asked_numbered (asked_number a) ≡ Some a
+pub asked_again : (a : RefusedRequest) → asked_numbered (asked_number a) ≡ Some a
 unfolding asked_numbered
 asked_again asks.Jobs = refl
 asked_again asks.Start = refl
@@ -102,11 +102,11 @@ asked_again asks.Trigger = refl
 asked_again asks.Stop = refl
 asked_again asks.Verify = refl
 
-pub asked_is : (n : ℕ) (a : Asked) → asked_numbered n ≡ Some a → asked_number a ≡ n
+pub asked_is : (n : ℕ) (a : RefusedRequest) → asked_numbered n ≡ Some a → asked_number a ≡ n
 unfolding asked_numbered
 asked_is n a e = find_is asked_number n (asks.Jobs ∷ asks.Start ∷ asks.Trigger ∷ asks.Stop ∷ asks.Verify ∷ []) a e
 
-pub asked_fits : (a : Asked) → asked_number a < 256
+pub asked_fits : (a : RefusedRequest) → asked_number a < 256
 asked_fits asks.Jobs = omega arith
 asked_fits asks.Start = omega arith
 asked_fits asks.Trigger = omega arith

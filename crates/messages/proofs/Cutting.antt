@@ -6,7 +6,7 @@ use Rattle.std.proofs.lemmas.Bool.Decides.{nat_tests}
 use Rattle.std.proofs.lemmas.List.{drop_all, drop-drop, take-append-drop}
 use Rattle.messages.specs.declared.limits.TheConstants.{CHUNK_LIMIT}
 use Rattle.messages.specs.Pieces.{places_from, places, bytes_at}
-use Rattle.messages.specs.declared.places.Filled.{Filled}
+use Rattle.messages.specs.declared.places.PlaceSet.{PlaceSet}
 use Rattle.messages.specs.Assemblies.{filled_at, after_these, joined_bytes}
 
 -- The bytes at these places.
@@ -29,7 +29,7 @@ pub slices_all : (b : List ℕ) → slices b (places (length b)) ≡ b
 slices_all b = slices_from (length b) 0 b (omega arith)
 
 -- Filled places that have the bytes of a body.
-abbrev pub AreOf : List ℕ → List Filled → Type 0
+abbrev pub AreOf : List ℕ → List PlaceSet → Type 0
 AreOf b fs = (at : ℕ) (x : List ℕ) → filled_at fs at ≡ Some x → bytes_at b at ≡ x
 
 two_parts : (o r : Option (List ℕ)) (x : List ℕ) → after_these o r ≡ Some x → (y : List ℕ) × (z : List ℕ) × (o ≡ Some y) × (r ≡ Some z) × (y ++ z ≡ x)
@@ -37,7 +37,7 @@ two_parts None r x h = absurd cc
 two_parts (Some y) None x h = absurd cc
 two_parts (Some y) (Some z) x h = (y, z, refl, refl, cc)
 
-pub joined_slices : (b : List ℕ) (fs : List Filled) → AreOf b fs → (ats x : List ℕ) → joined_bytes fs ats ≡ Some x → slices b ats ≡ x
+pub joined_slices : (b : List ℕ) (fs : List PlaceSet) → AreOf b fs → (ats x : List ℕ) → joined_bytes fs ats ≡ Some x → slices b ats ≡ x
 joined_slices b fs are [] x h = cc
 joined_slices b fs are (at ∷ ats) x h =
     let p = two_parts (filled_at fs at) (joined_bytes fs ats) x h in

@@ -15,8 +15,8 @@ use Rattle.fc_base.specs.Report.{has_counts, has_list, has_end, is_report}
 use Rattle.messages.specs.declared.body.Body.{Body}
 use Rattle.messages.specs.declared.body.Body.TheVariants.{Jobs, JobsOk, Start, Started, Trigger, State, NoState, StateAck, Stop, Stopped}
 use Rattle.messages.specs.declared.body.Body.TheVariants.{Verify, WantState, Saved, NoSaved, Report, Refused, Copy, CopyOk, Fetch, Granted}
-use Rattle.messages.specs.declared.refusal.Asked.{Asked}
-use Rattle.messages.specs.declared.refusal.Asked.TheVariants as asks
+use Rattle.messages.specs.declared.refusal.RefusedRequest.{RefusedRequest}
+use Rattle.messages.specs.declared.refusal.RefusedRequest.TheVariants as asks
 use Rattle.messages.specs.declared.refusal.Reason.{Reason}
 use Rattle.messages.specs.declared.refusal.Reason.TheVariants as reasons
 use Rattle.fc_base.specs.Layouts.{bytes_of, spelled_blocks, blocks_in}
@@ -74,7 +74,7 @@ job_refused_fits reasons.Misfit job jobs h = job_of_fits job jobs h
 zero_fits : (n : ℕ) → (n == 0) ≡ true → n < 18446744073709551616
 zero_fits n h = grind (arith, nat_tests)
 
-attempt_refused_fits : (asked : Asked) (attempt : ℕ) → is_attempt_refused asked attempt ≡ true → attempt < 18446744073709551616
+attempt_refused_fits : (asked : RefusedRequest) (attempt : ℕ) → is_attempt_refused asked attempt ≡ true → attempt < 18446744073709551616
 attempt_refused_fits asks.Jobs attempt h = zero_fits attempt h
 attempt_refused_fits asks.Start attempt h = zero_fits attempt h
 attempt_refused_fits asks.Trigger attempt h = zero_fits attempt h

@@ -6,7 +6,7 @@ use Rattle.std.proofs.lemmas.List.{map-append}
 use Rattle.fc_base.specs.declared.fault.Fault.{Fault}
 use Rattle.messages.specs.declared.packet.PacketParts.{PacketParts}
 use Rattle.messages.specs.declared.piece.PieceParts.{PieceParts}
-use Rattle.messages.specs.declared.places.Filled.{Filled}
+use Rattle.messages.specs.declared.places.PlaceSet.{PlaceSet}
 use Rattle.messages.specs.Assemblies as looks
 use Rattle.messages.specs.Assemblies.{Row, Gives, look_at_piece, look_by_body, completed_body, with_piece, rows_after_piece, rows_after_body, without_tag}
 use Rattle.messages.specs.FrameBytes.{frame_spelling}
@@ -14,7 +14,7 @@ use Rattle.messages.specs.FramesOf.{spelled_frames}
 use Rattle.messages.specs.Pieces.{frames_of}
 
 -- a piece that fills the last place takes the tag out
-whole_gone : (q : PieceParts) (fs : List Filled) (rows : List Row) (body : Option (List ℕ)) → (look_by_body q body ≡ looks.Waits → ⊥)
+whole_gone : (q : PieceParts) (fs : List PlaceSet) (rows : List Row) (body : Option (List ℕ)) → (look_by_body q body ≡ looks.Waits → ⊥)
     → rows_after_body body q fs rows ≡ without_tag q.tag rows
 whole_gone q fs rows None ne = absurd (ne refl)
 whole_gone q fs rows (Some bytes) ne = refl

@@ -26,4 +26,12 @@ pub mod FrameLooks
 pub mod ReadableLemmas
 pub mod HearingLemmas
 pub mod SenseLemmas
+pub mod NodeLemmas
+mod StoreLemmas
+mod QueueLemmas
+mod WaitingLemmas
+mod KeptLemmas
+mod NoteLemmas
+mod LegalLemmas
+mod SpelledLemmas
 pub mod Sending

@@ -12,7 +12,7 @@ use Rattle.messages.specs.contracts.kind.PacketKind.{the_type}
 use Rattle.messages.specs.contracts.piece.TagPartialEq.TheImpl.{eq-value}
 use Rattle.messages.specs.declared.piece.Tag.{Tag}
 use Rattle.messages.specs.declared.piece.PieceParts.{PieceParts}
-use Rattle.messages.specs.declared.places.Filled.{Filled}
+use Rattle.messages.specs.declared.places.PlaceSet.{PlaceSet}
 use Rattle.messages.specs.Kinds.{number_of}
 use Rattle.messages.specs.Pieces.{places}
 use Rattle.messages.specs.Tags.{is_tag}
@@ -54,7 +54,7 @@ pub record Stands (tag : Tag) (rows : List Row) (i : ℕ) : Type 0 where
   pub has : has_tag tag rows ≡ true
   pub filled : (d : Row) → filled_of tag rows ≡ (get_or rows i d).filled
   pub left : without_tag tag rows ≡ remove rows i
-  pub changed : (d : Row) (fs : List Filled) → with_row_replaced tag fs rows ≡ slice_set rows i (record { tag = (get_or rows i d).tag; filled = fs })
+  pub changed : (d : Row) (fs : List PlaceSet) → with_row_replaced tag fs rows ≡ slice_set rows i (record { tag = (get_or rows i d).tag; filled = fs })
 
 abbrev asks : Tag → Row → Bool
 asks tag row = is_tag row.tag tag
@@ -138,11 +138,11 @@ none_of None e = refl
 none_of (Some x) e = absurd cc
 
 -- A piece that completes nothing, by what was looked up for it.
-pub still_waits : (rows : List Row) (q : PieceParts) (fs : List Filled) (t : Tag) (all : Bool) → fs ≡ filled_of t rows → t ≡ q.tag
+pub still_waits : (rows : List Row) (q : PieceParts) (fs : List PlaceSet) (t : Tag) (all : Bool) → fs ≡ filled_of t rows → t ≡ q.tag
     → all ≡ is_some (joined_bytes (fill q fs) (places q.tag.length)) → all ≡ false → completed_body rows q ≡ None
 still_waits rows q fs t all is tag_is told lacks =
     let filled = is ∙ ap (λ (u : Tag). filled_of u rows) tag_is in
-    none_of (completed_body rows q) (ap (λ (gs : List Filled). is_some (joined_bytes (fill q gs) (places q.tag.length))) (sym filled) ∙ sym told ∙ lacks)
+    none_of (completed_body rows q) (ap (λ (gs : List PlaceSet). is_some (joined_bytes (fill q gs) (places q.tag.length))) (sym filled) ∙ sym told ∙ lacks)
 
 taken_waiting : (rows : List Row) (q : PieceParts) → completed_body rows q ≡ None
     → rows_after_piece rows q ≡ with_row (has_tag q.tag rows) q.tag (with_piece rows q) rows
@@ -157,7 +157,7 @@ taken_more q rows there waits =
 pub taken_first : (rows : List Row) (q : PieceParts) → has_tag q.tag rows ≡ false → filled_of q.tag rows ≡ [] → completed_body rows q ≡ None
     → newest (rows ++ record { tag = q.tag; filled = record { at = q.at; bytes = q.bytes } ∷ [] } ∷ []) ≡ rows_after_piece rows q
 taken_first rows q absent none waits =
-    ap (λ (fs : List Filled). newest (rows ++ record { tag = q.tag; filled = fill q fs } ∷ [])) (sym none)
+    ap (λ (fs : List PlaceSet). newest (rows ++ record { tag = q.tag; filled = fill q fs } ∷ [])) (sym none)
     ∙ ap (λ (there : Bool). with_row there q.tag (with_piece rows q) rows) (sym absent)
     ∙ sym (taken_waiting rows q waits)
 

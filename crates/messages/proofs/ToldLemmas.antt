@@ -11,7 +11,7 @@ use Rattle.messages.specs.declared.body.Body.TheVariants.{Jobs, JobsOk, Start, S
 use Rattle.messages.specs.declared.body.Body.TheVariants.{Verify, WantState, Saved, NoSaved, Report, Refused, Copy, CopyOk, Fetch, Granted}
 use Rattle.messages.specs.declared.kind.PacketKind.{PacketKind}
 use Rattle.messages.specs.declared.kind.PacketKind.TheVariants as kinds
-use Rattle.messages.specs.declared.refusal.Asked.{Asked}
+use Rattle.messages.specs.declared.refusal.RefusedRequest.{RefusedRequest}
 use Rattle.messages.specs.declared.refusal.Reason.{Reason}
 use Rattle.messages.specs.Choices.{act_numbered, asked_numbered, reason_numbered}
 use Rattle.fc_base.specs.Layouts.{size, numbers, blocks_in}
@@ -136,7 +136,7 @@ told law says kinds.NoSaved bytes b fits e = plain kinds.NoSaved bytes (NoSaved 
 told law says kinds.Report bytes b fits e = report_told bytes b fits e
 told law says kinds.Refused bytes b fits e =
     let ns = numbers (layout kinds.Refused) bytes in
-    let refusal = λ (a : Asked) (r : Reason). Refused (record {
+    let refusal = λ (a : RefusedRequest) (r : Reason). Refused (record {
       asked = a;
       reason = r;
       job = slice_index ns 2;

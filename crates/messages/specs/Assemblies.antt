@@ -7,7 +7,7 @@ use Rattle.messages.specs.declared.body.Body.{Body}
 use Rattle.messages.specs.declared.packet.PacketParts.{PacketParts}
 use Rattle.messages.specs.declared.piece.Tag.{Tag}
 use Rattle.messages.specs.declared.piece.PieceParts.{PieceParts}
-use Rattle.messages.specs.declared.places.Filled.{Filled}
+use Rattle.messages.specs.declared.places.PlaceSet.{PlaceSet}
 use Rattle.messages.specs.declared.frame.Frame.{Frame}
 use Rattle.messages.specs.declared.frame.Frame.TheVariants.{Whole, Piece}
 use Rattle.messages.specs.Bodies.{body_at}
@@ -17,20 +17,20 @@ use Rattle.messages.specs.Pieces.{tag_in, places}
 -- A tag, and its filled places in order of arrival.
 pub record Row : Type 0 where
   pub tag : Tag
-  pub filled : List Filled
+  pub filled : List PlaceSet
 
 -- The bytes at a place, where it is filled.
-abbrev pub filled_at : List Filled → ℕ → Option (List ℕ)
+abbrev pub filled_at : List PlaceSet → ℕ → Option (List ℕ)
 filled_at [] at = None
 filled_at (f ∷ fs) at = if f.at == at then Some f.bytes else filled_at fs at
 
 -- A piece fills its place, and a filled place stays as it is.
-abbrev pub unless_filled : Option (List ℕ) → PieceParts → List Filled → List Filled
+abbrev pub unless_filled : Option (List ℕ) → PieceParts → List PlaceSet → List PlaceSet
 unless_filled None q fs = fs ++ record { at = q.at; bytes = q.bytes } ∷ []
 unless_filled (Some bytes) q fs = fs
 
 -- The filled places of a tag, with a piece of it.
-abbrev pub fill : PieceParts → List Filled → List Filled
+abbrev pub fill : PieceParts → List PlaceSet → List PlaceSet
 fill q fs = unless_filled (filled_at fs q.at) q fs
 
 -- The bytes at these places one after another, where all are filled.
@@ -40,17 +40,17 @@ after_these (Some bytes) None = None
 after_these (Some bytes) (Some rest) = Some (bytes ++ rest)
 
 -- The bytes at these places in order, where all are filled.
-abbrev pub joined_bytes : List Filled → List ℕ → Option (List ℕ)
+abbrev pub joined_bytes : List PlaceSet → List ℕ → Option (List ℕ)
 joined_bytes fs [] = Some []
 joined_bytes fs (at ∷ ats) = after_these (filled_at fs at) (joined_bytes fs ats)
 
 -- The filled places of a tag.
-abbrev pub filled_of : Tag → List Row → List Filled
+abbrev pub filled_of : Tag → List Row → List PlaceSet
 filled_of tag [] = []
 filled_of tag (row ∷ rows) = if is_tag row.tag tag then row.filled else filled_of tag rows
 
 -- The filled places of a piece's tag, once it is there too.
-abbrev pub with_piece : List Row → PieceParts → List Filled
+abbrev pub with_piece : List Row → PieceParts → List PlaceSet
 with_piece rows q = fill q (filled_of q.tag rows)
 
 -- The whole body that a piece completes.
@@ -81,7 +81,7 @@ look_by_body q (Some bytes) = of_tag q (body_at q.tag.whole bytes)
 abbrev pub look_at_piece : List Row → PieceParts → Look
 look_at_piece rows q = look_by_body q (completed_body rows q)
 
--- Without a tag.
+-- What has come together of pieces, without the row of a tag.
 abbrev pub without_tag : Tag → List Row → List Row
 without_tag tag [] = []
 without_tag tag (row ∷ rows) = if is_tag row.tag tag then rows else row ∷ without_tag tag rows
@@ -92,7 +92,7 @@ has_tag tag [] = false
 has_tag tag (row ∷ rows) = if is_tag row.tag tag then true else has_tag tag rows
 
 -- A tag has these places filled.
-abbrev pub with_row_replaced : Tag → List Filled → List Row → List Row
+abbrev pub with_row_replaced : Tag → List PlaceSet → List Row → List Row
 with_row_replaced tag fs [] = []
 with_row_replaced tag fs (row ∷ rows) =
     if is_tag row.tag tag then record { tag = row.tag; filled = fs } ∷ rows
@@ -103,12 +103,12 @@ abbrev pub newest : List Row → List Row
 newest rows = drop (length rows - MAX_TAGS) rows
 
 -- The rows where a tag has these places filled; a new tag is the newest row.
-abbrev pub with_row : Bool → Tag → List Filled → List Row → List Row
+abbrev pub with_row : Bool → Tag → List PlaceSet → List Row → List Row
 with_row true tag fs rows = with_row_replaced tag fs rows
 with_row false tag fs rows = newest (rows ++ record { tag = tag; filled = fs } ∷ [])
 
 -- What taking a piece leaves: a completed tag goes, else the piece has filled its place.
-abbrev pub rows_after_body : Option (List ℕ) → PieceParts → List Filled → List Row → List Row
+abbrev pub rows_after_body : Option (List ℕ) → PieceParts → List PlaceSet → List Row → List Row
 rows_after_body None q fs rows = with_row (has_tag q.tag rows) q.tag fs rows
 rows_after_body (Some bytes) q fs rows = without_tag q.tag rows
 

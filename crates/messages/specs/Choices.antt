@@ -5,8 +5,8 @@ use Rattle.fc_base.specs.declared.fault.Fault.TheVariants as faults
 use Rattle.fc_base.specs.Fault.{number_of}
 use Rattle.messages.specs.declared.refusal.Act.{Act}
 use Rattle.messages.specs.declared.refusal.Act.TheVariants as acts
-use Rattle.messages.specs.declared.refusal.Asked.{Asked}
-use Rattle.messages.specs.declared.refusal.Asked.TheVariants.{Jobs, Start, Trigger, Stop, Verify}
+use Rattle.messages.specs.declared.refusal.RefusedRequest.{RefusedRequest}
+use Rattle.messages.specs.declared.refusal.RefusedRequest.TheVariants.{Jobs, Start, Trigger, Stop, Verify}
 use Rattle.messages.specs.declared.refusal.Reason.{Reason}
 use Rattle.messages.specs.declared.refusal.Reason.TheVariants.{Old, Busy, NoJobs, Gone, Overwritten, Unknown, BadJobs, Misfit}
 
@@ -20,7 +20,7 @@ unfoldable pub act_numbered : ℕ → Option Act
 act_numbered n = find (λ act. act_number act == n) (acts.None ∷ acts.Cut ∷ [])
 
 -- The number of a request is that of its packet.
-abbrev pub asked_number : Asked → ℕ
+abbrev pub asked_number : RefusedRequest → ℕ
 asked_number Jobs = 1
 asked_number Start = 3
 asked_number Trigger = 5
@@ -28,7 +28,7 @@ asked_number Stop = 9
 asked_number Verify = 11
 
 -- The request with this number.
-unfoldable pub asked_numbered : ℕ → Option Asked
+unfoldable pub asked_numbered : ℕ → Option RefusedRequest
 asked_numbered n =
     find (λ asked. asked_number asked == n) (Jobs ∷ Start ∷ Trigger ∷ Stop ∷ Verify ∷ [])
 

@@ -51,7 +51,7 @@ name_of CopyOk = codes "CopyOk"
 name_of Fetch = codes "Fetch"
 name_of Granted = codes "Granted"
 
--- Every kind.
+-- Every kind of packet, each once.
 abbrev pub kinds : List PacketKind
 kinds = Jobs ∷ JobsOk ∷ Start ∷ Started ∷ Trigger ∷ State ∷ NoState ∷ StateAck ∷ Stop ∷ Stopped
     ∷ Verify ∷ WantState ∷ Saved ∷ NoSaved ∷ Report ∷ Refused ∷ Copy ∷ CopyOk ∷ Fetch ∷ Granted ∷ []

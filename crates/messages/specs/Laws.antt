@@ -12,7 +12,7 @@ pub record IsPacket (p : PacketParts) : Type 0 where
   pub in_range : IsTrue (is_packet p)
   pub state : KeepsState p.body
 
--- Each is a byte.
+-- Each number of a list is a byte.
 abbrev pub IsBytes : List ℕ → Type 0
 IsBytes bytes = (i : ℕ) → slice_index bytes i < 256
 

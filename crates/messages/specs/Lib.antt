@@ -18,3 +18,8 @@ pub mod PieceLaws
 pub mod FrameLaws
 pub mod Hearing
 pub mod Senses
+pub mod Network
+pub mod Waiting
+pub mod KeptNetwork
+pub mod Journal
+pub mod NetworkLaws

@@ -5,7 +5,7 @@ use Rattle.messages.specs.declared.piece.Tag.{Tag}
 use Rattle.messages.specs.declared.piece.PieceParts.{PieceParts}
 use Rattle.messages.specs.declared.frame.Frame.{Frame}
 use Rattle.messages.specs.declared.frame.Frame.TheVariants.{Whole, Piece}
-use Rattle.messages.specs.declared.places.Filled.{Filled}
+use Rattle.messages.specs.declared.places.PlaceSet.{PlaceSet}
 use Rattle.messages.specs.Assemblies.{Row}
 use Rattle.messages.specs.Bodies.{spelled_body, length_of, body_at}
 use Rattle.messages.specs.Laws.{IsPacket}
@@ -90,7 +90,7 @@ pub record WasCut (sent : List PacketParts) (tag : Tag) (at : ℕ) (bytes : List
   pub bytes_are : bytes_at (spelled_body packet.body) at ≡ bytes
 
 -- Each filled place of a tag has bytes of a packet that was sent and cut.
-abbrev pub AreCut : List PacketParts → Tag → List Filled → Type 0
+abbrev pub AreCut : List PacketParts → Tag → List PlaceSet → Type 0
 AreCut sent tag [] = Unit {0}
 AreCut sent tag (f ∷ fs) = WasCut sent tag f.at f.bytes × AreCut sent tag fs
 

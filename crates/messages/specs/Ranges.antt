@@ -6,8 +6,8 @@ use Rattle.verify_state.specs.State.{IsState}
 use Rattle.messages.specs.declared.body.Body.{Body}
 use Rattle.messages.specs.declared.body.Body.TheVariants.{Jobs, JobsOk, Start, Started, Trigger, State, NoState, StateAck, Stop, Stopped}
 use Rattle.messages.specs.declared.body.Body.TheVariants.{Verify, WantState, Saved, NoSaved, Report, Refused, Copy, CopyOk, Fetch, Granted}
-use Rattle.messages.specs.declared.refusal.Asked.{Asked}
-use Rattle.messages.specs.declared.refusal.Asked.TheVariants as asks
+use Rattle.messages.specs.declared.refusal.RefusedRequest.{RefusedRequest}
+use Rattle.messages.specs.declared.refusal.RefusedRequest.TheVariants as asks
 use Rattle.messages.specs.declared.refusal.Refusal.{Refusal}
 use Rattle.messages.specs.declared.refusal.Reason.{Reason}
 use Rattle.messages.specs.declared.refusal.Reason.TheVariants as reasons
@@ -54,7 +54,7 @@ is_job_refused reasons.Misfit job jobs = is_job_of job jobs
 is_job_refused _ job jobs = (job == 0) && (jobs == 0)
 
 -- A refusal names the attempt of a Verify; else it is 0.
-abbrev pub is_attempt_refused : Asked → ℕ → Bool
+abbrev pub is_attempt_refused : RefusedRequest → ℕ → Bool
 is_attempt_refused asks.Verify attempt = is_attempt attempt
 is_attempt_refused _ attempt = attempt == 0
 

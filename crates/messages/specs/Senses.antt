@@ -68,7 +68,7 @@ SenseInRange IsInRange Keeps = Unit {0}
 SenseInRange IsInRange Drops = Unit {0}
 SenseInRange IsInRange Misses = Unit {0}
 
--- So it is, but where memory ran out before it was known what comes.
+-- What is heard is within its ranges, but where memory ran out before it was known what comes.
 abbrev pub UnlessMemory : {X : Type 0} → (X → Type 0) → FaultSort → Sense X → Type 0
 UnlessMemory IsInRange sorts.Memory s = Unit {0}
 UnlessMemory IsInRange sorts.Save s = SenseInRange IsInRange s

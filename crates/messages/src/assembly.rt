@@ -9,7 +9,7 @@ ghost use Rattle.messages.specs.Assemblies.{filled_of, look_at_piece, of_tag, ro
 use crate::limits::MAX_TAGS;
 use crate::packet::{Packet, PacketParts};
 use crate::piece::{Piece, Tag};
-use crate::places::{Filled, Places, is_completed, join};
+use crate::places::{PlaceSet, Places, is_completed, join};
 use crate::reading::body_of;
 use fc_base::Fault;
 use std::alloc::{AllocError, Global};
@@ -17,12 +17,12 @@ use std::marker::Model;
 
 /// A tag, and what has come of its body.
 #[derive(Drop)]
-struct Waiting {
+struct PartialBody {
     tag: Tag,
     places: Places,
 }
 
-impl Model for Waiting {
+impl Model for PartialBody {
     ghost use Rattle.messages.specs.Assemblies.{Row};
 
     ghost Value = { Row };
@@ -34,7 +34,7 @@ impl Model for Waiting {
 #[derive(Drop)]
 pub struct Assembly {
     alloc: Global,
-    rows: Vec<Waiting>,
+    rows: Vec<PartialBody>,
 }
 
 impl Model for Assembly {
@@ -110,7 +110,7 @@ impl Assembly {
     }
 
     /// The filled places of a tag.
-    fn filled_of(&self, tag: Tag) -> &[Filled]
+    fn filled_of(&self, tag: Tag) -> &[PlaceSet]
         ensures { result.now ≡ filled_of tag self.now }
     {
         match self.place_of(tag) {
@@ -130,7 +130,7 @@ impl Assembly {
         ensures same { OnErr result (self.new ≡ self.old) }
     {
         let places = Places::new(self.alloc, piece)?;
-        self.rows.push(Waiting {
+        self.rows.push(PartialBody {
             tag: piece.tag(),
             places,
         })?;

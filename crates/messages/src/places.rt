@@ -12,14 +12,14 @@ use std::marker::Model;
 
 /// A place, and the bytes that it is filled with.
 #[derive(Drop)]
-pub struct Filled {
+pub struct PlaceSet {
     pub at: u32,
     pub bytes: Chunk,
 }
 
 /// The places of one body that are filled, in order of arrival.
 pub struct Places {
-    filled: Vec<Filled>,
+    filled: Vec<PlaceSet>,
 }
 
 /// By hand, so that the crates above need no proof of it.
@@ -31,19 +31,19 @@ impl Drop for Places {
 
 impl Model for Places {
     ghost use Rattle.std.specs.Prelude.{List};
-    ghost use Rattle.messages.specs.declared.places.Filled.{Filled};
+    ghost use Rattle.messages.specs.declared.places.PlaceSet.{PlaceSet};
 
-    ghost Value = { List Filled };
+    ghost Value = { List PlaceSet };
 
     ghost view = { λ p. p.filled.items };
 }
 
 /// What a piece fills its place with.
-fn filling(alloc: Global, piece: &Piece) -> Result<Filled, AllocError>
+fn filling(alloc: Global, piece: &Piece) -> Result<PlaceSet, AllocError>
     ensures { IfOk result
         (λ filled. filled ≡ record { at = piece.now.at; bytes = piece.now.bytes }) }
 {
-    Ok(Filled {
+    Ok(PlaceSet {
         at: piece.at(),
         bytes: Chunk::copied(alloc, piece.bytes())?,
     })
@@ -62,7 +62,7 @@ impl Places {
     }
 
     /// The filled places.
-    pub(crate) fn as_slice(&self) -> &[Filled]
+    pub(crate) fn as_slice(&self) -> &[PlaceSet]
         ensures { result.now ≡ self.now }
     {
         &self.filled
@@ -84,7 +84,7 @@ impl Places {
 }
 
 /// The bytes at a place, where it is filled.
-fn bytes_at(filled: &[Filled], at: u32) -> Option<&[u8]>
+fn bytes_at(filled: &[PlaceSet], at: u32) -> Option<&[u8]>
     ensures { MatchOption result (filled_at filled.now at ≡ None)
         (λ bytes. filled_at filled.now at ≡ Some bytes.now) }
 {
@@ -97,7 +97,7 @@ fn bytes_at(filled: &[Filled], at: u32) -> Option<&[u8]>
 }
 
 /// The bytes at a place, once a piece is there too.
-fn bytes_with<'a>(filled: &'a [Filled], piece: &'a Piece, at: u32) -> Option<&'a [u8]>
+fn bytes_with<'a>(filled: &'a [PlaceSet], piece: &'a Piece, at: u32) -> Option<&'a [u8]>
     ensures { MatchOption result (filled_at (fill piece.now filled.now) at ≡ None)
         (λ bytes. filled_at (fill piece.now filled.now) at ≡ Some bytes.now) }
 {
@@ -109,7 +109,7 @@ fn bytes_with<'a>(filled: &'a [Filled], piece: &'a Piece, at: u32) -> Option<&'a
 }
 
 /// Whether a piece fills the last place.
-pub(crate) fn is_completed(filled: &[Filled], piece: &Piece) -> bool
+pub(crate) fn is_completed(filled: &[PlaceSet], piece: &Piece) -> bool
     ensures { result
         ≡ is_some (joined_bytes (fill piece.now filled.now) (places piece.now.tag.length)) }
 {
@@ -127,7 +127,7 @@ pub(crate) fn is_completed(filled: &[Filled], piece: &Piece) -> bool
 /// The whole body, where a piece fills the last place.
 pub(crate) fn join(
     alloc: Global,
-    filled: &[Filled],
+    filled: &[PlaceSet],
     piece: &Piece,
 ) -> Result<Option<Vec<u8>>, AllocError>
     ensures bytes { IfOk result

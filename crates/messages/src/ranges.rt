@@ -3,7 +3,7 @@
 ghost use Rattle.std.specs.Prelude.{◌≡◌};
 ghost use Rattle.messages.specs.Ranges.{is_word, is_run, is_attempt, is_jobs, is_job, is_job_of, is_server_no, is_generation, is_job_refused, is_attempt_refused, is_refusal};
 
-use crate::refusal::{Asked, Reason, Refusal};
+use crate::refusal::{Reason, Refusal, RefusedRequest};
 use fc_base::{Attempt, Generation, JobNo, MAX_GENERATION, MAX_JOBS, MAX_SERVERS, RunNo, ServerNo};
 
 /// Every number of eight bytes may go with a reason.
@@ -64,11 +64,11 @@ fn is_job_refused(reason: Reason, job: JobNo, jobs: u32) -> bool
     }
 }
 
-fn is_attempt_refused(asked: Asked, attempt: Attempt) -> bool
+fn is_attempt_refused(asked: RefusedRequest, attempt: Attempt) -> bool
     ensures { result ≡ is_attempt_refused asked attempt }
 {
     match asked {
-        Asked::Verify => is_attempt(attempt),
+        RefusedRequest::Verify => is_attempt(attempt),
         _ => attempt.0 == 0,
     }
 }

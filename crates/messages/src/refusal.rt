@@ -17,7 +17,7 @@ pub enum Act {
 
 /// Which request a refusal answers. The discriminants are the numbers of the packets that ask.
 #[derive(Clone, Copy, Debug, PartialEq, Eq)]
-pub enum Asked {
+pub enum RefusedRequest {
     Jobs = 1,
     Start = 3,
     Trigger = 5,
@@ -50,7 +50,7 @@ pub enum Reason {
 /// that doesn't fit, `attempt` is 0 but for a Verify, and `value` is a number that goes with the reason.
 #[derive(Clone, Copy, Debug, PartialEq, Eq)]
 pub struct Refusal {
-    pub asked: Asked,
+    pub asked: RefusedRequest,
     pub reason: Reason,
     pub job: JobNo,
     pub jobs: u32,
@@ -61,12 +61,12 @@ pub struct Refusal {
 
 const ACTS: [Act; 2] = [Act::None, Act::Cut];
 
-const ALL_ASKED: [Asked; 5] = [
-    Asked::Jobs,
-    Asked::Start,
-    Asked::Trigger,
-    Asked::Stop,
-    Asked::Verify,
+const ALL_ASKED: [RefusedRequest; 5] = [
+    RefusedRequest::Jobs,
+    RefusedRequest::Start,
+    RefusedRequest::Trigger,
+    RefusedRequest::Stop,
+    RefusedRequest::Verify,
 ];
 
 const REASONS: [Reason; 8] = [
@@ -97,7 +97,7 @@ impl Act {
     }
 }
 
-impl Asked {
+impl RefusedRequest {
     /// The request's number in a frame: that of its packet.
     pub fn number(self) -> u8
         ensures { result ≡ asked_number self }
@@ -107,7 +107,7 @@ impl Asked {
 
     /// The request with this number in a frame, if there is one.
     #[tactic(auto, unfolding(crate::specs::Choices::asked_numbered))]
-    pub fn numbered(number: u8) -> Option<Asked>
+    pub fn numbered(number: u8) -> Option<RefusedRequest>
         ensures { result ≡ asked_numbered number }
     {
         ALL_ASKED

@@ -7,9 +7,9 @@ use Rattle.fc_base.specs.declared.fault.FaultSort.{FaultSort}
 use Rattle.fc_base.specs.declared.fault.FaultSort.TheVariants as sorts
 use Rattle.fc_base.specs.Fault.{sort_of}
 use Rattle.fc_base.specs.Faults.{when}
-use Rattle.disk_model.specs.declared.left.Left.{Left}
-use Rattle.disk_model.specs.declared.left.Left.TheVariants.{NoSave, LostNew, LostOld}
-use Rattle.disk_model.specs.Left.{saved_for, is_lost, has_new, bytes_left}
+use Rattle.disk_model.specs.declared.save_outcome.SaveOutcome.{SaveOutcome}
+use Rattle.disk_model.specs.declared.save_outcome.SaveOutcome.TheVariants.{NoSave, LostNew, LostOld}
+use Rattle.disk_model.specs.SaveOutcome.{saved_for, is_lost, has_new, bytes_left}
 use Rattle.disk_model.specs.Notes.{Note}
 use Rattle.node.specs.Saving.{Unsaved}
 use Rattle.node.specs.Steps.{LeavesNote, Answers, Fails, Faults}
@@ -180,7 +180,7 @@ answers_stored note old new a o past f r frames read up none asked adds fits u s
 -- ---- a frame whose save isn't answered
 
 -- A mirror that is down at a failed save stands for the list with what was lost.
-lost_stands : {T : Type 0} (note : T → Note) (mirror : Mirror T) (notes : T) (o : MirrorNote) (past : List Entry) (f : Frame) (left : Left) → is_on past ≡ true
+lost_stands : {T : Type 0} (note : T → Note) (mirror : Mirror T) (notes : T) (o : MirrorNote) (past : List Entry) (f : Frame) (left : SaveOutcome) → is_on past ≡ true
     → is_lost left ≡ true → StandsFor note mirror o past
     → Says (note notes).bytes (noted_after (has_new left) (due o past f) (words_noted o past))
     → StandsFor note (record mirror { durable = record { notes = notes; down = true } }) o (Met f left ∷ past)
@@ -210,7 +210,7 @@ unsaved note old new a fault o past f r read s k adds fits sorts.Save u = by_byt
     makes_one : due o past f ≡ Some a
     makes_one = k.due_is ∙ adds
 
-    failed : (left : Left) → is_lost left ≡ true → (note new.durable.notes).bytes
+    failed : (left : SaveOutcome) → is_lost left ≡ true → (note new.durable.notes).bytes
         ≡ bytes_left left (spelling (noted_after (has_new left) (due o past f) (words_noted o past))) (note old.durable.notes).bytes
         → Says (note new.durable.notes).bytes (noted_after (has_new left) (Some a) (words_noted o past)) → Fails (steps note o) past f old new
     failed left lost bytes says = record {

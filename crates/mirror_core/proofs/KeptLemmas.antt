@@ -6,11 +6,11 @@ use Rattle.std.proofs.lemmas.List.Elements.{Contains-append_left, Contains-appen
 use Rattle.fc_base.specs.declared.numbers.Key.{Key}
 use Rattle.fc_base.specs.declared.fault.Fault.{Fault}
 use Rattle.verify_state.specs.State.{State}
-use Rattle.disk_model.specs.declared.left.Left.{Left}
-use Rattle.disk_model.specs.Left.{has_new}
+use Rattle.disk_model.specs.declared.save_outcome.SaveOutcome.{SaveOutcome}
+use Rattle.disk_model.specs.SaveOutcome.{has_new}
 use Rattle.messages.specs.declared.frame.Frame.{Frame}
-use Rattle.state_table.specs.Kept.{kept_of}
-use Rattle.state_table.specs.Laws.{FoundStays, FoundOrLast}
+use Rattle.verify_state.specs.StateTable.{kept_of}
+use Rattle.verify_state.specs.TableLaws.{FoundStays, FoundOrLast}
 use Rattle.mirror_core.specs.declared.note.MirrorNote.{MirrorNote}
 use Rattle.mirror_core.specs.declared.request.Request.{Request}
 use Rattle.mirror_core.specs.declared.request.Request.TheVariants.{Copy, Fetch}
@@ -111,7 +111,7 @@ asked_came only n new None (Some (Fetch g)) key s h = inl (grant_only (nat_lt n.
 asked_came only n new None (Some (Copy state)) key s h =
     elim (copy_only only n new state key s (kept_of state.key n.kept) h) [ inl e ↦ inl e | inr e ↦ inr (ap (λ x. Some (Copy x)) e) ]
 
-copy_in : (f : Frame) (left : Left) (s : State) → request_in f ≡ Some (Copy s) → Contains (packet_in (Met f left)) (from_client s)
+copy_in : (f : Frame) (left : SaveOutcome) (s : State) → request_in f ≡ Some (Copy s) → Contains (packet_in (Met f left)) (from_client s)
 copy_in f left s h = rw (asked_copy f s h) (one (from_client s) (from_client s) refl)
 
 earlier : (o : MirrorNote) (e : Entry) (past : List Entry) (key : Key) (s : State) → (kept_state o [] key ≡ Some s) ⊎ Contains (packets_come past) (from_client s)
@@ -119,7 +119,7 @@ earlier : (o : MirrorNote) (e : Entry) (past : List Entry) (key : Key) (s : Stat
 earlier o e past key s (inl h) = inl h
 earlier o e past key s (inr h) = inr (Contains-append_right (packet_in e) (packets_come past) (from_client s) h)
 
-now_or_earlier : (o : MirrorNote) (f : Frame) (left : Left) (past : List Entry) (key : Key) (s : State)
+now_or_earlier : (o : MirrorNote) (f : Frame) (left : SaveOutcome) (past : List Entry) (key : Key) (s : State)
     → (kept_state o past key ≡ Some s) ⊎ (request_in f ≡ Some (Copy s))
     → (kept_state o past key ≡ Some s → (kept_state o [] key ≡ Some s) ⊎ Contains (packets_come past) (from_client s))
     → (kept_state o [] key ≡ Some s) ⊎ Contains (packets_come (Met f left ∷ past)) (from_client s)
@@ -160,7 +160,7 @@ sent_earlier : (o : MirrorNote) (e : Entry) (past : List Entry) (s : State) → 
 sent_earlier o e past s (inl h) = inl h
 sent_earlier o e past s (inr h) = inr (Contains-append_right (packet_in e) (packets_come past) (from_client s) h)
 
-sent_now_or_earlier : (o : MirrorNote) (f : Frame) (left : Left) (past : List Entry) (s : State)
+sent_now_or_earlier : (o : MirrorNote) (f : Frame) (left : SaveOutcome) (past : List Entry) (s : State)
     → Contains (words_noted o past).kept s ⊎ (request_in f ≡ Some (Copy s))
     → (Contains (words_noted o past).kept s → Contains o.kept s ⊎ Contains (packets_come past) (from_client s))
     → Contains o.kept s ⊎ Contains (packets_come (Met f left ∷ past)) (from_client s)

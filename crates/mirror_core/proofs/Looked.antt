@@ -1,6 +1,6 @@
 -- A mirror that is on answers from the whole list.
 use Rattle.std.proofs.Common.{refl, [], ◌∷◌}
-use Rattle.disk_model.specs.Left.{is_lost}
+use Rattle.disk_model.specs.SaveOutcome.{is_lost}
 use Rattle.node.proofs.StepLemmas.{shows_all}
 use Rattle.mirror_core.specs.History.{Met, Cut, Restart}
 use Rattle.mirror_core.specs.Words.{is_on, shown_entries}

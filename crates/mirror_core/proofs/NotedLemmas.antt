@@ -6,14 +6,14 @@ use Rattle.std.proofs.lemmas.Bool.{and_parts}
 use Rattle.std.proofs.lemmas.Bool.Decides.{nat_tests}
 use Rattle.fc_base.specs.declared.fault.Fault.{Fault}
 use Rattle.fc_base.specs.declared.limits.TheConstants.{MAX_GENERATION}
-use Rattle.state_table.specs.declared.kept.TheConstants.{KEPT_LIMIT}
+use Rattle.verify_state.specs.declared.table.TheConstants.{KEPT_LIMIT}
 use Rattle.verify_state.specs.State.{State, IsState}
-use Rattle.disk_model.specs.Left.{has_new}
+use Rattle.disk_model.specs.SaveOutcome.{has_new}
 use Rattle.messages.specs.declared.frame.Frame.TheVariants.{Whole, Piece}
 use Rattle.messages.specs.Ranges.{is_generation}
 use Rattle.messages.specs.Laws.{IsPacket}
-use Rattle.state_table.specs.Kept.{kept_of, has_distinct_keys}
-use Rattle.state_table.specs.Laws.{KeysStayApart}
+use Rattle.verify_state.specs.StateTable.{kept_of, has_distinct_keys}
+use Rattle.verify_state.specs.TableLaws.{KeysStayApart}
 use Rattle.mirror_core.specs.declared.note.MirrorNote.{MirrorNote}
 use Rattle.mirror_core.specs.declared.request.Request.{Request}
 use Rattle.mirror_core.specs.declared.request.Request.TheVariants.{Copy, Fetch}
@@ -25,7 +25,7 @@ use Rattle.mirror_core.specs.Saves.{Grant, Keep, with_addition, unless_kept, unl
 use Rattle.mirror_core.specs.Words.{is_on, words_noted}
 use Rattle.mirror_core.specs.Laws.{packet_in, packets_come, NotesKeepRanges}
 use Rattle.fc_base.proofs.ListLemmas.{all_append}
-use Rattle.state_table.proofs.RefusalLemmas.{has_room}
+use Rattle.verify_state.proofs.RefusalLemmas.{has_room}
 use Rattle.mirror_core.proofs.RequestLemmas.{asked_range, taken_in}
 
 -- ---- an addition fits

@@ -16,8 +16,8 @@ use Rattle.messages.specs.declared.node.Node.TheVariants as nodes
 use Rattle.messages.specs.Nodes.{is_node}
 use Rattle.messages.specs.Ranges.{is_body, KeepsState}
 use Rattle.messages.specs.Laws.{IsPacket}
-use Rattle.disk_model.specs.declared.left.Left.{Left}
-use Rattle.state_table.proofs.RefusalLemmas.{IsRefusal, one_refusal, more_refusals, first_refusal, state_refusals}
+use Rattle.disk_model.specs.declared.save_outcome.SaveOutcome.{SaveOutcome}
+use Rattle.verify_state.proofs.RefusalLemmas.{IsRefusal, one_refusal, more_refusals, first_refusal, state_refusals}
 use Rattle.mirror_core.specs.declared.note.MirrorNote.{MirrorNote}
 use Rattle.mirror_core.specs.declared.request.Request.{Request}
 use Rattle.mirror_core.specs.declared.request.Request.TheVariants.{Copy, Fetch}
@@ -54,7 +54,7 @@ body_range true (bodies.Fetch generation) r i k h = let e : Fetch generation ≡
 body_range true _ r i k h = cc
 body_range false body r i k h = cc
 
-pub asked_range : (f : Frame) (left : Left) (r : Request) → AllByRecursion IsPacket (packet_in (Met f left)) → request_in f ≡ Some r → IsRequest r
+pub asked_range : (f : Frame) (left : SaveOutcome) (r : Request) → AllByRecursion IsPacket (packet_in (Met f left)) → request_in f ≡ Some r → IsRequest r
 asked_range (Whole p) left r h e =
     body_range (is_for_mirror p) p.body r ((and_parts (is_node p.from && is_node p.to) (is_body p.body) h.0.in_range).1) h.0.state e
 asked_range (Piece q) left r h e = cc
@@ -76,7 +76,7 @@ pub not_when : (b : Bool) (f : Fault) → when b f ≡ [] → b ≡ false
 not_when true f h = cc
 not_when false f h = refl
 
-pub answered_due : (r : Option Fault) (d : Option Addition) (left : Left) → (is_none r && is_answer (unless_refused r d) left) ≡ true
+pub answered_due : (r : Option Fault) (d : Option Addition) (left : SaveOutcome) → (is_none r && is_answer (unless_refused r d) left) ≡ true
     → (r ≡ None) × (is_answer d left ≡ true)
 answered_due None d left h = (refl, h)
 answered_due (Some f) d left h = cc

@@ -8,15 +8,15 @@ use Rattle.fc_base.specs.declared.numbers.Key.{Key}
 use Rattle.fc_base.specs.declared.fault.Fault.TheVariants.{Old}
 use Rattle.fc_base.specs.Keys.{is_same_key}
 use Rattle.verify_state.specs.State.{State}
-use Rattle.disk_model.specs.declared.left.Left.{Left}
-use Rattle.disk_model.specs.declared.left.Left.TheVariants.{NoSave, Saved, LostNew, LostOld}
-use Rattle.disk_model.specs.Left.{has_new}
+use Rattle.disk_model.specs.declared.save_outcome.SaveOutcome.{SaveOutcome}
+use Rattle.disk_model.specs.declared.save_outcome.SaveOutcome.TheVariants.{NoSave, Saved, LostNew, LostOld}
+use Rattle.disk_model.specs.SaveOutcome.{has_new}
 use Rattle.messages.specs.declared.packet.PacketParts.{PacketParts}
 use Rattle.messages.specs.declared.body.Body.{Body}
 use Rattle.messages.specs.declared.body.Body.TheVariants as bodies
 use Rattle.messages.specs.declared.frame.Frame.{Frame}
-use Rattle.state_table.specs.Kept.{kept_of, has_distinct_keys}
-use Rattle.state_table.specs.Laws.{FoundHasItsKey, LastIsFound, KeysStayApart}
+use Rattle.verify_state.specs.StateTable.{kept_of, has_distinct_keys}
+use Rattle.verify_state.specs.TableLaws.{FoundHasItsKey, LastIsFound, KeysStayApart}
 use Rattle.mirror_core.specs.declared.note.MirrorNote.{MirrorNote}
 use Rattle.mirror_core.specs.declared.request.Request.{Request}
 use Rattle.mirror_core.specs.declared.request.Request.TheVariants.{Copy, Fetch}
@@ -47,7 +47,7 @@ packets_go_to_the_client o past Restart = tt
 -- ---- why
 
 -- A packet that is sent replies to what the frame asks for, which isn't refused and is saved where that is due.
-record Replied (o : MirrorNote) (past : List Entry) (f : Frame) (left : Left) (p : PacketParts) : Type 0 where
+record Replied (o : MirrorNote) (past : List Entry) (f : Frame) (left : SaveOutcome) (p : PacketParts) : Type 0 where
   request : Request
   free : faults_of_request (words_noted o past) request ≡ []
   answers : is_answer (addition_by (words_noted o past) request) left ≡ true
@@ -58,7 +58,7 @@ asked_for : (n : MirrorNote) (q : Option Request) (p : PacketParts) → Contains
 asked_for n None p h = absurd (none_in p h)
 asked_for n (Some r) p h = (r, refl, h)
 
-replied : (o : MirrorNote) (past : List Entry) (f : Frame) (left : Left) (p : PacketParts) → Contains (packets o past (Met f left)) p → Replied o past f left p
+replied : (o : MirrorNote) (past : List Entry) (f : Frame) (left : SaveOutcome) (p : PacketParts) → Contains (packets o past (Met f left)) p → Replied o past f left p
 replied o past f left p h =
     let n = words_noted o past in
     let w = where_so (is_answered o past f left) (packets_for n (request_in f)) p h in
@@ -102,7 +102,7 @@ granted_by n (Fetch x) g h = elim (grant_or_copy n x (to_client (bodies.Granted 
   | inr b ↦ (let e = body_of (bodies.Granted g) (bodies.Copy b.0) b.1 in cc)
 ]
 
-granted_noted : (n : MirrorNote) (g : ℕ) (left : Left) (b : Bool) → nat_lt n.generation g ≡ b → nat_lt g n.generation ≡ false
+granted_noted : (n : MirrorNote) (g : ℕ) (left : SaveOutcome) (b : Bool) → nat_lt n.generation g ≡ b → nat_lt g n.generation ≡ false
     → is_answer (if b then Some (Grant g) else None) left ≡ true → (noted_after (has_new left) (if b then Some (Grant g) else None) n).generation ≡ g
 granted_noted n g Saved true e f a = refl
 granted_noted n g NoSave true e f a = cc
@@ -149,7 +149,7 @@ copied_by n (Fetch g) run server job h = elim (grant_or_copy n g (to_client (bod
 ]
 
 -- After a copy that was answered its key has a state.
-has_one : LastIsFound → (n : MirrorNote) (left : Left) (x : Option State) (s : State) → kept_of s.key n.kept ≡ x → is_answer (unless_kept x s) left ≡ true
+has_one : LastIsFound → (n : MirrorNote) (left : SaveOutcome) (x : Option State) (s : State) → kept_of s.key n.kept ≡ x → is_answer (unless_kept x s) left ≡ true
     → (k : State) × (kept_of s.key (noted_after (has_new left) (unless_kept x s) n).kept ≡ Some k)
 has_one last n left (Some k) s h a = (k, h)
 has_one last n NoSave None s h a = cc

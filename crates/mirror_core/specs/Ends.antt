@@ -1,7 +1,7 @@
 -- How the delivery of a frame ends.
 use Rattle.std.specs.Prelude.{◌≡◌, ℕ, true, List, Result}
 use Rattle.fc_base.specs.declared.fault.Fault.{Fault}
-use Rattle.disk_model.specs.Left.{saved_for}
+use Rattle.disk_model.specs.SaveOutcome.{saved_for}
 use Rattle.disk_model.specs.Notes.{Note}
 use Rattle.node.specs.Saving.{Save, Saves}
 use Rattle.node.specs.Steps.{Steps}

@@ -1,9 +1,9 @@
 -- What a mirror answers in a list that can be followed by hand.
 use Rattle.std.specs.Prelude.{◌≡◌, ℕ, false, List, [], ◌∷◌, map, Some, None}
 use Rattle.fc_base.specs.declared.fault.Fault.TheVariants.{Old, Down, Misdirected, Conflict}
-use Rattle.disk_model.specs.declared.left.Left.{Left}
-use Rattle.disk_model.specs.declared.left.Left.TheVariants.{LostNew, LostOld}
-use Rattle.disk_model.specs.Left.{saved_for}
+use Rattle.disk_model.specs.declared.save_outcome.SaveOutcome.{SaveOutcome}
+use Rattle.disk_model.specs.declared.save_outcome.SaveOutcome.TheVariants.{LostNew, LostOld}
+use Rattle.disk_model.specs.SaveOutcome.{saved_for}
 use Rattle.verify_state.specs.State.{State}
 use Rattle.messages.specs.declared.body.Body.{Body}
 use Rattle.messages.specs.declared.body.Body.TheVariants as bodies
@@ -11,7 +11,7 @@ use Rattle.messages.specs.declared.frame.Frame.{Frame}
 use Rattle.messages.specs.declared.frame.Frame.TheVariants.{Whole, Piece}
 use Rattle.messages.specs.declared.kind.PacketKind.TheVariants as kinds
 use Rattle.messages.specs.declared.node.Node.TheVariants as nodes
-use Rattle.state_table.specs.Examples as examples
+use Rattle.verify_state.specs.Examples as examples
 use Rattle.mirror_core.specs.Note.{blank}
 use Rattle.mirror_core.specs.History.{Entry, Met, Cut, Restart}
 use Rattle.mirror_core.specs.Saves.{Grant, Keep}
@@ -47,7 +47,7 @@ after_opening = Restart ∷ []
 abbrev pub after_grant : List Entry
 after_grant = with_frames after_opening (client_says (bodies.Fetch 1) ∷ [])
 
--- It sends a copy.
+-- The first client sends a copy, which the mirror keeps.
 abbrev pub kept_one : List Entry
 kept_one = with_frames after_grant (client_says (bodies.Copy (state 2)) ∷ [])
 
@@ -103,7 +103,7 @@ pub record TakesItsOwn : Type 0 where
       })) ≡ Some Misdirected
 
 -- A copy whose save failed.
-abbrev pub after_lost_copy : Left → List Entry
+abbrev pub after_lost_copy : SaveOutcome → List Entry
 after_lost_copy left = Met (client_says (bodies.Copy (state 2))) left ∷ after_grant
 
 -- A mirror whose save failed sends nothing and is down until it is restarted; it then keeps the

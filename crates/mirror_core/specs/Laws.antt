@@ -95,7 +95,7 @@ abbrev pub GoesToClient : PacketParts → Type 0
 GoesToClient p =
     (p.from ≡ nodes.Mirror) × (p.to ≡ nodes.Client) × IsTrue (is_of_mirror (kind_of p.body))
 
--- So goes each packet.
+-- Each packet of the mirror goes to the client, and is of a kind that mirrors send.
 abbrev pub PacketsGoToTheClient : Type 0
 PacketsGoToTheClient =
     (opening : MirrorNote) (past : List Entry) (entry : Entry)

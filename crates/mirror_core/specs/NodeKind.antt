@@ -4,7 +4,7 @@ use Rattle.disk_model.specs.Notes.{Note}
 use Rattle.messages.specs.declared.frame.Frame.{Frame}
 use Rattle.mirror_core.specs.declared.mirror.Mirror.{Mirror}
 use Rattle.mirror_core.specs.declared.note.MirrorNote.{MirrorNote}
-use Rattle.mirror_core.specs.History.{Entry}
+use Rattle.mirror_core.specs.History.{Entry, Cut}
 use Rattle.mirror_core.specs.Note.{Says}
 use Rattle.mirror_core.specs.Saves.{Addition}
 use Rattle.mirror_core.specs.Words.{words_noted}
@@ -18,4 +18,5 @@ mirror_kind note opening = record {
   core = steps note opening;
   note = note;
   Says = λ past notes. Says (note notes).bytes (words_noted opening past);
+  cut = Cut;
 }

@@ -4,12 +4,12 @@ use Rattle.std.specs.List.{AllByRecursion}
 use Rattle.std.specs.Int.{w32, w64}
 use Rattle.fc_base.specs.Layouts.{bytes_of, number_in}
 use Rattle.fc_base.specs.declared.limits.TheConstants.{MAX_GENERATION}
-use Rattle.state_table.specs.declared.kept.TheConstants.{KEPT_LIMIT}
+use Rattle.verify_state.specs.declared.table.TheConstants.{KEPT_LIMIT}
 use Rattle.verify_state.specs.State.{IsState}
 use Rattle.verify_state.specs.Spelling.{spelling as state_bytes}
-use Rattle.state_table.specs.Counted.{counted_states, SayStates}
-use Rattle.state_table.specs.Kept.{has_distinct_keys}
-use Rattle.state_table.specs.Reading.{HoldStates}
+use Rattle.verify_state.specs.TableBytes.{counted_states, SayStates}
+use Rattle.verify_state.specs.StateTable.{has_distinct_keys}
+use Rattle.verify_state.specs.TableReading.{HoldStates}
 use Rattle.mirror_core.specs.declared.note.MirrorNote.{MirrorNote}
 
 -- What a blank note says.

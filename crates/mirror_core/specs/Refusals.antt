@@ -4,7 +4,7 @@ use Rattle.fc_base.specs.declared.fault.Fault.{Fault}
 use Rattle.fc_base.specs.declared.fault.Fault.TheVariants.{Old, Down, Misdirected}
 use Rattle.fc_base.specs.Faults.{when}
 use Rattle.messages.specs.declared.frame.Frame.{Frame}
-use Rattle.state_table.specs.Refusals.{faults_of_state}
+use Rattle.verify_state.specs.Refusals.{faults_of_state}
 use Rattle.mirror_core.specs.declared.note.MirrorNote.{MirrorNote}
 use Rattle.mirror_core.specs.declared.request.Request.{Request}
 use Rattle.mirror_core.specs.declared.request.Request.TheVariants.{Copy, Fetch}

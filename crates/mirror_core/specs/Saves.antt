@@ -3,7 +3,7 @@ use Rattle.std.specs.Prelude.{ℕ, Bool, if◌then◌else◌, nat_lt, [], ◌∷
 pub use Rattle.node.specs.Steps.{unless_refused, is_answer}
 use Rattle.verify_state.specs.State.{State}
 use Rattle.messages.specs.declared.frame.Frame.{Frame}
-use Rattle.state_table.specs.Kept.{kept_of}
+use Rattle.verify_state.specs.StateTable.{kept_of}
 use Rattle.mirror_core.specs.declared.note.MirrorNote.{MirrorNote}
 use Rattle.mirror_core.specs.declared.request.Request.{Request}
 use Rattle.mirror_core.specs.declared.request.Request.TheVariants.{Copy, Fetch}

@@ -3,11 +3,11 @@
 use Rattle.std.specs.Prelude.{ℕ, Bool, false, true, not, ◌&&◌, is_none, is_some, List, [], ◌∷◌, Option, if◌then◌else◌}
 use Rattle.fc_base.specs.declared.numbers.Key.{Key}
 use Rattle.fc_base.specs.declared.fault.Fault.{Fault}
-use Rattle.disk_model.specs.declared.left.Left.{Left}
-use Rattle.disk_model.specs.Left.{has_new, is_lost}
+use Rattle.disk_model.specs.declared.save_outcome.SaveOutcome.{SaveOutcome}
+use Rattle.disk_model.specs.SaveOutcome.{has_new, is_lost}
 use Rattle.verify_state.specs.State.{State}
 use Rattle.messages.specs.declared.frame.Frame.{Frame}
-use Rattle.state_table.specs.Kept.{kept_of}
+use Rattle.verify_state.specs.StateTable.{kept_of}
 use Rattle.mirror_core.specs.declared.note.MirrorNote.{MirrorNote}
 use Rattle.mirror_core.specs.History.{Entry, Met, Cut, Restart}
 use Rattle.mirror_core.specs.Refusals.{refusal_by}
@@ -43,7 +43,7 @@ abbrev pub would_save : MirrorNote → List Entry → Frame → Bool
 would_save opening past f = is_some (due opening past f)
 
 -- The frame is answered: it isn't refused, and its save, where it makes one, answered Ok.
-abbrev pub is_answered : MirrorNote → List Entry → Frame → Left → Bool
+abbrev pub is_answered : MirrorNote → List Entry → Frame → SaveOutcome → Bool
 is_answered opening past f left =
     is_none (refusal opening past f) && is_answer (due opening past f) left
 

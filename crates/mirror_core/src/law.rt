@@ -8,7 +8,7 @@ ghost use Rattle.mirror_core.specs.Examples.{Grants, KeepsTheFirst, TakesItsOwn,
 pub fn first_kept_stays()
     ensures { FirstKeptStays }
 {
-    state_table::found_states();
+    verify_state::found_states();
 }
 
 /// The generation never falls.
@@ -21,7 +21,7 @@ pub fn kept_was_sent()
     ensures kept { KeptWasSent }
     ensures noted { NotedWasSent }
 {
-    state_table::found_after_a_push();
+    verify_state::found_after_a_push();
 }
 
 /// Each Copy that is sent is of a state in the note, and has the kept state of its key.
@@ -29,15 +29,15 @@ pub fn copies_are_kept()
     ensures kept { CopiesAreKept }
     ensures noted { CopiesAreNoted }
 {
-    state_table::found_states();
-    state_table::found_after_a_push();
+    verify_state::found_states();
+    verify_state::found_after_a_push();
 }
 
 /// A CopyOk is sent only for a state that is kept by then.
 pub fn copy_oks_are_for_kept_states()
     ensures { CopyOksAreFor }
 {
-    state_table::found_after_a_push();
+    verify_state::found_after_a_push();
 }
 
 /// A Granted is sent only of the generation that the note has by then.
@@ -59,7 +59,7 @@ pub fn looks_at_all()
 pub fn notes_keep_ranges()
     ensures { NotesKeepRanges }
 {
-    state_table::found_after_a_push();
+    verify_state::found_after_a_push();
 }
 
 /// The packets that a mirror sends are within the ranges of packets, where what came is within its.

@@ -4,9 +4,11 @@ ghost use Rattle.std.specs.Prelude.{◌≡◌, IfOk, OnErr};
 ghost use Rattle.mirror_core.specs.Note.{spelling, blank, HasStates, Reads, SaysOneThing, SaysWhatIsWritten};
 
 use fc_base::{MAX_GENERATION, put_u32, put_u64, split_u32, split_u64};
-use state_table::{KEPT_LIMIT, Kept, put_states, read_were_spelled, spelled_are_read, states_in};
 use std::alloc::{AllocError, Global};
-use verify_state::one_spelling;
+use verify_state::{
+    KEPT_LIMIT, StateTable, one_spelling, put_states, read_were_spelled, spelled_are_read,
+    states_in,
+};
 
 /// The bytes with which each note begins.
 const MAGIC: &[u8; 4] = b"FCM1";
@@ -20,7 +22,7 @@ pub struct MirrorNote {
     /// The greatest generation that was asked for, at most [`MAX_GENERATION`]; 0 where none was.
     pub generation: u64,
     /// The kept states.
-    pub kept: Kept,
+    pub kept: StateTable,
 }
 
 impl MirrorNote {
@@ -30,7 +32,7 @@ impl MirrorNote {
     {
         MirrorNote {
             generation: 0,
-            kept: Kept::new(alloc),
+            kept: StateTable::new(alloc),
         }
     }
 

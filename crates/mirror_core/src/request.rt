@@ -8,8 +8,7 @@ ghost use Rattle.mirror_core.specs.Saves.{addition_by};
 use crate::note::MirrorNote;
 use fc_base::Fault;
 use messages::{Body, Frame, Packet};
-use state_table::KEPT_LIMIT;
-use verify_state::VerifyState;
+use verify_state::{KEPT_LIMIT, VerifyState};
 
 /// What the client asks of a mirror.
 #[derive(Drop)]

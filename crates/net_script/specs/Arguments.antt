@@ -74,7 +74,7 @@ abbrev pub node : (Node → ScriptLine) → List (List ℕ) → ScriptLine
 node line (word ∷ []) = read_as line (node_of word)
 node line _ = Unread
 
--- So many sectors from the first on, all where there are fewer.
+-- A mask of this many sectors from the first on, of all 128 where there are fewer.
 abbrev pub first_sectors : ℕ → ℕ
 first_sectors n = 2 ^ min n 128 - 1
 

@@ -63,7 +63,7 @@ refusal_line fault = printed.refusal_line (printed.plain fault)
 abbrev pub bad_line : ℕ → List ℕ
 bad_line number = with_blanks_between (codes "bad" ∷ codes "line" ∷ decimal number ∷ [])
 
--- A node's word.
+-- The word that is printed for a node.
 abbrev pub node_word : Node → List ℕ
 node_word (Server s) = decimal s
 node_word Client = codes "client"

@@ -28,13 +28,13 @@ lines_of_orders (Opens line setup ∷ orders) = codes "ok" ∷ lines_in setup []
 lines_of_orders (Asks line command text ∷ orders) = bad_line line ∷ []
 lines_of_orders (Fails line at ∷ orders) = bad_line line ∷ []
 
--- All of these are commands.
+-- All of these orders are commands.
 abbrev pub are_commands : List Order → Bool
 are_commands [] = true
 are_commands (Asks line command text ∷ orders) = are_commands orders
 are_commands (order ∷ orders) = false
 
--- No line is bad.
+-- No line of a script is bad, by its orders.
 abbrev pub reads_well : List Order → Bool
 reads_well [] = true
 reads_well (Opens line setup ∷ orders) = are_commands orders
@@ -85,6 +85,6 @@ text_of script =
     if is_too_long script then codes "too long\n"
     else flat_map with_line_feed (lines_of_orders (orders_of script))
 
--- Its status.
+-- The status with which a script ends: 2 where it is too long, and else that of its orders.
 abbrev pub status_of : List ℕ → ℕ
 status_of script = if is_too_long script then 2 else status_of_orders (orders_of script)

@@ -19,7 +19,7 @@ pub record Row : Type 0 where
   pub word : List ℕ
   pub reads : List (List ℕ) → ScriptLine
 
--- A row.
+-- A row of the table: a command's word, and what it asks for.
 abbrev pub row : List ℕ → (List (List ℕ) → ScriptLine) → Row
 row name line = record { word = name; reads = line }
 
@@ -115,7 +115,7 @@ cut_rows =
     ∷ row (codes "losenote") (alone (Asks LoseNote))
     ∷ []
 
--- All commands.
+-- The table of all commands.
 unfoldable pub table : List Row
 table = saving_rows Saves ++ (asking_rows ++ (job_rows ++ cut_rows))
 

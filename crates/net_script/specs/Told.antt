@@ -4,7 +4,7 @@ use Rattle.messages.specs.declared.frame.Frame.{Frame}
 use Rattle.messages.specs.FrameBytes.{frame_spelling}
 use Rattle.messages.specs.FrameLaws.{IsFrame}
 
--- So many of the kept bytes, from one on, are these frames'.
+-- The bytes of these frames stand among those that are kept, this many from this place on.
 pub record AreBytesOf (frames : List Frame) (first count : ℕ) (kept : List (List ℕ)) : Type 0 where
   pub each : (f : Frame) → Contains frames f → IsFrame f
   pub number : length frames ≡ count

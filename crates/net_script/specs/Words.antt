@@ -4,7 +4,7 @@ use Rattle.std.specs.List.{slice_split, list_all}
 use Rattle.std.specs.Char.{is_ascii_digit}
 use Rattle.std.specs.Str.Parse.{digits_value}
 
--- A line feed.
+-- A byte is a line feed.
 abbrev pub is_line_feed : ℕ → Bool
 is_line_feed b = b == 10
 

@@ -14,7 +14,7 @@ use crate::output::{CutLine, FrameLine};
 use engine::Issue;
 use fc_base::CheckReport;
 use messages::{Act, Node, look_at};
-use net_world::{Sent, Told, WorldAnswer};
+use net_world::{FrameLog, Told, WorldAnswer};
 use program_io::write_report_words;
 use std::io;
 use std::io::{ErrorKind, Write};
@@ -24,7 +24,7 @@ use std::io::{ErrorKind, Write};
 pub(crate) fn write_told<W: Write>(
     writer: &mut W,
     told: &Told,
-    frames: &Sent,
+    frames: &FrameLog,
     addressee: Option<Node>,
 ) -> io::Result<()>
     ensures { (sent : List Frame) →
@@ -86,7 +86,7 @@ fn write_report<W: Write>(writer: &mut W, report: &CheckReport) -> io::Result<()
 }
 
 /// Writes the lines of so many frames, from one on. An error where there are fewer.
-fn write_sent<W: Write>(writer: &mut W, frames: &Sent, first: u64, count: u64) -> io::Result<()>
+fn write_sent<W: Write>(writer: &mut W, frames: &FrameLog, first: u64, count: u64) -> io::Result<()>
     ensures { (sent : List Frame) → AreBytesOf sent first count (sent_in frames.now) →
         OnOk result (Appends (W.contents writer.old) (W.contents writer.new)
         (flat_map with_line_feed (sent_lines first sent))) }
@@ -101,7 +101,7 @@ fn write_sent<W: Write>(writer: &mut W, frames: &Sent, first: u64, count: u64) -
 }
 
 /// The line of the frame that lies so many behind the first.
-fn frame_line(frames: &Sent, first: u64, offset: u64) -> Option<FrameLine>
+fn frame_line(frames: &FrameLog, first: u64, offset: u64) -> Option<FrameLine>
     ensures { IfSome result
         (λ line. (bytes : List ℕ) × (slice_get (sent_in frames.now) (first + offset) ≡ Some bytes)
         × (line.number ≡ first + offset) × (line.len ≡ length bytes)

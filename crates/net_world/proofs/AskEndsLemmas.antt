@@ -6,8 +6,8 @@ use Rattle.fc_base.specs.declared.fault.FaultSort.{FaultSort}
 use Rattle.fc_base.specs.declared.fault.FaultSort.TheVariants as sorts
 use Rattle.fc_base.specs.Fault.{sort_of}
 use Rattle.messages.specs.Senses.{is_drop}
-use Rattle.disk_model.specs.declared.left.Left.{Left}
-use Rattle.disk_model.specs.Left.{saved_for}
+use Rattle.disk_model.specs.declared.save_outcome.SaveOutcome.{SaveOutcome}
+use Rattle.disk_model.specs.SaveOutcome.{saved_for}
 use Rattle.messages.specs.declared.node.Node.TheVariants.{Client}
 use Rattle.messages.specs.declared.refusal.Act.{Act}
 use Rattle.messages.specs.declared.refusal.Act.TheVariants as acts
@@ -74,7 +74,7 @@ no_act : (t : List Step) (x : Option client.Entry) → act_of t (option_map AtCl
 no_act t None = refl
 no_act t (Some e) = refl
 
-pub client_act : (w : Setup) (past : List Change) (c : Coming client.Entry Left) → act w past (Met (OfClient c)) ≡ acts.None
+pub client_act : (w : Setup) (past : List Change) (c : Coming client.Entry SaveOutcome) → act w past (Met (OfClient c)) ≡ acts.None
 client_act w past c = no_act (trace w past) (entry_of (at_client w) (heard (at_client w) (frames.of_client w (steps past))) c)
 
 pub told_is : (w : Setup) (past : List Change) (e : Happening) (i : FrameInput) (t : Told) (new : World) → IsAnswered w past i new t

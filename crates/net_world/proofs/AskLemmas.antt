@@ -10,7 +10,7 @@ use Rattle.fc_base.specs.declared.fault.Fault.TheVariants.{NodeOff}
 use Rattle.fc_base.specs.declared.fault.FaultSort.{FaultSort}
 use Rattle.fc_base.specs.declared.fault.FaultSort.TheVariants as sorts
 use Rattle.fc_base.specs.Fault.{sort_of}
-use Rattle.disk_model.specs.declared.left.Left.TheVariants.{NoSave}
+use Rattle.disk_model.specs.declared.save_outcome.SaveOutcome.TheVariants.{NoSave}
 use Rattle.disk_model.specs.declared.mem_disk.MemDisk.{MemDisk}
 use Rattle.messages.specs.FrameBytes.{frame_spelling}
 use Rattle.messages.specs.declared.node.Node.TheVariants.{Client}
@@ -23,12 +23,14 @@ use Rattle.client_core.specs.Words as words
 use Rattle.client_core.specs.Packets.{packets}
 use Rattle.client_core.specs.Hearing.{FrameEntry, Met, rules, heard_at, packets_heard, arrival, is_up}
 use Rattle.client_core.specs.FrameAnswers as answers
-use Rattle.net_world.specs.declared.client_outs.ClientOuts.{ClientOuts}
+use Rattle.client_core.specs.declared.outs.Outs.{Outs}
+use Rattle.client_core.specs.declared.outs.Answer.{Answer}
+use Rattle.client_core.specs.Answers as core
+use Rattle.net_world.specs.ClientAnswers.{world_answer}
 use Rattle.net_world.specs.MirrorNodes.{MirrorNode}
-use Rattle.net_world.specs.declared.mirror_node.Mirrored.{Mirrored}
+use Rattle.net_world.specs.declared.mirror_node.MirrorSlot.{MirrorSlot}
 use Rattle.net_world.specs.ServerNodes.{ServerNode}
 use Rattle.messages.specs.declared.refusal.Act.TheVariants as acts
-use Rattle.net_world.specs.declared.told.WorldAnswer.{WorldAnswer}
 use Rattle.net_world.specs.declared.told.Told.{Told}
 use Rattle.net_world.specs.declared.world.World.{World}
 use Rattle.net_world.specs.Setup.{Setup}
@@ -101,7 +103,7 @@ pub record HasPassed (sent : List (List ℕ)) (old new : World) : Type 0 where
   pub node_is : new.mirror.node ≡ old.mirror.node
 
 -- The client was asked, and the world has moved.
-pub record HasAsked (e : FrameInput) (result : Result ClientOuts Fault) (sent : List (List ℕ)) (old new : World) : Type 0 where
+pub record HasAsked (e : FrameInput) (result : Result Outs Fault) (sent : List (List ℕ)) (old new : World) : Type 0 where
   pub asks : (o : client.Opening) (past : List FrameEntry) → nodes.Stands o past old.client → nodes.Asks o past e new.client result
   pub moved : HasMoved sent old new
 
@@ -128,9 +130,9 @@ pub client_stepped : (w : Setup) (past : List Change) (e : FrameEntry) (sent : L
     → handed_in (e ∷ entries w past) ≡ handed_in (entries w past) → StandsFor w (changes.Met (step_of e) ∷ past) new
 client_stepped w past e sent old new stands h is node_is none =
     client_passed w past e sent old new stands
-    (record { sent_is = h.sent_is; servers_are = h.servers_are; files_are = h.files_are; node_is = ap (λ (m : Mirrored). m.node) h.mirror_is })
+    (record { sent_is = h.sent_is; servers_are = h.servers_are; files_are = h.files_are; node_is = ap (λ (m : MirrorSlot). m.node) h.mirror_is })
     is node_is
-    (subst (IsGreatest new.mirror.greatest) (sym none) (subst (λ (m : Mirrored). IsGreatest m.greatest (handed_in (entries w past)))
+    (subst (IsGreatest new.mirror.greatest) (sym none) (subst (λ (m : MirrorSlot). IsGreatest m.greatest (handed_in (entries w past)))
     (sym h.mirror_is) stands.greatest_is))
 
 -- The client stands for what it did, and nothing was sent.
@@ -143,18 +145,18 @@ client_kept w past old new stands h node_is = record {
   sent_is = h.sent_is ∙ append-nil (sent_in old.sent) ∙ stands.sent_is;
   servers_are = λ s node at. stands.servers_are s node (ap (λ (v : Vec ServerNode Global). slice_get v.items s) (sym h.servers_are) ∙ at);
   client_is = node_is;
-  mirror_is = subst (λ (m : Mirrored). IsMirror w (of_mirror (steps past)) m.node) (sym h.mirror_is) stands.mirror_is;
-  greatest_is = subst (λ (m : Mirrored). IsGreatest m.greatest (handed_in (client_entries w (steps past)))) (sym h.mirror_is) stands.greatest_is;
+  mirror_is = subst (λ (m : MirrorSlot). IsMirror w (of_mirror (steps past)) m.node) (sym h.mirror_is) stands.mirror_is;
+  greatest_is = subst (λ (m : MirrorSlot). IsGreatest m.greatest (handed_in (client_entries w (steps past)))) (sym h.mirror_is) stands.greatest_is;
   files = ap (λ (v : Vec MemDisk Global). length v.items) h.files_are ∙ stands.files;
   files_are = λ s j disk l at. stands.files_are s j disk l (ap (λ (v : Vec MemDisk Global). slice_get v.items (MAX_JOBS * s + j)) (sym h.files_are) ∙ at);
 }
 
-same_told : (first first' sent' : ℕ) (asked : ClientOuts) (answer : WorldAnswer) → first ≡ first' → length asked.frames ≡ sent' → asked.answer ≡ answer
-    → told_of first asked ≡ record { answer = answer; first = first'; sent = sent'; act = acts.None }
+same_told : (first first' sent' : ℕ) (asked : Outs) (answer : Answer) → first ≡ first' → length asked.frames ≡ sent' → asked.answer ≡ answer
+    → told_of first asked ≡ record { answer = world_answer answer; first = first'; sent = sent'; act = acts.None }
 same_told first first' sent' asked answer f k a = rw (f, k, a) refl
 
 -- It is answered.
-pub answered : (w : Setup) (past : List Change) (e : FrameInput) (asked : ClientOuts) (first : ℕ) (told : Told) (old new : World) → StandsFor w past old
+pub answered : (w : Setup) (past : List Change) (e : FrameInput) (asked : Outs) (first : ℕ) (told : Told) (old new : World) → StandsFor w past old
     → HasAsked e (Ok asked) asked.frames old new
     → first ≡ length (sent_in old.sent) → told ≡ told_of first asked → ClientEnds w past e new (Ok told)
 answered w past e asked first told old new stands h is tells =
@@ -168,7 +170,7 @@ answered w past e asked first told old new stands h is tells =
       free = a.1.free;
       told_is =
           tells
-          ∙ same_told first (length (frames_sent w (steps past))) (length (frames_of_step w (steps past) (step_by w past e))) asked (nodes.answer_to o es e)
+          ∙ same_told first (length (frames_sent w (steps past))) (length (frames_of_step w (steps past) (step_by w past e))) asked (core.answer_to o es e)
           (is ∙ first_is w past old stands)
           (ap (λ (fs : List (List ℕ)). length fs) sent ∙ length-map (frames_of_step w (steps past) (step_by w past e)) frame_spelling)
           a.0;

@@ -7,8 +7,8 @@ use Rattle.std.proofs.lemmas.Bool.Decides.{nat_tests}
 use Rattle.std.proofs.lemmas.Option.{slice_get_within}
 use Rattle.job_file.specs.declared.job.Job.{Job}
 use Rattle.verify_state.specs.State.{State}
-use Rattle.disk_model.specs.declared.left.Left.{Left}
-use Rattle.disk_model.specs.declared.left.Left.TheVariants.{NoSave, Saved, LostNew, LostOld}
+use Rattle.disk_model.specs.declared.save_outcome.SaveOutcome.{SaveOutcome}
+use Rattle.disk_model.specs.declared.save_outcome.SaveOutcome.TheVariants.{NoSave, Saved, LostNew, LostOld}
 use Rattle.fc_base.proofs.ListLemmas.{none_in, first_or_behind}
 use Rattle.server_core.specs.Inputs.{PacketInput}
 use Rattle.server_core.specs.History.{Opening, Entry, Met, Cut, Restart}
@@ -25,7 +25,7 @@ abbrev pub begun_by : ℕ → Option Staged → Option (List Job) → Option (Li
 begun_by run None older = older
 begun_by run (Some s) older = if s.run == run then Some s.jobs else older
 
-abbrev pub begun_after : Left → ℕ → Option Staged → Option (List Job) → Option (List Job)
+abbrev pub begun_after : SaveOutcome → ℕ → Option Staged → Option (List Job) → Option (List Job)
 begun_after NoSave run due older = older
 begun_after Saved run due older = begun_by run due older
 begun_after LostNew run due older = older
@@ -53,7 +53,7 @@ unfolding IsBegun
 same_jobs o older list x None e h = tt
 same_jobs o older list x (Some w) e h = sym (e w.run) ∙ h
 
-begun_next : (o : Opening) (past : List Entry) (e : PacketInput) (left : Left) (d : Option Staged) (w : Option Work) → due o past e ≡ d → IsBegun o past w
+begun_next : (o : Opening) (past : List Entry) (e : PacketInput) (left : SaveOutcome) (d : Option Staged) (w : Option Work) → due o past e ≡ d → IsBegun o past w
     → IsBegun o (Met e left ∷ past) (work_after left d o.me (boot o past) (request_of o.me e) w)
 unfolding IsBegun
 begun_next o past e NoSave d w is h = same_jobs o past (Met e NoSave ∷ past) (request_of o.me e) w (λ r. refl) h
@@ -76,7 +76,7 @@ work_begun o past w h = subst (IsBegun o past) h (begun_of o past)
 
 -- A run that was begun is not above the last run.
 
-not_above : NumbersGrow → (o : Opening) (past : List Entry) (e : PacketInput) (left : Left) (d : Option Staged) (run : ℕ) (js : List Job) → due o past e ≡ d
+not_above : NumbersGrow → (o : Opening) (past : List Entry) (e : PacketInput) (left : SaveOutcome) (d : Option Staged) (run : ℕ) (js : List Job) → due o past e ≡ d
     → (begun o run past ≡ Some js → run ≤ last_run o past)
     → begun_after left run d (begun o run past) ≡ Some js → run ≤ last_run o (Met e left ∷ past)
 not_above grow o past e NoSave d run js is f h = let a = f h in let g = (grow o (Met e NoSave) past).0 in omega arith
@@ -105,7 +105,7 @@ another false js other older h k = k
 different : (a b : ℕ) → b < a → (a == b) ≡ false
 different a b h = grind (arith, nat_tests)
 
-stays_after : NumbersGrow → (o : Opening) (past : List Entry) (e : PacketInput) (left : Left) (d : Option Staged) (run : ℕ) (js : List Job) → due o past e ≡ d
+stays_after : NumbersGrow → (o : Opening) (past : List Entry) (e : PacketInput) (left : SaveOutcome) (d : Option Staged) (run : ℕ) (js : List Job) → due o past e ≡ d
     → begun o run past ≡ Some js → begun_after left run d (begun o run past) ≡ Some js
 stays_after grow o past e NoSave d run js is h = h
 stays_after grow o past e LostNew d run js is h = h

@@ -17,7 +17,7 @@ use Rattle.server_core.specs.declared.input.Input.TheVariants as inputs
 use Rattle.server_core.specs.Check.{Check, progress_after}
 use Rattle.server_core.specs.Hearing.{packets_heard}
 use Rattle.net_world.specs.declared.ready.Ready.{Ready}
-use Rattle.net_world.specs.declared.served.Served.{Served}
+use Rattle.net_world.specs.declared.sent_reply.SentReply.{SentReply}
 use Rattle.net_world.specs.declared.told.WorldAnswer.TheVariants.{Checked}
 use Rattle.net_world.specs.declared.told.Told.{Told}
 use Rattle.net_world.specs.declared.world.World.{World}
@@ -121,7 +121,7 @@ check_comes w past s j ready h r is =
       keeps = refl;
     }
 
-pub check_ends : (w : Setup) (past : List Change) (s j : ℕ) (ready : Ready) (h : IsReady w past s j ready) (r : ReportParts) (served : Served) (t : Told)
+pub check_ends : (w : Setup) (past : List Change) (s j : ℕ) (ready : Ready) (h : IsReady w past s j ready) (r : ReportParts) (served : SentReply) (t : Told)
     (new : World) → r ≡ report_of (key_of h.now j) h.job ready.state (content w past s j)
     → ServerEnds w past s (inputs.CheckDone ready.boot ready.attempt j r) new (Ok served) → t ≡ told_of served (Checked r)
     → Ends w past (happenings.Check s j) new (Ok t)

@@ -1,54 +1,44 @@
 -- A client's node loses its power within a save.
-use Rattle.std.proofs.Common.{◌≡◌, refl, sym, ◌∙◌, ap, subst, Bool, true, false, ◌&&◌, List, ◌∷◌, Option, Some, None}
-use Rattle.std.specs.Prelude.{not, is_some}
+use Rattle.std.proofs.Common.{◌≡◌, refl, sym, ◌∙◌, ap, subst, inl, inr, ℕ, ◌+◌, arith, Bool, true, false, ◌&&◌, List, [], ◌∷◌, ◌++◌, length, Option, Some, None, Ok, Err}
+use Rattle.std.specs.Prelude.{◌⊎◌, ◌==◌, is_some}
+use Rattle.std.proofs.lemmas.Bool.Decides.{nat_tests}
+use Rattle.std.proofs.lemmas.List.{length-append}
 use Rattle.fc_base.specs.declared.fault.Fault.{Fault}
+use Rattle.fc_base.specs.declared.fault.Fault.TheVariants.{NodeOff, NoMemory}
+use Rattle.fc_base.specs.declared.fault.Fault.TheVariants as faults
 use Rattle.disk_model.specs.MemNotes.{Saved as Kept, note_of}
-use Rattle.disk_model.specs.declared.left.Left.{Left}
-use Rattle.disk_model.specs.declared.left.Left.TheVariants.{Saved, LostNew, LostOld}
-use Rattle.disk_model.specs.Left.{saved_for, is_lost, has_new}
+use Rattle.disk_model.specs.declared.save_outcome.SaveOutcome.{SaveOutcome}
+use Rattle.disk_model.specs.declared.save_outcome.SaveOutcome.TheVariants.{LostNew, LostOld}
 use Rattle.messages.specs.Hearing.{with_entry}
-use Rattle.messages.specs.Senses.{Sense, Hears, Keeps, Drops, Misses, refusal_of_sense, heard_or}
+use Rattle.messages.specs.Senses.{Sense, Hears, Keeps, Drops, Misses, heard_or}
 use Rattle.messages.proofs.SenseLemmas.{entry_by, entries_are}
+use Rattle.node.specs.Kinds as powers
+use Rattle.node.specs.declared.power.Power.TheVariants.{On, Off, Lent}
 use Rattle.client_core.specs.Inputs.{PacketInput, FrameInput}
 use Rattle.client_core.specs.declared.note.ClientNote.{ClientNote}
-use Rattle.client_core.specs.declared.peers.Peers.{Peers}
 use Rattle.client_core.specs.History as client
 use Rattle.client_core.specs.History.{Opening}
-use Rattle.client_core.specs.Note.{Says as NoteSays}
+use Rattle.client_core.specs.Note.{is_blank}
 use Rattle.client_core.specs.Words as words
 use Rattle.client_core.specs.Words.{words_noted}
-use Rattle.client_core.specs.Saves.{Addition, unless_refused, due_by, noted_after}
-use Rattle.client_core.specs.Hearing.{FrameEntry, Met, Cut, rules, heard_at, packets_heard, arrival, is_up}
-use Rattle.client_core.specs.FrameAnswers.{sense, due, answered_entry}
-use Rattle.net_world.specs.ClientNodes.{ClientNode, client_nodes, Stands, IsNoteOf, IsEmptyIfBlank}
-use Rattle.net_world.proofs.NodeLemmas.{Saves, relabel}
+use Rattle.client_core.specs.Saves.{Addition, NextRun, NextAttempt, Keep, with_addition, noted_after}
+use Rattle.client_core.specs.Hearing.{FrameEntry, Met, rules, heard_at, packets_heard, arrival, is_up}
+use Rattle.client_core.specs.FrameAnswers.{sense, due}
+use Rattle.client_core.specs.NodeKind.{client_kind}
+use Rattle.net_world.specs.Nodes.{CutsIn}
+use Rattle.net_world.specs.ClientNodes.{ClientNode, client_nodes, HasNone, Stands}
+use Rattle.net_world.proofs.NodeLemmas.{never}
+use Rattle.net_world.proofs.ClientPowerLemmas.{none_said}
 
--- ---- what the note says behind what a save left
+-- ---- what the note says behind a lost save
 
 said : Opening → List FrameEntry → ClientNote
 said o past = words_noted o (packets_heard o past)
 
-call_left : (o : Opening) (list : List client.Entry) (c : PacketInput) (a b : Left) → has_new a ≡ has_new b
-    → words_noted o (client.Met c a ∷ list) ≡ words_noted o (client.Met c b ∷ list)
-call_left o list c a b h = ap (λ new. noted_after new (words.due o list c) (words_noted o list)) h
-
-sense_left : (o : Opening) (list : List client.Entry) (a b : Left) (s : Sense PacketInput) → has_new a ≡ has_new b
-    → words_noted o (with_entry (entry_by (rules o) a s) list) ≡ words_noted o (with_entry (entry_by (rules o) b s) list)
-sense_left o list a b (Hears c) h = call_left o list c a b h
-sense_left o list a b Keeps h = refl
-sense_left o list a b Drops h = refl
-sense_left o list a b Misses h = refl
-
 -- What is heard behind an input, by what the input is.
-heard_behind : (o : Opening) (past : List FrameEntry) (e : FrameInput) (left : Left)
+heard_behind : (o : Opening) (past : List FrameEntry) (e : FrameInput) (left : SaveOutcome)
     → packets_heard o (Met e left ∷ past) ≡ with_entry (entry_by (rules o) left (sense o past e)) (packets_heard o past)
 heard_behind o past e left = entries_are (rules o) (heard_at o past) (arrival e) left (sense o past e) refl
-
-same_left : (o : Opening) (past : List FrameEntry) (e : FrameInput) (a b : Left) → has_new a ≡ has_new b → said o (Met e a ∷ past) ≡ said o (Met e b ∷ past)
-unfolding said
-same_left o past e a b h =
-    ap (words_noted o) (heard_behind o past e a) ∙ sense_left o (packets_heard o past) a b (sense o past e) h
-    ∙ sym (ap (words_noted o) (heard_behind o past e b))
 
 none_new : (x : Option Addition) (n : ClientNote) → noted_after false x n ≡ n
 none_new None n = refl
@@ -64,71 +54,96 @@ same_old : (o : Opening) (past : List FrameEntry) (e : FrameInput) → said o (M
 unfolding said
 same_old o past e = ap (words_noted o) (heard_behind o past e LostOld) ∙ sense_old o (packets_heard o past) (sense o past e)
 
--- ---- it is down behind a lost save that was due
+-- ---- what is added is something
 
-falls : (on lost : Bool) → lost ≡ true → (on && not lost) ≡ false
-falls true true h = refl
-falls false true h = refl
-falls on false h = absurd cc
+not_zero : (n : ℕ) → (n + 1 == 0) ≡ false
+not_zero n = grind (arith, nat_tests)
 
-sense_falls : (o : Opening) (list : List client.Entry) (left : Left) (s : Sense PacketInput) → is_lost left ≡ true
-    → is_some (heard_or None (words.due o list) s) ≡ true → words.is_on (with_entry (entry_by (rules o) left s) list) ≡ false
-sense_falls o list left (Hears c) h d = falls (words.is_on list) (is_lost left) h
-sense_falls o list left Keeps h d = absurd cc
-sense_falls o list left Drops h d = absurd cc
-sense_falls o list left Misses h d = absurd cc
+and_false : (a : Bool) → (a && false) ≡ false
+and_false true = refl
+and_false false = refl
 
-down : (o : Opening) (past : List FrameEntry) (e : FrameInput) (left : Left) → is_lost left ≡ true → is_some (due o past e) ≡ true
-    → is_up o (Met e left ∷ past) ≡ false
-down o past e left h d = ap words.is_on (heard_behind o past e left) ∙ sense_falls o (packets_heard o past) left (sense o past e) h d
+not_blank : (g r a k : Bool) → (r ≡ false) → (g && (r && (a && k))) ≡ false
+not_blank g r a k h = ap (λ b. g && (b && (a && k))) h ∙ and_false g
 
--- ---- a node that is off stands for each list that says so, with what its note says
+not_blank_attempts : (g r a k : Bool) → (a ≡ false) → (g && (r && (a && k))) ≡ false
+not_blank_attempts g r a k h = ap (λ b. g && (r && (b && k))) h ∙ ap (λ b. g && b) (and_false r) ∙ and_false g
 
-off_again : (o : Opening) (a b : List FrameEntry) (node : ClientNode) → Stands o a node → is_up o a ≡ false → is_up o b ≡ false → said o a ≡ said o b
-    → Stands o b node
+not_blank_kept : (g r a k : Bool) → (k ≡ false) → (g && (r && (a && k))) ≡ false
+not_blank_kept g r a k h = ap (λ b. g && (r && (a && b))) h ∙ ap (λ b. g && (r && b)) (and_false a) ∙ ap (λ b. g && b) (and_false r) ∙ and_false g
+
+added : (a : Addition) (n : ClientNote) → is_blank (with_addition a n) ≡ false
+added NextRun n = not_blank (n.generation == 0) (n.runs + 1 == 0) (n.attempts == 0) (length n.kept == 0) (not_zero n.runs)
+added NextAttempt n = not_blank_attempts (n.generation == 0) (n.runs == 0) (n.attempts + 1 == 0) (length n.kept == 0) (not_zero n.attempts)
+added (Keep state) n =
+    not_blank_kept (n.generation == 0) (n.runs == 0) (n.attempts == 0) (length (n.kept ++ state ∷ []) == 0)
+    (ap (λ (l : ℕ). l == 0) (length-append n.kept (state ∷ [])) ∙ not_zero (length n.kept))
+
+noted_new : (x : Option Addition) (n : ClientNote) → is_some x ≡ true → is_blank (noted_after true x n) ≡ false
+noted_new None n h = cc
+noted_new (Some a) n h = added a n
+
+sense_new : (o : Opening) (list : List client.Entry) (s : Sense PacketInput) → is_some (heard_or None (words.due o list) s) ≡ true
+    → is_blank (words_noted o (with_entry (entry_by (rules o) LostNew s) list)) ≡ false
+sense_new o list (Hears c) h = noted_new (words.due o list c) (words_noted o list) h
+sense_new o list Keeps h = absurd cc
+sense_new o list Drops h = absurd cc
+sense_new o list Misses h = absurd cc
+
+written : (o : Opening) (past : List FrameEntry) (e : FrameInput) → is_some (due o past e) ≡ true → is_blank (said o (Met e LostNew ∷ past)) ≡ false
 unfolding said
-off_again o a b node s up off same = relabel (client_nodes o) a b up off says node s
-  where
-    says : (notes : Kept) → IsNoteOf o a notes → IsNoteOf o b notes
-    says notes h = (subst (λ n. NoteSays (note_of notes).bytes n) same h.0, subst (λ n. IsEmptyIfBlank (note_of notes).bytes n) same h.1)
+written o past e h = ap (λ l. is_blank (words_noted o l)) (heard_behind o past e LostNew) ∙ sense_new o (packets_heard o past) (sense o past e) h
 
-saved_by : (x : Option Addition) → is_some x ≡ true → saved_for x ≡ Saved
-saved_by None h = cc
-saved_by (Some a) h = refl
+-- ---- a cut
 
--- ---- what is due isn't refused
-
-free_by : (r : Option Fault) (x : Option Addition) → is_some (unless_refused r x) ≡ true → r ≡ None
-free_by None x h = refl
-free_by (Some fault) x h = cc
-
-free_in : (o : Opening) (list : List client.Entry) (s : Sense PacketInput) → is_some (heard_or None (words.due o list) s) ≡ true
-    → refusal_of_sense (rules o) list s ≡ None
-free_in o list (Hears c) h = free_by (words.refusal o list c) _ h
-free_in o list Keeps h = absurd cc
-free_in o list Drops h = absurd cc
-free_in o list Misses h = absurd cc
-
--- What is due comes to a client that is on.
-up_call : (on : Bool) (peers : Peers) (n : ClientNote) (c : PacketInput) → is_some (due_by on peers n c) ≡ true → on ≡ true
-up_call true peers n c h = refl
-up_call false peers n c h = absurd cc
-
-up_in : (o : Opening) (list : List client.Entry) (s : Sense PacketInput) → is_some (heard_or None (words.due o list) s) ≡ true → words.is_on list ≡ true
-up_in o list (Hears c) h = up_call (words.is_on list) (words.peers o list) (words_noted o list) c h
-up_in o list Keeps h = absurd cc
-up_in o list Drops h = absurd cc
-up_in o list Misses h = absurd cc
-
--- An input that is due to make a save.
-pub saves : (o : Opening) (past : List FrameEntry) (e : FrameInput) → is_some (due o past e) ≡ true → Saves (client_nodes o) Cut past e
+-- Its first save didn't land: it has no note.
+pub cut_blank : (o : Opening) (past : List FrameEntry) (e : FrameInput) (mid new : ClientNode) → is_blank (words_noted o (packets_heard o past)) ≡ true
+    → powers.IsCutWithin (client_kind note_of o) past false e mid → ((notes : Kept) → mid ≡ Off notes → HasNone new) → CutsIn (client_nodes o) past false e new (Ok tt)
 unfolding said
-saves o past e d = record {
-  up = up_in o (packets_heard o past) (sense o past e) d;
-  due = d;
-  free = free_in o (packets_heard o past) (sense o past e) d;
-  new = λ node s.
-      off_again o (Cut ∷ answered_entry o past e ∷ past) (Met e LostNew ∷ past) node s refl (down o past e LostNew refl d)
-      (same_left o past e (saved_for (due o past e)) LostNew (ap has_new (saved_by (due o past e) d)));
-  old = λ node s. off_again o (Cut ∷ past) (Met e LostOld ∷ past) node s refl (down o past e LostOld refl d) (sym (same_old o past e));
-}
+cut_blank o past e mid new blank c forgot =
+    (c.on, c.due, none_said o (Met e LostOld ∷ past) new (forgot c.notes c.off) c.down (ap is_blank (same_old o past e) ∙ blank))
+
+-- Its note says something, as it did before;
+cut_written : (o : Opening) (past : List FrameEntry) (e : FrameInput) (new : ClientNode) → is_blank (words_noted o (packets_heard o past)) ≡ false
+    → powers.IsCutWithin (client_kind note_of o) past false e new → CutsIn (client_nodes o) past false e new (Ok tt)
+unfolding said
+cut_written o past e new says c =
+    (c.on, c.due, subst (Stands o (Met e LostOld ∷ past)) (sym c.off) ((c.says, inr (ap is_blank (same_old o past e) ∙ says)), c.down))
+
+-- or by what was saved.
+cut_saved : (o : Opening) (past : List FrameEntry) (e : FrameInput) (new : ClientNode) → powers.IsCutWithin (client_kind note_of o) past true e new
+    → CutsIn (client_nodes o) past true e new (Ok tt)
+unfolding said
+cut_saved o past e new c = (c.on, c.due, subst (Stands o (Met e LostNew ∷ past)) (sym c.off) ((c.says, inr (written o past e c.due)), c.down))
+
+written_still : (up blank : Bool) → up ≡ true → (up && blank) ≡ false → blank ≡ false
+written_still true blank h k = k
+written_still false blank h k = absurd cc
+
+-- It has a note where that said something, or was saved.
+pub cut_noted : (o : Opening) (past : List FrameEntry) (e : FrameInput) (landed said_nothing : Bool) (new : ClientNode)
+    → said_nothing ≡ (is_up o past && is_blank (words_noted o (packets_heard o past)))
+    → ((said_nothing ≡ true) × (landed ≡ true)) ⊎ (said_nothing ≡ false) → powers.IsCutWithin (client_kind note_of o) past landed e new
+    → CutsIn (client_nodes o) past landed e new (Ok tt)
+cut_noted o past e true said_nothing new is either c = cut_saved o past e new c
+cut_noted o past e false said_nothing new is (inl h) c = absurd (never false h.1 refl)
+cut_noted o past e false said_nothing new is (inr h) c =
+    cut_written o past e new (written_still (is_up o past) (is_blank (words_noted o (packets_heard o past))) c.on (sym is ∙ h)) c
+
+still_on : (o : Opening) (past : List FrameEntry) (node : ClientNode) → powers.Stands (client_kind note_of o) past node → is_up o past ≡ true → Stands o past node
+still_on o past (On core) s up = (s, up)
+still_on o past (Off notes) s up = absurd (never (is_up o past) up s.1)
+still_on o past Lent s up = s
+
+none_failed : (o : Opening) (node : ClientNode) → (powers.note_of (client_kind note_of o) node).failures ≡ 0
+none_failed o (On core) = refl
+none_failed o (Off notes) = refl
+none_failed o Lent = refl
+
+-- It wasn't cut.
+pub uncut : (o : Opening) (past : List FrameEntry) (landed : Bool) (e : FrameInput) (fault : Fault) (old new : ClientNode) → Stands o past old
+    → powers.CutsIn (client_kind note_of o) past landed e old new (Err fault) → CutsIn (client_nodes o) past landed e new (Err fault)
+uncut o past landed e NodeOff old new s c = (c.0, subst (Stands o past) (sym c.1) s)
+uncut o past landed e faults.NoSave old new s c = (c.0, c.1, subst (Stands o past) (sym c.2) s)
+uncut o past landed e NoMemory old new s c = (c.0, still_on o past new c.2 c.0)
+uncut o past landed e _ old new s c = absurd (omega (arith, c.2.cause, none_failed o new))

@@ -5,9 +5,9 @@ use Rattle.fc_base.specs.declared.fault.Fault.TheVariants.{FrameBadField, NodeOf
 use Rattle.fc_base.specs.declared.fault.FaultSort.{FaultSort}
 use Rattle.fc_base.specs.declared.fault.FaultSort.TheVariants as sorts
 use Rattle.fc_base.specs.Fault.{sort_of}
-use Rattle.disk_model.specs.declared.left.Left.{Left}
-use Rattle.disk_model.specs.declared.left.Left.TheVariants.{NoSave}
-use Rattle.disk_model.specs.Left.{saved_for}
+use Rattle.disk_model.specs.declared.save_outcome.SaveOutcome.{SaveOutcome}
+use Rattle.disk_model.specs.declared.save_outcome.SaveOutcome.TheVariants.{NoSave}
+use Rattle.disk_model.specs.SaveOutcome.{saved_for}
 use Rattle.messages.specs.declared.packet.PacketParts.{PacketParts}
 use Rattle.messages.specs.declared.frame.Frame.{Frame}
 use Rattle.messages.specs.declared.node.Node.TheVariants.{Client}
@@ -42,7 +42,7 @@ use Rattle.net_world.proofs.AskEndsLemmas.{told_is}
 
 -- ---- a frame
 
-come : Frame → Left → Outcome
+come : Frame → SaveOutcome → Outcome
 come f left = Does (Met (OfClient (Comes f left)))
 
 says_here : (w : Setup) (t : List Step) (f : Frame) (p : PacketParts) → words.refusal (client_opening w) (of_client w t) (inputs.Deliver p) ≡ None

@@ -2,7 +2,7 @@
 use Rattle.std.proofs.Common.{◌≡◌, refl, sym, ◌∙◌, ap, List, [], ◌∷◌}
 use Rattle.std.specs.Prelude.{map}
 use Rattle.messages.specs.Hearing.{Heard, Coming, Comes, Happens, entry_of, rows_of, with_entry, heard, frames_by}
-use Rattle.disk_model.specs.declared.left.Left.{Left}
+use Rattle.disk_model.specs.declared.save_outcome.SaveOutcome.{SaveOutcome}
 use Rattle.client_core.specs.Inputs as inputs
 use Rattle.client_core.specs.History as client
 use Rattle.client_core.specs.Hearing as hearing
@@ -17,10 +17,10 @@ use Rattle.net_world.specs.Changes.{Change, steps, trace}
 use Rattle.net_world.proofs.HearingLemmas.{nodes_hear_their_own}
 
 -- What is heard with one more.
-next : Setup → Heard client.Entry → Coming client.Entry Left → Heard client.Entry
+next : Setup → Heard client.Entry → Coming client.Entry SaveOutcome → Heard client.Entry
 next w h c = record { entries = with_entry (entry_of (at_client w) h c) h.entries; rows = rows_of (at_client w) h c }
 
-entry_same : (w : Setup) (h : Heard client.Entry) (c : Coming client.Entry Left)
+entry_same : (w : Setup) (h : Heard client.Entry) (c : Coming client.Entry SaveOutcome)
     → entry_of (at_client w) h (coming_of (client_frame_entry c)) ≡ entry_of (at_client w) h c
 entry_same w h (Comes f left) = refl
 entry_same w h (Happens (client.Met (inputs.Begin text) left)) = refl
@@ -34,7 +34,7 @@ entry_same w h (Happens (client.Restart mirror)) = refl
 entry_same w h (Happens (client.Renew g left)) = refl
 entry_same w h (Happens client.Lose) = refl
 
-next_same : (w : Setup) (h : Heard client.Entry) (c : Coming client.Entry Left) → next w h (coming_of (client_frame_entry c)) ≡ next w h c
+next_same : (w : Setup) (h : Heard client.Entry) (c : Coming client.Entry SaveOutcome) → next w h (coming_of (client_frame_entry c)) ≡ next w h c
 unfolding next
 next_same w h (Comes f left) = refl
 next_same w h (Happens (client.Met (inputs.Begin text) left)) = refl
@@ -48,7 +48,7 @@ next_same w h (Happens (client.Restart mirror)) = refl
 next_same w h (Happens (client.Renew g left)) = refl
 next_same w h (Happens client.Lose) = refl
 
-pub hears_same : (w : Setup) (list : List (Coming client.Entry Left))
+pub hears_same : (w : Setup) (list : List (Coming client.Entry SaveOutcome))
     → heard (at_client w) (map coming_of (map client_frame_entry list)) ≡ heard (at_client w) list
 unfolding next
 hears_same w [] = refl
@@ -60,7 +60,7 @@ heard_is w past =
     ap (λ (h : Heard client.Entry). h.entries) (hears_same w (of_client w (steps past))) ∙ sym (nodes_hear_their_own w (steps past)).client
 
 -- The frames of what happens are those of its step.
-sends_same : (w : Setup) (t : List FrameStep) (c : Coming client.Entry Left)
+sends_same : (w : Setup) (t : List FrameStep) (c : Coming client.Entry SaveOutcome)
     → answers.frames (client_opening w) (client_entries w t) (client_frame_entry c) ≡ frames_of_step w t (OfClient c)
 sends_same w t c =
     let same = hears_same w (of_client w t) in

@@ -15,8 +15,8 @@ use Rattle.messages.specs.declared.body.Body.{Body}
 use Rattle.messages.specs.declared.body.Body.TheVariants as bodies
 use Rattle.messages.specs.declared.node.Node.TheVariants.{Server}
 use Rattle.client_core.specs.declared.note.ClientNote.{ClientNote}
-use Rattle.state_table.specs.Kept.{kept_of}
-use Rattle.state_table.specs.Laws.{FoundHasItsKey}
+use Rattle.verify_state.specs.StateTable.{kept_of}
+use Rattle.verify_state.specs.TableLaws.{FoundHasItsKey}
 use Rattle.client_core.specs.Refusals.{is_for_client, differs, lacks_room, faults_of_body}
 use Rattle.client_core.specs.Words.{is_on, words_noted, peers}
 use Rattle.mirror_core.specs.declared.note.MirrorNote.{MirrorNote}

@@ -8,7 +8,7 @@ use Rattle.fc_base.specs.NumberLaws.{has_push}
 use Rattle.fc_base.specs.declared.numbers.Key.{Key}
 use Rattle.fc_base.specs.declared.record.JobParts.{JobParts}
 use Rattle.write_order.specs.Blocks.{block_of}
-use Rattle.window.specs.History as window
+use Rattle.engine.specs.History as window
 use Rattle.engine.specs.Legal.{IsLegal}
 use Rattle.net_world.specs.Honest.{HoldsWrite, HasAllSectors}
 use Rattle.net_world.proofs.GroundLemmas.{Ground}

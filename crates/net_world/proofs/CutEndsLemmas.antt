@@ -6,8 +6,8 @@ use Rattle.std.specs.Option.{option_map}
 use Rattle.std.proofs.lemmas.Bool.{false≢true}
 use Rattle.fc_base.specs.declared.fault.Fault.{Fault}
 use Rattle.fc_base.specs.declared.fault.Fault.TheVariants.{NoMemory, NodeOff, NodeOn, NoSave}
-use Rattle.disk_model.specs.declared.left.Left.{Left}
-use Rattle.disk_model.specs.Left.{is_lost}
+use Rattle.disk_model.specs.declared.save_outcome.SaveOutcome.{SaveOutcome}
+use Rattle.disk_model.specs.SaveOutcome.{is_lost}
 use Rattle.messages.specs.declared.frame.Frame.{Frame}
 use Rattle.messages.specs.declared.frame.Frame.TheVariants.{Whole, Piece}
 use Rattle.messages.specs.declared.packet.PacketParts.{PacketParts}
@@ -63,22 +63,22 @@ lost_sends : (me : ℕ) (b : Bool) (x : Option Fault) (bodies : List Body) → b
 lost_sends me b None bodies h = ap (λ t. flat_map frames_of (to_client me (if t then [] else bodies))) h
 lost_sends me b (Some fault) bodies h = refl
 
-event_silent : (o : Opening) (list : List server.Entry) (e : PacketInput) (left : Left) → is_lost left ≡ true
+event_silent : (o : Opening) (list : List server.Entry) (e : PacketInput) (left : SaveOutcome) → is_lost left ≡ true
     → frames_by (answers.packets o) list (Some (server.Met e left)) ≡ []
 event_silent o list e left h = lost_sends o.me (is_lost left) (answers.refusal o list e) (replies (answers.now o list) (request_of o.me e)) h
 
-meaning_silent : (o : Opening) (list : List server.Entry) (m : Meaning) (left : Left) → is_lost left ≡ true
+meaning_silent : (o : Opening) (list : List server.Entry) (m : Meaning) (left : SaveOutcome) → is_lost left ≡ true
     → frames_by (answers.packets o) list (heard_by (rules o) left m) ≡ []
 meaning_silent o list (Says p) left h = event_silent o list (inputs.Deliver p) left h
 meaning_silent o list Waits left h = refl
 meaning_silent o list Spoils left h = refl
 meaning_silent o list Strays left h = refl
 
-silent : (o : Opening) (past : List FrameEntry) (f : Frame) (left : Left) → is_lost left ≡ true
+silent : (o : Opening) (past : List FrameEntry) (f : Frame) (left : SaveOutcome) → is_lost left ≡ true
     → framed.frames o past (hearing.Met (inputs.Deliver f) left) ≡ []
 silent o past f left h = meaning_silent o (packets_heard o past) (meaning (rules o) (heard_at o past) f) left h
 
-asks_nothing : (t : List Step) (s : ℕ) (e : PacketInput) (left : Left) → is_lost left ≡ true → act_of t (Some (AtServer s (server.Met e left))) ≡ acts.None
+asks_nothing : (t : List Step) (s : ℕ) (e : PacketInput) (left : SaveOutcome) → is_lost left ≡ true → act_of t (Some (AtServer s (server.Met e left))) ≡ acts.None
 asks_nothing t s e left h = ap (λ b. if b then acts.None else answers.act (opening_of s) (of_server s t) e) h
 
 -- ---- a frame
@@ -135,7 +135,7 @@ cut_brings : (w : Setup) (past : List Change) (number : ℕ) (landed : Bool) (f 
     → cut_in w past landed (Deliver number) ≡ server_frame_cut (trace w past) s landed f (said_to_server (steps past) s f)
 cut_brings w past number landed f s g = ap (delivery_cut_in w past landed) g.is_sent ∙ ap (λ node. frame_cut w past landed node f) g.goes_to
 
-act_silent : (w : Setup) (past : List Change) (s : ℕ) (f : Frame) (left : Left) → is_lost left ≡ true
+act_silent : (w : Setup) (past : List Change) (s : ℕ) (f : Frame) (left : SaveOutcome) → is_lost left ≡ true
     → act w past (Met (step_of s (hearing.Met (inputs.Deliver f) left))) ≡ acts.None
 act_silent w past s (Whole p) left h = asks_nothing (trace w past) s (inputs.Deliver p) left h
 act_silent w past s (Piece q) left h =

@@ -19,7 +19,7 @@ use Rattle.server_core.specs.declared.input.WriteEnd.TheVariants as write_ends
 use Rattle.server_core.specs.Hearing.{packets_heard}
 use Rattle.server_core.specs.FrameAnswers.{sense}
 use Rattle.server_core.specs.Answers as answers
-use Rattle.net_world.specs.declared.served.Served.{Served}
+use Rattle.net_world.specs.declared.sent_reply.SentReply.{SentReply}
 use Rattle.net_world.specs.declared.told.WorldAnswer.{WorldAnswer}
 use Rattle.net_world.specs.declared.told.WorldAnswer.TheVariants as answers_told
 use Rattle.net_world.specs.declared.told.Told.{Told}
@@ -96,15 +96,15 @@ no_answer false x landed = refl
 -- What happens comes to the server as this, and is barred as all that asks for the server to be on.
 pub record ComesTo (w : Setup) (past : List Change) (s : ℕ) (e : Happening) (i : FrameInput) : Type 0 where
   pub bar : barring_fault w (trace w past) (frames_sent w (steps past)) e ≡ unless_on w (trace w past) (nodes.Server s)
-  pub ok : (served : Served) (new : World) → Serves w past s i new served → brings w past e ≡ Does (Met (step_by past s i))
+  pub ok : (served : SentReply) (new : World) → Serves w past s i new served → brings w past e ≡ Does (Met (step_by past s i))
   pub err : (fault : Fault) (new : World) → ServerRefuses w past s i fault new → brings w past e ≡ Refuses fault
   pub keeps : is_drop (sense (opening_of s) (entries past s) i) ≡ false
 
-same_told : (served : Served) (a b : WorldAnswer) (first sent : ℕ) (asked : Act) → a ≡ b → served.first ≡ first → served.sent ≡ sent → served.act ≡ asked
+same_told : (served : SentReply) (a b : WorldAnswer) (first sent : ℕ) (asked : Act) → a ≡ b → served.first ≡ first → served.sent ≡ sent → served.act ≡ asked
     → told_of served a ≡ record { answer = b; first = first; sent = sent; act = asked }
 same_told served a b first sent asked e f k x = rw (e, f, k, x) refl
 
-told_is : (w : Setup) (past : List Change) (s : ℕ) (e : Happening) (i : FrameInput) (served : Served) (a : WorldAnswer) (new : World) → Serves w past s i new served
+told_is : (w : Setup) (past : List Change) (s : ℕ) (e : Happening) (i : FrameInput) (served : SentReply) (a : WorldAnswer) (new : World) → Serves w past s i new served
     → a ≡ answer w past e
     → told_by w past e (Does (Met (step_by past s i))) ≡ Ok (told_of served a)
 told_is w past s e i served a new h is =
@@ -113,7 +113,7 @@ told_is w past s e i served a new h is =
     (act w past (Met (step_by past s i))) is h.first_is h.sent_is (h.act_is ∙ sym (act_is w past s i))))
 
 -- What is answered.
-pub served_ends : (w : Setup) (past : List Change) (s : ℕ) (e : Happening) (i : FrameInput) (served : Served) (a : WorldAnswer) (t : Told) (new : World)
+pub served_ends : (w : Setup) (past : List Change) (s : ℕ) (e : Happening) (i : FrameInput) (served : SentReply) (a : WorldAnswer) (t : Told) (new : World)
     → ComesTo w past s e i → Serves w past s i new served → a ≡ answer w past e
     → t ≡ told_of served a → Ends w past e new (Ok t)
 served_ends w past s e i served a t new c h is tells =
@@ -156,14 +156,14 @@ issue_comes w past s j e m = record {
 
 -- ---- a worker asks for a write
 
-issue_answer : (w : Setup) (past : List Change) (s j : ℕ) (served : Served) (new : World) → Serves w past s (inputs.Issue j) new served
+issue_answer : (w : Setup) (past : List Change) (s j : ℕ) (served : SentReply) (new : World) → Serves w past s (inputs.Issue j) new served
     → answer_of_issue served.issue ≡ answer w past (happenings.Issue s j)
 issue_answer w past s j served new h = ap answer_of_issue (h.issue_is ∙ ap (λ list. answers.issue (opening_of s) list (inputs.Issue j)) (heard_is w past s))
 
 asks : (w : Setup) (past : List Change) (s j : ℕ) → Meets w past s (happenings.Issue s j) (inputs.Issue j)
 asks w past s j = record { bar = refl; meets = refl }
 
-pub issue_ends : (w : Setup) (past : List Change) (s j : ℕ) (served : Served) (t : Told) (new : World) → ServerEnds w past s (inputs.Issue j) new (Ok served)
+pub issue_ends : (w : Setup) (past : List Change) (s j : ℕ) (served : SentReply) (t : Told) (new : World) → ServerEnds w past s (inputs.Issue j) new (Ok served)
     → t ≡ issue_told served → Ends w past (happenings.Issue s j) new (Ok t)
 issue_ends w past s j served t new h tells =
     served_ends w past s (happenings.Issue s j) (inputs.Issue j) served (answer_of_issue served.issue) t new
@@ -205,7 +205,7 @@ ended_comes w past s j k end ticket rec h =
       keeps = refl;
     }
 
-pub end_ends : (w : Setup) (past : List Change) (s j k : ℕ) (end : WriteEnd) (ticket : Ticket) (rec : JobParts) (served : Served) (t : Told) (new : World)
+pub end_ends : (w : Setup) (past : List Change) (s j k : ℕ) (end : WriteEnd) (ticket : Ticket) (rec : JobParts) (served : SentReply) (t : Told) (new : World)
     → IsOpen w past s j k ticket rec
     → ServerEnds w past s (inputs.WriteDone ticket end) new (Ok served) → t ≡ told_of served answers_told.Plain
     → Ends w past (happening_of_end end s j k) new (Ok t)
@@ -240,7 +240,7 @@ frame_comes : (w : Setup) (past : List Change) (number : ℕ) (f : Frame) (s : �
     → brings w past (happenings.Deliver number) ≡ comes_to_server (trace w past) s f (said_to_server (steps past) s f)
 frame_comes w past number f s g = ap (delivery w past) g.is_sent ∙ ap (λ node. comes_to w past node f) g.goes_to
 
-pub delivery_ends : (w : Setup) (past : List Change) (number : ℕ) (f : Frame) (s : ℕ) (served : Served) (t : Told) (new : World)
+pub delivery_ends : (w : Setup) (past : List Change) (number : ℕ) (f : Frame) (s : ℕ) (served : SentReply) (t : Told) (new : World)
     → GoesTo w past number f (nodes.Server s) → ServerEnds w past s (inputs.Deliver f) new (Ok served)
     → t ≡ told_of served answers_told.Plain → Ends w past (happenings.Deliver number) new (Ok t)
 delivery_ends w past number f s served t new g h tells =

@@ -11,7 +11,7 @@ use Rattle.fc_base.specs.declared.record.JobParts.{JobParts}
 use Rattle.write_order.specs.Blocks.{block_of}
 use Rattle.write_order.specs.Stamps.{bytes_of}
 use Rattle.disk_model.specs.File.{File, IsBlock, block_bytes, has_bit}
-use Rattle.window.specs.History.{Event, failures, issued, is_done, in_flight, open_writes}
+use Rattle.engine.specs.History.{Event, failures, issued, is_done, in_flight, open_writes}
 use Rattle.engine.specs.Legal.{IsLegal}
 use Rattle.net_world.specs.Contents.{with_block}
 use Rattle.net_world.specs.Honest.{HoldsWrite, HasAllSectors}

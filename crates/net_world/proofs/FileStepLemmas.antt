@@ -10,7 +10,7 @@ use Rattle.disk_model.specs.File.{File, put}
 use Rattle.disk_model.specs.MemDisk.{file_of}
 use Rattle.disk_model.specs.declared.mem_disk.MemDisk.{MemDisk}
 use Rattle.messages.specs.FrameBytes.{frame_spelling}
-use Rattle.net_world.specs.declared.mirror_node.Mirrored.{Mirrored}
+use Rattle.net_world.specs.declared.mirror_node.MirrorSlot.{MirrorSlot}
 use Rattle.net_world.specs.ServerNodes.{ServerNode}
 use Rattle.net_world.specs.declared.told.Told.{Told}
 use Rattle.net_world.specs.declared.world.World.{World}
@@ -108,10 +108,10 @@ file_changed w past s j change held disk old new stands wrote f is = record {
       (subst (λ x. clients.Stands (client_opening w) (client_entries w (steps past)) x) (sym wrote.client_is) stands.client_is);
   mirror_is =
       subst (λ t. IsMirror w (of_mirror t) new.mirror.node) (sym f.steps_are)
-      (subst (λ (m : Mirrored). IsMirror w (of_mirror (steps past)) m.node) (sym wrote.mirror_is) stands.mirror_is);
+      (subst (λ (m : MirrorSlot). IsMirror w (of_mirror (steps past)) m.node) (sym wrote.mirror_is) stands.mirror_is);
   greatest_is =
       subst (λ t. IsGreatest new.mirror.greatest (handed_in (client_entries w t))) (sym f.steps_are)
-      (subst (λ (m : Mirrored). IsGreatest m.greatest (handed_in (client_entries w (steps past)))) (sym wrote.mirror_is) stands.greatest_is);
+      (subst (λ (m : MirrorSlot). IsGreatest m.greatest (handed_in (client_entries w (steps past)))) (sym wrote.mirror_is) stands.greatest_is);
   files = ap (λ (xs : List MemDisk). length xs) wrote.set_is ∙ length-set old.files.items wrote.place disk ∙ stands.files;
   files_are = λ t i x l at. each_file w past s j change held disk old new stands wrote f is t i x l at (is_file s j t i) refl;
 }
@@ -225,8 +225,8 @@ file_kept w past s j disk old new stands wrote is = record {
   sent_is = wrote.sent_is ∙ stands.sent_is;
   servers_are = λ r node at. stands.servers_are r node (ap (λ (v : Vec ServerNode Global). slice_get v.items r) (sym wrote.servers_are) ∙ at);
   client_is = subst (λ x. clients.Stands (client_opening w) (client_entries w (steps past)) x) (sym wrote.client_is) stands.client_is;
-  mirror_is = subst (λ (m : Mirrored). IsMirror w (of_mirror (steps past)) m.node) (sym wrote.mirror_is) stands.mirror_is;
-  greatest_is = subst (λ (m : Mirrored). IsGreatest m.greatest (handed_in (client_entries w (steps past)))) (sym wrote.mirror_is) stands.greatest_is;
+  mirror_is = subst (λ (m : MirrorSlot). IsMirror w (of_mirror (steps past)) m.node) (sym wrote.mirror_is) stands.mirror_is;
+  greatest_is = subst (λ (m : MirrorSlot). IsGreatest m.greatest (handed_in (client_entries w (steps past)))) (sym wrote.mirror_is) stands.greatest_is;
   files = ap (λ (xs : List MemDisk). length xs) wrote.set_is ∙ length-set old.files.items wrote.place disk ∙ stands.files;
   files_are = λ t i x l at. same_by w past s j disk old new stands wrote is t i x l at (is_file s j t i) refl;
 }

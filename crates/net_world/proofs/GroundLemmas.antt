@@ -7,7 +7,7 @@ use Rattle.job_file.specs.declared.job.Job.{Job}
 use Rattle.write_order.specs.Laws.{WritesFillTheirBlocks, WritesStayInTheRegion}
 use Rattle.disk_model.specs.Laws.{LandsWhole, KeepsOtherBlocks}
 use Rattle.fc_base.proofs.ListLemmas.{each_of}
-use Rattle.window.specs.Sets.{InFlightIsNotDone, OpenIsNotFailed, DoneWasIssued}
+use Rattle.engine.specs.Sets.{InFlightIsNotDone, OpenIsNotFailed, DoneWasIssued}
 use Rattle.engine.specs.Legal.{IsLegal}
 use Rattle.engine.specs.Laws.{StatesCountTheDone, LaterWaits}
 use Rattle.server_core.specs.History.{Opening, Entry}

@@ -8,7 +8,7 @@ use Rattle.std.proofs.lemmas.List.Concat.{flat_map-append}
 use Rattle.messages.specs.declared.packet.PacketParts.{PacketParts}
 use Rattle.messages.specs.Pieces.{frames_of}
 use Rattle.messages.specs.Hearing.{Coming, entry_of, with_entry, heard, frames_by}
-use Rattle.disk_model.specs.declared.left.Left.{Left}
+use Rattle.disk_model.specs.declared.save_outcome.SaveOutcome.{SaveOutcome}
 use Rattle.server_core.specs.History as server
 use Rattle.server_core.specs.Answers as servers
 use Rattle.client_core.specs.History as client
@@ -46,7 +46,7 @@ pub client_by_server : (w : Setup) (r : ℕ) (x : Option server.Entry) (t : List
 client_by_server w r None t = refl
 client_by_server w r (Some e) t = refl
 
-server_if : (s r : ℕ) (b : Bool) → (b ≡ true → r ≡ s) → (c : Coming server.Entry Left) (past : List FrameStep) (list : List server.Entry)
+server_if : (s r : ℕ) (b : Bool) → (b ≡ true → r ≡ s) → (c : Coming server.Entry SaveOutcome) (past : List FrameStep) (list : List server.Entry)
     → list ≡ (heard (at_server s) (of_server s past)).entries
     → (if b then with_entry (entry_of (at_server r) (heard (at_server r) (of_server r past)) c) list else list)
     ≡ (heard (at_server s) (if b then c ∷ of_server s past else of_server s past)).entries

@@ -7,14 +7,14 @@ use Rattle.fc_base.specs.declared.record.JobParts.{JobParts}
 use Rattle.job_file.specs.declared.job.Job.{Job}
 use Rattle.messages.specs.declared.body.Body.{Body}
 use Rattle.messages.specs.declared.body.Body.TheVariants as bodies
-use Rattle.window.specs.History as window
+use Rattle.engine.specs.History as window
 use Rattle.engine.specs.Running.{Origin}
 use Rattle.engine.specs.declared.issue.Ticket.{Ticket}
 use Rattle.server_core.specs.Inputs.{PacketInput}
 use Rattle.server_core.specs.declared.input.Input.TheVariants.{Deliver, Issue as Issues, WriteDone, CheckDone}
 use Rattle.server_core.specs.declared.input.WriteEnd.{WriteEnd}
 use Rattle.server_core.specs.declared.input.WriteEnd.TheVariants.{Done, Failed}
-use Rattle.disk_model.specs.declared.left.Left.{Left}
+use Rattle.disk_model.specs.declared.save_outcome.SaveOutcome.{SaveOutcome}
 use Rattle.disk_model.specs.File.{put}
 use Rattle.fc_base.proofs.ListLemmas.{none_in}
 use Rattle.server_core.specs.History.{Entry, Met, Cut, Restart}
@@ -64,7 +64,7 @@ pub only_is : (j i : ℕ) (held : ℕ → List ℕ) → i ≡ j → only j held 
 only_is j i held same = ap (λ b. if b then held else λ sector. []) (eq-eqb i j same)
 
 -- What an honest disk has is what the server is told.
-tells : (w : Setup) (s j : ℕ) (past : List Change) (e : PacketInput) (left : Left) → IsInFile w s j past (OfServer s (Happens (Met e left)))
+tells : (w : Setup) (s j : ℕ) (past : List Change) (e : PacketInput) (left : SaveOutcome) → IsInFile w s j past (OfServer s (Happens (Met e left)))
     → TellsAt (λ i. i ≡ j) (opening_of s) (only j (content w past s j)) (of_server s (trace w past)) e
 tells w s j past (WriteDone given Done) left honest = λ now is i job has_job ticket told key is_open own.
     let same : given ≡ ticket = the_ticket given ticket Done Done told in
@@ -174,7 +174,7 @@ lands_only May w s j i past old new false is l = Same refl
 -- ---- a frame comes to this server
 
 -- No frame tells that a write is done.
-comes_none : {P : Notion} {May : ℕ → JobParts → Type 0} → Ground → Survives Always May P → (w : Setup) (s j : ℕ) (past : List Change) (left : Left) (m : Meaning)
+comes_none : {P : Notion} {May : ℕ → JobParts → Type 0} → Ground → Survives Always May P → (w : Setup) (s j : ℕ) (past : List Change) (left : SaveOutcome) (m : Meaning)
     → KeptAt P w s j past (of_server s (trace w past)) → KeptAt P w s j past (with_entry (heard_by (at_server s) left m) (of_server s (trace w past)))
 comes_none laws v w s j past left (Says p) k = kept_entry laws v w s j past (Met (Deliver p) left) tt k
 comes_none laws v w s j past left Waits k = k
@@ -182,7 +182,7 @@ comes_none laws v w s j past left Spoils k = k
 comes_none laws v w s j past left Strays k = k
 
 comes_step : {P : Notion} {May : ℕ → JobParts → Type 0} → Ground → Survives Always May P
-    → (w : Setup) (s r j : ℕ) (past : List Change) (left : Left) (m : Meaning) (t : Bool) → (t ≡ true → r ≡ s) → KeptAt P w s j past (of_server s (trace w past))
+    → (w : Setup) (s r j : ℕ) (past : List Change) (left : SaveOutcome) (m : Meaning) (t : Bool) → (t ≡ true → r ≡ s) → KeptAt P w s j past (of_server s (trace w past))
     → KeptAt P w s j past (if t then with_entry (heard_by (at_server r) left m) (of_server s (trace w past)) else of_server s (trace w past))
 comes_step {P} laws v w s r j past left m true same k =
     subst (λ i. KeptAt P w s j past (with_entry (heard_by (at_server i) left m) (of_server s (trace w past)))) (sym (same refl))

@@ -8,7 +8,7 @@ use Rattle.job_file.specs.declared.job.Job.{Job}
 use Rattle.write_order.specs.Blocks.{block_of}
 use Rattle.write_order.specs.Stamps.{bytes_of}
 use Rattle.verify_state.specs.State.{State}
-use Rattle.window.specs.History as window
+use Rattle.engine.specs.History as window
 use Rattle.server_core.specs.History.{Opening, Entry}
 use Rattle.server_core.specs.Run.{Work, origin_of, history}
 use Rattle.server_core.specs.Words.{last_run, work}

@@ -6,7 +6,7 @@ use Rattle.fc_base.specs.NumberLaws.{has_push}
 use Rattle.fc_base.specs.declared.numbers.Key.{Key}
 use Rattle.fc_base.specs.declared.record.JobParts.{JobParts}
 use Rattle.write_order.specs.Blocks.{block_of}
-use Rattle.window.specs.History as window
+use Rattle.engine.specs.History as window
 use Rattle.net_world.specs.Honest.{HoldsWrite}
 use Rattle.net_world.proofs.GroundLemmas.{Ground}
 use Rattle.net_world.proofs.FileLemmas.{opened, goes_elsewhere, holds_on}

@@ -19,6 +19,7 @@ pub mod ClientFrameLemmas
 pub mod ClientHeardLemmas
 pub mod ClientNodeLemmas
 pub mod ClientPowerLemmas
+mod ClientStepLemmas
 pub mod ClientPlainLemmas
 pub mod ConflictLemmas
 pub mod TextLemmas

@@ -10,7 +10,7 @@ use Rattle.fc_base.specs.declared.fault.Fault.{Fault}
 use Rattle.fc_base.specs.NumberLaws.{has_push}
 use Rattle.job_file.specs.declared.job.Job.{Job}
 use Rattle.verify_state.specs.State.{State}
-use Rattle.window.specs.History as window
+use Rattle.engine.specs.History as window
 use Rattle.engine.specs.Running.{Origin}
 use Rattle.engine.specs.Answers.{ticket_answer}
 use Rattle.engine.specs.Legal.{IsLegal}
@@ -18,8 +18,8 @@ use Rattle.engine.specs.Laws.{StatesCountTheDone}
 use Rattle.server_core.specs.Inputs.{PacketInput}
 use Rattle.server_core.specs.declared.input.WriteEnd.{WriteEnd}
 use Rattle.server_core.specs.declared.input.WriteEnd.TheVariants.{Done, Failed}
-use Rattle.disk_model.specs.declared.left.Left.{Left}
-use Rattle.disk_model.specs.declared.left.Left.TheVariants.{NoSave, Saved, LostNew, LostOld}
+use Rattle.disk_model.specs.declared.save_outcome.SaveOutcome.{SaveOutcome}
+use Rattle.disk_model.specs.declared.save_outcome.SaveOutcome.TheVariants.{NoSave, Saved, LostNew, LostOld}
 use Rattle.fc_base.proofs.ListLemmas.{only_in}
 use Rattle.server_core.specs.History.{Opening, Entry, Met, Cut, Restart}
 use Rattle.server_core.specs.Request.{Request, ToStage, ToStart, ToTrigger, ToMark, ToStop, ToVerify}
@@ -242,7 +242,7 @@ below starts o run j list e s state t between past is d same =
 the_rest : {x y : Entry} {xs ys : List Entry} → x ∷ xs ≡ y ∷ ys → xs ≡ ys
 the_rest h = cc
 
-split_at : StartsOnce → (o : Opening) (run j : ℕ) (e : PacketInput) (left : Left) (past : List Entry) (s : Staged) (state : State)
+split_at : StartsOnce → (o : Opening) (run j : ℕ) (e : PacketInput) (left : SaveOutcome) (past : List Entry) (s : Staged) (state : State)
     (t : IsTaking o run j (Met e left ∷ past) state) (newer : List Entry)
     → t.newer ≡ newer → due o past e ≡ Some s → s.run ≡ run → ⊥
 split_at starts o run j e left past s state t [] is d same =
@@ -255,7 +255,7 @@ split_at starts o run j e left past s state t (n ∷ newer) is d same =
     below starts o run j (Met e left ∷ past) e s state t (newer ++ Met t.trigger t.left ∷ t.between) past
     (the_rest whole ∙ sym (append_assoc newer (Met t.trigger t.left ∷ t.between) (Met t.start Saved ∷ t.older))) d same
 
-pub none_taken_yet : Ground → (o : Opening) (j : ℕ) (e : PacketInput) (left : Left) (past : List Entry) (s : Staged) (state : State) → due o past e ≡ Some s
+pub none_taken_yet : Ground → (o : Opening) (j : ℕ) (e : PacketInput) (left : SaveOutcome) (past : List Entry) (s : Staged) (state : State) → due o past e ≡ Some s
     → Contains (takings o s.run j (Met e left ∷ past)) state → ⊥
 none_taken_yet laws o j e left past s state d h =
     let t = laws.takings o s.run j (Met e left ∷ past) state h in
@@ -266,7 +266,7 @@ abbrev pub Linked : Opening → List Entry → Option Work → Type 0
 Linked o list None = Unit {0}
 Linked o list (Some w) = (j : ℕ) (state : State) → Contains (takings o w.run j list) state → LinkOf w j state
 
-linked_on : Ground → (o : Opening) (e : PacketInput) (left : Left) (past : List Entry) (x : Option Work) → work o past ≡ x → Linked o past x
+linked_on : Ground → (o : Opening) (e : PacketInput) (left : SaveOutcome) (past : List Entry) (x : Option Work) → work o past ≡ x → Linked o past x
     → Linked o (Met e left ∷ past) (goes_on (request_of o.me e) x)
 linked_on laws o e left past None is l = tt
 linked_on laws o e left past (Some w) is l = λ j state c.
@@ -276,7 +276,7 @@ linked_on laws o e left past (Some w) is l = λ j state c.
       | inr before ↦ link_later (request_of o.me e) w j state (l j state before)
     ]
 
-linked_after : Ground → (o : Opening) (e : PacketInput) (left : Left) (past : List Entry) (d : Option Staged) (x : Option Work) → due o past e ≡ d → work o past ≡ x
+linked_after : Ground → (o : Opening) (e : PacketInput) (left : SaveOutcome) (past : List Entry) (d : Option Staged) (x : Option Work) → due o past e ≡ d → work o past ≡ x
     → Linked o past x
     → Linked o (Met e left ∷ past) (work_after left d o.me (boot o past) (request_of o.me e) x)
 linked_after laws o e NoSave past d x a b l = linked_on laws o e NoSave past x b l

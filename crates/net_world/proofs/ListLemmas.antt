@@ -4,7 +4,7 @@ use Rattle.std.specs.Prelude.{Contains, if◌then◌else◌}
 use Rattle.fc_base.specs.declared.numbers.Key.{Key}
 use Rattle.fc_base.specs.Keys.{is_same_key}
 use Rattle.verify_state.specs.State.{State}
-use Rattle.state_table.specs.Kept.{kept_of}
+use Rattle.verify_state.specs.StateTable.{kept_of}
 use Rattle.fc_base.proofs.ListLemmas.{none_in, only_in, first_of, behind_one}
 
 -- Two that Some holds alike are the same.

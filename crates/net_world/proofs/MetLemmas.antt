@@ -9,7 +9,7 @@ use Rattle.messages.specs.FrameBytes.{frame_spelling}
 use Rattle.server_core.specs.declared.input.Input.TheVariants as inputs
 use Rattle.server_core.specs.Hearing as hearing
 use Rattle.server_core.specs.Hearing.{FrameEntry, coming_of}
-use Rattle.net_world.specs.declared.mirror_node.Mirrored.{Mirrored}
+use Rattle.net_world.specs.declared.mirror_node.MirrorSlot.{MirrorSlot}
 use Rattle.net_world.specs.ServerNodes.{ServerNode}
 use Rattle.net_world.specs.declared.world.World.{World}
 use Rattle.net_world.specs.Setup.{Setup}
@@ -147,8 +147,8 @@ server_stepped w past s e node sent old new stands h is node_is = record {
         each = stands.servers_are;
       });
   client_is = subst (λ c. clients.Stands (client_opening w) (client_entries w (steps past)) c) (sym h.client_is) stands.client_is;
-  mirror_is = subst (λ (m : Mirrored). IsMirror w (of_mirror (steps past)) m.node) (sym h.mirror_is) stands.mirror_is;
-  greatest_is = subst (λ (m : Mirrored). IsGreatest m.greatest (handed_in (client_entries w (steps past)))) (sym h.mirror_is) stands.greatest_is;
+  mirror_is = subst (λ (m : MirrorSlot). IsMirror w (of_mirror (steps past)) m.node) (sym h.mirror_is) stands.mirror_is;
+  greatest_is = subst (λ (m : MirrorSlot). IsGreatest m.greatest (handed_in (client_entries w (steps past)))) (sym h.mirror_is) stands.greatest_is;
   files = ap (λ fs. length fs.items) h.files_are ∙ stands.files;
   files_are = λ r j disk l at. stands.files_are r j disk l (ap (λ fs. slice_get fs.items (MAX_JOBS * r + j)) (sym h.files_are) ∙ at);
 }
@@ -165,8 +165,8 @@ server_kept w past s node old new stands h node_is = record {
       all_set s node old.servers.items new.servers.items (entries past) (entries past)
       (record { there = h.there; set_is = set_at s node [] old new h; node_is = node_is; others = λ r ne. refl; each = stands.servers_are });
   client_is = subst (λ c. clients.Stands (client_opening w) (client_entries w (steps past)) c) (sym h.client_is) stands.client_is;
-  mirror_is = subst (λ (m : Mirrored). IsMirror w (of_mirror (steps past)) m.node) (sym h.mirror_is) stands.mirror_is;
-  greatest_is = subst (λ (m : Mirrored). IsGreatest m.greatest (handed_in (client_entries w (steps past)))) (sym h.mirror_is) stands.greatest_is;
+  mirror_is = subst (λ (m : MirrorSlot). IsMirror w (of_mirror (steps past)) m.node) (sym h.mirror_is) stands.mirror_is;
+  greatest_is = subst (λ (m : MirrorSlot). IsGreatest m.greatest (handed_in (client_entries w (steps past)))) (sym h.mirror_is) stands.greatest_is;
   files = ap (λ fs. length fs.items) h.files_are ∙ stands.files;
   files_are = λ r j disk l at. stands.files_are r j disk l (ap (λ fs. slice_get fs.items (MAX_JOBS * r + j)) (sym h.files_are) ∙ at);
 }

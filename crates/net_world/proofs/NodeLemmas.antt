@@ -1,14 +1,15 @@
 -- A node of a world takes what comes as its list does, and loses its power within a save, whichever core it has.
-use Rattle.std.proofs.Common.{◌≡◌, refl, sym, ◌∙◌, subst, inl, inr, arith, Bool, true, false, ◌&&◌, List, ◌∷◌, Option, Some, None, Result, Ok, Err}
-use Rattle.std.specs.Prelude.{not, is_some}
+use Rattle.std.proofs.Common.{◌≡◌, refl, sym, subst, inl, inr, arith, Bool, true, false, ◌&&◌, List, ◌∷◌, Option, Some, None, Result, Ok, Err}
+use Rattle.std.specs.Prelude.{not}
 use Rattle.fc_base.specs.declared.fault.Fault.{Fault}
-use Rattle.fc_base.specs.declared.fault.Fault.TheVariants.{NodeOff}
+use Rattle.fc_base.specs.declared.fault.Fault.TheVariants.{NodeOff, NoMemory}
+use Rattle.fc_base.specs.declared.fault.Fault.TheVariants as faults
 use Rattle.fc_base.specs.declared.fault.FaultSort.{FaultSort}
 use Rattle.fc_base.specs.declared.fault.FaultSort.TheVariants as sorts
 use Rattle.fc_base.specs.Fault.{sort_of}
-use Rattle.disk_model.specs.declared.left.Left.{Left}
-use Rattle.disk_model.specs.declared.left.Left.TheVariants.{NoSave, LostNew, LostOld}
-use Rattle.disk_model.specs.Left.{saved_for, is_lost}
+use Rattle.disk_model.specs.declared.save_outcome.SaveOutcome.{SaveOutcome}
+use Rattle.disk_model.specs.declared.save_outcome.SaveOutcome.TheVariants.{NoSave}
+use Rattle.disk_model.specs.SaveOutcome.{saved_for, is_lost}
 use Rattle.node.specs.Steps as steps
 use Rattle.node.specs.Steps.{answered}
 use Rattle.node.specs.declared.power.Power.{Power}
@@ -35,7 +36,7 @@ never false h k = cc
 -- What holds of the nodes of this kind, in whose lists a cut is this entry: behind it a node is off, and notes say what they said.
 pub record Laws {C N E X D O : Type 0} (k : Kind C N E X D O) (cut : X) : Type 0 where
   pub fails_never : (core : C) → (k.core.note core).failures ≡ 0
-  pub stays_up : (past : List X) (e : E) (left : Left) → k.core.words.is_up past ≡ true → is_lost left ≡ false → k.core.words.is_up (k.core.words.met e left ∷ past) ≡ true
+  pub stays_up : (past : List X) (e : E) (left : SaveOutcome) → k.core.words.is_up past ≡ true → is_lost left ≡ false → k.core.words.is_up (k.core.words.met e left ∷ past) ≡ true
   pub off : (past : List X) → k.core.words.is_up (cut ∷ past) ≡ false
   pub says : (past : List X) (notes : N) → k.Says past notes → k.Says (cut ∷ past) notes
 
@@ -108,39 +109,37 @@ pub cut_stands : {C N E X D O : Type 0} (k : Kind C N E X D O) (cut : X) → Law
 cut_stands k cut l past old new (Ok t) s c = subst (Stands k (cut ∷ past)) (sym c.off) (l.says past c.notes c.left.says, l.off past)
 cut_stands k cut l past old new (Err fault) s (is, off, same) = subst (Stands k (cut ∷ past)) (sym same) (stays_off k cut l past old s off)
 
--- ---- a cut within a save
+-- ---- a step, and a cut within its save
 
--- The node is on and an input is due to make a save, so that it isn't refused; and what stands for the
--- list with a cut behind it, or before it, stands for it where its save was lost.
-pub record Saves {C N E X D O : Type 0} (k : Kind C N E X D O) (cut : X) (past : List X) (e : E) : Type 0 where
-  pub up : k.core.words.is_up past ≡ true
-  pub due : is_some (k.core.words.due past e) ≡ true
-  pub free : k.core.words.refusal past e ≡ None
-  pub new : (node : Power C N) → Stands k (cut ∷ answered k.core.words past e ∷ past) node → Stands k (k.core.words.met e LostNew ∷ past) node
-  pub old : (node : Power C N) → Stands k (cut ∷ past) node → Stands k (k.core.words.met e LostOld ∷ past) node
+-- A node ends as its core does, where it makes a step.
+pub took : {C N E X D O : Type 0} {cut : X} (k : Kind C N E X D O) → Laws k cut → (past : List X) (e : E) (old new : Power C N) (result : Result O Fault)
+    → Stands k past old → powers.Takes k past e old new result → Ends k past e new result
+took k l past e old new result s (inl step) =
+    subst (λ node. Ends k past e node result) (sym step.now) (ends k l past e step.before step.after result step.on step.ends)
+took k l past e old new result s (inr off) = rw (off.told, off.same) (off_ends k past e NodeOff old (refl, off.off) s)
 
--- It was cut as it was, or behind the save.
-pub cut_old : {C N E X D O : Type 0} (k : Kind C N E X D O) (cut : X) (past : List X) (e : E) (node : Power C N) → Saves k cut past e → Stands k (cut ∷ past) node
-    → CutsIn k past false e node (Ok tt)
-cut_old k cut past e node s h = (s.up, s.due, s.old node h)
+-- One that is on, and may have no power, stands as a node of a world does.
+strong : {C N E X D O : Type 0} (k : Kind C N E X D O) (past : List X) (node : Power C N) → powers.Stands k past node → k.core.words.is_up past ≡ true
+    → Stands k past node
+strong k past (On core) s up = (s, up)
+strong k past (Off notes) s up = s
+strong k past Lent s up = s
 
-pub cut_new : {C N E X D O : Type 0} (k : Kind C N E X D O) (cut : X) (past : List X) (e : E) (node : Power C N) → Saves k cut past e
-    → Stands k (cut ∷ answered k.core.words past e ∷ past) node → CutsIn k past true e node (Ok tt)
-cut_new k cut past e node s h = (s.up, s.due, s.new node h)
+-- The saves of a world never fail by themselves.
+pub record NeverFails {C N E X D O : Type 0} (k : Kind C N E X D O) : Type 0 where
+  pub core : (core : C) → (k.core.note core).failures ≡ 0
+  pub notes : (notes : N) → (k.note notes).failures ≡ 0
 
-some_none : (x : Option Fault) (fault : Fault) → x ≡ Some fault → x ≡ None → ⊥
-some_none x fault h k = let e = sym h ∙ k in cc
+none_failed : {C N E X D O : Type 0} (k : Kind C N E X D O) → NeverFails k → (node : Power C N) → (powers.note_of k node).failures ≡ 0
+none_failed k n (On core) = n.core core
+none_failed k n (Off notes) = n.notes notes
+none_failed k n Lent = refl
 
--- It wants for memory.
-cut_by_sort : {C N E X D O : Type 0} (k : Kind C N E X D O) (cut : X) (past : List X) (landed : Bool) (e : E) (fault : Fault) (node : Power C N) → Saves k cut past e
-    → (sort : FaultSort) → Faults k past e sort fault node
-    → CutsIn k past landed e node (Err fault)
-cut_by_sort k cut past landed e fault node s sorts.Memory h = subst (λ (x : Fault). CutsIn k past landed e node (Err x)) (sym h.0) (s.up, h.1)
-cut_by_sort k cut past landed e fault node s sorts.Save h = absurd h
-cut_by_sort k cut past landed e fault node s sorts.Refusal (inl off) = absurd (never (k.core.words.is_up past) s.up off.off)
-cut_by_sort k cut past landed e fault node s sorts.Refusal (inr r) = absurd (some_none (k.core.words.refusal past e) fault r.why s.free)
-
-pub cut_fails : {C N E X D O : Type 0} (k : Kind C N E X D O) (cut : X) (past : List X) (landed : Bool) (e : E) (fault : Fault) (node : Power C N) → Saves k cut past e
-    → Faults k past e (sort_of fault) fault node
-    → CutsIn k past landed e node (Err fault)
-cut_fails k cut past landed e fault node s h = cut_by_sort k cut past landed e fault node s (sort_of fault) h
+pub cut_within : {C N E X D O : Type 0} (k : Kind C N E X D O) → NeverFails k → (past : List X) (landed : Bool) (e : E) (old new : Power C N)
+    (result : Result (Unit {0}) Fault) → Stands k past old → powers.CutsIn k past landed e old new result → CutsIn k past landed e new result
+cut_within k n past landed e old new (Ok t) s c =
+    (c.on, c.due, subst (Stands k (k.core.words.met e (powers.lost_by landed) ∷ past)) (sym c.off) (c.says, c.down))
+cut_within k n past landed e old new (Err NodeOff) s c = (c.0, subst (Stands k past) (sym c.1) s)
+cut_within k n past landed e old new (Err faults.NoSave) s c = (c.0, c.1, subst (Stands k past) (sym c.2) s)
+cut_within k n past landed e old new (Err NoMemory) s c = (c.0, strong k past new c.2 c.0)
+cut_within k n past landed e old new (Err _) s c = absurd (omega (arith, c.2.cause, none_failed k n new))

@@ -14,16 +14,16 @@ use Rattle.job_file.specs.declared.job.Job.{Job}
 use Rattle.write_order.specs.Blocks.{block_of}
 use Rattle.write_order.specs.Stamps.{bytes_of}
 use Rattle.verify_state.specs.State.{State}
-use Rattle.window.specs.History as window
+use Rattle.engine.specs.History as window
 use Rattle.engine.specs.Legal.{IsLegal}
 use Rattle.engine.specs.Running.{Origin}
 use Rattle.engine.specs.declared.issue.Issue.{Issue}
 use Rattle.engine.specs.declared.issue.Issue.TheVariants as issues
 use Rattle.engine.specs.declared.issue.Ticket.{Ticket}
 use Rattle.engine.specs.Answers.{answer_to, ticket_answer, names_one_of}
-use Rattle.disk_model.specs.declared.left.Left.{Left}
-use Rattle.disk_model.specs.declared.left.Left.TheVariants.{NoSave, Saved, LostNew, LostOld}
-use Rattle.disk_model.specs.Left.{has_new}
+use Rattle.disk_model.specs.declared.save_outcome.SaveOutcome.{SaveOutcome}
+use Rattle.disk_model.specs.declared.save_outcome.SaveOutcome.TheVariants.{NoSave, Saved, LostNew, LostOld}
+use Rattle.disk_model.specs.SaveOutcome.{has_new}
 use Rattle.server_core.specs.Inputs.{PacketInput}
 use Rattle.server_core.specs.declared.input.WriteEnd.{WriteEnd}
 use Rattle.server_core.specs.declared.input.WriteEnd.TheVariants.{Done, Failed}
@@ -186,7 +186,7 @@ works_new {P} s held me now_boot d = λ w h j job has_job.
     (λ i job. s.begins (held i) (record { run = d.run; server = me; job = i }) job.rec) j job
 
 works_after : {P : Notion} {May : ℕ → JobParts → Type 0} {On : ℕ → Type 0} → Ground → Survives On May P
-    → (o : Opening) (held : ℕ → ℕ → List ℕ) (past : List Entry) (e : PacketInput) (left : Left) (d : Option Staged) → TellsAt On o held past e
+    → (o : Opening) (held : ℕ → ℕ → List ℕ) (past : List Entry) (e : PacketInput) (left : SaveOutcome) (d : Option Staged) → TellsAt On o held past e
     → WorksOf P held (work o past) → WorksOf P held (work_after left d o.me (boot o past) (request_of o.me e) (work o past))
 works_after laws s o held past e NoSave d tells k = works_on laws s o held past e (work o past) refl tells k
 works_after laws s o held past e Saved None tells k = works_on laws s o held past e (work o past) refl tells k
@@ -215,7 +215,7 @@ state_now laws s o held past run j e state (Some w) is k h =
     (state_is_of laws.counts origin w.since state (job_legal laws o past w is j t.job t.has_job) t.state_is) (k w refl j t.job t.has_job)
 
 states_on : {P : Notion} {May : ℕ → JobParts → Type 0} {On : ℕ → Type 0} → Ground → Survives On May P
-    → (o : Opening) (held : ℕ → ℕ → List ℕ) (past : List Entry) (e : PacketInput) (left : Left) → Kept P o held past → (j : ℕ) (state : State)
+    → (o : Opening) (held : ℕ → ℕ → List ℕ) (past : List Entry) (e : PacketInput) (left : SaveOutcome) → Kept P o held past → (j : ℕ) (state : State)
     → Contains (takings o (last_run o past) j (Met e left ∷ past)) state → OfState P (held j) state
 states_on laws s o held past e left k j state c =
     elim (now_or_before (takes (last_run o past) j (request_of o.me e) (work o past)) (takings o (last_run o past) j past) state c) [
@@ -224,14 +224,14 @@ states_on laws s o held past e left k j state c =
     ]
 
 states_new : {P : Notion} {May : ℕ → JobParts → Type 0} {On : ℕ → Type 0} → Ground → Survives On May P
-    → (o : Opening) (held : ℕ → ℕ → List ℕ) (past : List Entry) (e : PacketInput) (left : Left) (d : Staged) (new : Bool) → due o past e ≡ Some d → Kept P o held past
+    → (o : Opening) (held : ℕ → ℕ → List ℕ) (past : List Entry) (e : PacketInput) (left : SaveOutcome) (d : Staged) (new : Bool) → due o past e ≡ Some d → Kept P o held past
     → (j : ℕ) (state : State)
     → Contains (takings o (if new then d.run else last_run o past) j (Met e left ∷ past)) state → OfState P (held j) state
 states_new laws s o held past e left d true is k j state c = absurd (none_taken_yet laws o j e left past d state is c)
 states_new laws s o held past e left d false is k j state c = states_on laws s o held past e left k j state c
 
 states_after : {P : Notion} {May : ℕ → JobParts → Type 0} {On : ℕ → Type 0} → Ground → Survives On May P
-    → (o : Opening) (held : ℕ → ℕ → List ℕ) (past : List Entry) (e : PacketInput) (left : Left) (d : Option Staged) → due o past e ≡ d → Kept P o held past
+    → (o : Opening) (held : ℕ → ℕ → List ℕ) (past : List Entry) (e : PacketInput) (left : SaveOutcome) (d : Option Staged) → due o past e ≡ d → Kept P o held past
     → (j : ℕ) (state : State)
     → Contains (takings o (last_run_after left d (last_run o past)) j (Met e left ∷ past)) state → OfState P (held j) state
 states_after laws s o held past e left None is k j state c = states_on laws s o held past e left k j state c
@@ -240,7 +240,7 @@ states_after laws s o held past e left (Some d) is k j state c = states_new laws
 -- ---- an entry of the server
 
 pub kept_met : {P : Notion} {May : ℕ → JobParts → Type 0} {On : ℕ → Type 0} → Ground → Survives On May P
-    → (o : Opening) (held : ℕ → ℕ → List ℕ) (past : List Entry) (e : PacketInput) (left : Left) → TellsAt On o held past e → Kept P o held past
+    → (o : Opening) (held : ℕ → ℕ → List ℕ) (past : List Entry) (e : PacketInput) (left : SaveOutcome) → TellsAt On o held past e → Kept P o held past
     → Kept P o held (Met e left ∷ past)
 kept_met laws s o held past e left tells k = record {
   works = works_after laws s o held past e left (due o past e) tells k.works;
@@ -250,6 +250,6 @@ kept_met laws s o held past e left tells k = record {
 pub kept_cut : {P : Notion} (o : Opening) (held : ℕ → ℕ → List ℕ) (past : List Entry) → Kept P o held past → Kept P o held (Cut ∷ past)
 kept_cut o held past k = record { works = λ w h. absurd cc; states = λ j state c. k.states j state c }
 
-pub kept_restart : {P : Notion} (o : Opening) (held : ℕ → ℕ → List ℕ) (past : List Entry) (left : Left) → Kept P o held past
+pub kept_restart : {P : Notion} (o : Opening) (held : ℕ → ℕ → List ℕ) (past : List Entry) (left : SaveOutcome) → Kept P o held past
     → Kept P o held (Restart left ∷ past)
 kept_restart o held past left k = record { works = λ w h. absurd cc; states = λ j state c. k.states j state c }

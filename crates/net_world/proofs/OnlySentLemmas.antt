@@ -12,7 +12,7 @@ use Rattle.messages.specs.declared.node.Node.{Node}
 use Rattle.messages.specs.declared.node.Node.TheVariants.{Server, Client, Mirror}
 use Rattle.messages.specs.declared.piece.PieceParts.{PieceParts}
 use Rattle.messages.specs.declared.piece.Tag.{Tag}
-use Rattle.messages.specs.declared.places.Filled.{Filled}
+use Rattle.messages.specs.declared.places.PlaceSet.{PlaceSet}
 use Rattle.messages.specs.declared.frame.Frame.{Frame}
 use Rattle.messages.specs.declared.frame.Frame.TheVariants.{Whole, Piece}
 use Rattle.messages.specs.Bodies.{length_of}
@@ -22,7 +22,7 @@ use Rattle.messages.specs.Assemblies.{Row, Look, look_at_piece, rows_after_piece
 use Rattle.messages.specs.PieceLaws.{ArePackets, OneBodyOfEachTag, AreCut, WasSent, IsPieceOf, OnlySentComesTogether}
 use Rattle.messages.specs.Hearing.{Rules, Heard, Coming, Comes, Happens, Meaning, Says, Waits, Spoils, Strays}
 use Rattle.messages.specs.Hearing.{said_by, meaning, heard_by, entry_of, rows_by, rows_of, with_entry, heard}
-use Rattle.disk_model.specs.declared.left.Left.{Left}
+use Rattle.disk_model.specs.declared.save_outcome.SaveOutcome.{SaveOutcome}
 use Rattle.fc_base.proofs.ListLemmas.{none_in, only_in, of_map, first_of, behind_one}
 use Rattle.server_core.specs.History as server
 use Rattle.client_core.specs.History as client
@@ -41,7 +41,7 @@ use Rattle.net_world.proofs.WorldLemmas.{either_way}
 abbrev pub IsIn : List PacketParts → List PacketParts → Type 0
 IsIn xs ys = (p : PacketParts) → Contains xs p → Contains ys p
 
-cut_more : (xs ys : List PacketParts) → IsIn xs ys → (tag : Tag) (fs : List Filled) → AreCut xs tag fs → AreCut ys tag fs
+cut_more : (xs ys : List PacketParts) → IsIn xs ys → (tag : Tag) (fs : List PlaceSet) → AreCut xs tag fs → AreCut ys tag fs
 cut_more xs ys in_it tag [] a = tt
 cut_more xs ys in_it tag (f ∷ fs) a =
     let w = a.0 in (
@@ -137,14 +137,14 @@ record Kept {X E L : Type 0} (r : Rules X E L) (w : Setup) (t : List Step) (h : 
   pub rows : WasSent (sent_packets w t) (rows_of r h c)
   pub trace : IsTrace w (with_entry (option_map step (entry_of r h c)) t)
 
-server_says : (w : Setup) (s : ℕ) (t : List Step) (left : Left) (m : Meaning) → IsTrace w t → SaysSent (sent_packets w t) (Server s) m
+server_says : (w : Setup) (s : ℕ) (t : List Step) (left : SaveOutcome) (m : Meaning) → IsTrace w t → SaysSent (sent_packets w t) (Server s) m
     → IsTrace w (with_entry (option_map (AtServer s) (heard_by (at_server s) left m)) t)
 server_says w s t left (Says p) h i = (h, (i, tt), refl)
 server_says w s t left Waits h i = h
 server_says w s t left Spoils h i = h
 server_says w s t left Strays h i = h
 
-client_says : (w : Setup) (t : List Step) (left : Left) (m : Meaning) → IsTrace w t → SaysSent (sent_packets w t) Client m
+client_says : (w : Setup) (t : List Step) (left : SaveOutcome) (m : Meaning) → IsTrace w t → SaysSent (sent_packets w t) Client m
     → IsTrace w (with_entry (option_map AtClient (heard_by (at_client w) left m)) t)
 client_says w t left (Says p) h i = (h, (i, tt), either_way w.mirror)
 client_says w t left Waits h i = h
@@ -156,7 +156,7 @@ takes_none ps node taken e = subst (λ xs. AllByRecursion (WasSentTo ps node) xs
 
 server_step : OnlySentComesTogether → FramesAreOfPackets → (w : Setup) (s : ℕ) (past : List FrameStep) → IsTrace w (trace_heard w past)
     → ArePackets (sent_packets w (trace_heard w past)) → OneBodyOfEachTag (sent_packets w (trace_heard w past))
-    → (h : Heard server.Entry) → WasSent (sent_packets w (trace_heard w past)) h.rows → (c : Coming server.Entry Left)
+    → (h : Heard server.Entry) → WasSent (sent_packets w (trace_heard w past)) h.rows → (c : Coming server.Entry SaveOutcome)
     → MayHappen (frames_sent w past) (OfServer s c) → Kept (at_server s) w (trace_heard w past) h c (AtServer s)
 server_step law frames w s past t are one h was (Comes f left) i =
     let k = keeps law (at_server s) (sent_packets w (trace_heard w past)) are one h was (Server s) f (frame_is frames w past f i.0) i.1 left in
@@ -168,7 +168,7 @@ server_step law frames w s past t are one h was (Happens e) i = record {
 
 client_step : OnlySentComesTogether → FramesAreOfPackets → (w : Setup) (past : List FrameStep) → IsTrace w (trace_heard w past)
     → ArePackets (sent_packets w (trace_heard w past)) → OneBodyOfEachTag (sent_packets w (trace_heard w past))
-    → (h : Heard client.Entry) → WasSent (sent_packets w (trace_heard w past)) h.rows → (c : Coming client.Entry Left)
+    → (h : Heard client.Entry) → WasSent (sent_packets w (trace_heard w past)) h.rows → (c : Coming client.Entry SaveOutcome)
     → MayHappen (frames_sent w past) (OfClient c) → is_allowed w past (OfClient c) ≡ true → Kept (at_client w) w (trace_heard w past) h c AtClient
 client_step law frames w past t are one h was (Comes f left) i allowed =
     let k = keeps law (at_client w) (sent_packets w (trace_heard w past)) are one h was Client f (frame_is frames w past f i.0) i.1 left in
@@ -201,14 +201,14 @@ client_added : (x : Option client.Entry) (t : List Step) → AllByRecursion Step
 client_added None t h = h
 client_added (Some e) t h = (tt, h)
 
-meaning_fits : (s : ℕ) (left : Left) (m : Meaning) → SomeFits (heard_by (at_server s) left m)
+meaning_fits : (s : ℕ) (left : SaveOutcome) (m : Meaning) → SomeFits (heard_by (at_server s) left m)
 unfolding SomeFits
 meaning_fits s left (Says p) = tt
 meaning_fits s left Waits = tt
 meaning_fits s left Spoils = tt
 meaning_fits s left Strays = tt
 
-server_adds : (s : ℕ) (h : Heard server.Entry) (c : Coming server.Entry Left) (t : List Step) → FrameStepFits (OfServer s c) → AllByRecursion StepFits t
+server_adds : (s : ℕ) (h : Heard server.Entry) (c : Coming server.Entry SaveOutcome) (t : List Step) → FrameStepFits (OfServer s c) → AllByRecursion StepFits t
     → AllByRecursion StepFits (with_entry (option_map (AtServer s) (entry_of (at_server s) h c)) t)
 unfolding SomeFits
 server_adds s h (Comes f left) t k a =
@@ -235,7 +235,7 @@ pub record Stands (w : Setup) (t : List FrameStep) : Type 0 where
 more_sent : (w : Setup) (x : Option Step) (t : List Step) → IsIn (sent_packets w t) (sent_packets w (with_entry x t))
 more_sent w x t p i = subst (λ ps. Contains ps p) (sym (sent_with w x t)) (Contains-append_left (sent_packets w t) (packets_by w t x) p i)
 
-server_rows : (ps : List PacketParts) (s r : ℕ) (b : Bool) → (b ≡ true → r ≡ s) → (c : Coming server.Entry Left) (past : List FrameStep)
+server_rows : (ps : List PacketParts) (s r : ℕ) (b : Bool) → (b ≡ true → r ≡ s) → (c : Coming server.Entry SaveOutcome) (past : List FrameStep)
     → WasSent ps (rows_of (at_server r) (heard (at_server r) (of_server r past)) c) → WasSent ps (heard (at_server s) (of_server s past)).rows
     → WasSent ps (heard (at_server s) (if b then c ∷ of_server s past else of_server s past)).rows
 server_rows ps s r true is c past v w = subst (λ x. WasSent ps (rows_of (at_server x) (heard (at_server x) (of_server x past)) c)) (is refl) v

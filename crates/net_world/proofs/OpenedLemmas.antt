@@ -13,7 +13,7 @@ use Rattle.messages.specs.Hearing.{Happens}
 use Rattle.messages.specs.Ranges.{is_generation}
 use Rattle.net_world.specs.declared.config.Config.{Config}
 use Rattle.net_world.specs.MirrorNodes.{MirrorNode}
-use Rattle.net_world.specs.declared.mirror_node.Mirrored.{Mirrored}
+use Rattle.net_world.specs.declared.mirror_node.MirrorSlot.{MirrorSlot}
 use Rattle.net_world.specs.declared.world.World.{World}
 use Rattle.net_world.specs.Setup.{Setup, setup_of}
 use Rattle.net_world.specs.Trace.{client_opening, first_entry}
@@ -51,7 +51,7 @@ none_sent : (w : Setup) → frames w [] ≡ []
 unfolding frames_sent
 none_sent w = refl
 
-mirror_opens : (config : Config) (m : Mirrored) → HasOpened config m → IsMirror (setup_of config) (mirror.Restart ∷ []) m.node
+mirror_opens : (config : Config) (m : MirrorSlot) → HasOpened config m → IsMirror (setup_of config) (mirror.Restart ∷ []) m.node
 mirror_opens config m h = by_word config.mirror refl m.node m.greatest h
   where
     by_word : (b : Bool) → config.mirror ≡ b → (node : Option MirrorNode) (g : ℕ) → OpensMirror b node g → IsMirror (setup_of config) (mirror.Restart ∷ []) node
@@ -63,7 +63,7 @@ mirror_opens config m h = by_word config.mirror refl m.node m.greatest h
 above_none : (g : ℕ) → is_generation g ≡ true → true ≡ nat_lt 0 g
 above_none g h = let p = and_parts (nat_le 1 g) _ h in grind (arith, p.0, nat_tests)
 
-greatest_opens : (config : Config) (m : Mirrored) → HasOpened config m → IsGreatest m.greatest (handed_in (client_entries (setup_of config) []))
+greatest_opens : (config : Config) (m : MirrorSlot) → HasOpened config m → IsGreatest m.greatest (handed_in (client_entries (setup_of config) []))
 greatest_opens config m h = by_word config.mirror m.node m.greatest h
   where
     by_word : (b : Bool) (node : Option MirrorNode) (g : ℕ) → OpensMirror b node g

@@ -4,9 +4,9 @@ use Rattle.std.specs.Prelude.{if◌then◌else◌}
 use Rattle.std.specs.Option.{option_map}
 use Rattle.fc_base.specs.declared.fault.Fault.{Fault}
 use Rattle.fc_base.specs.declared.fault.Fault.TheVariants.{Misdirected, Down, FrameBadField}
-use Rattle.disk_model.specs.declared.left.Left.{Left}
-use Rattle.disk_model.specs.declared.left.Left.TheVariants.{NoSave}
-use Rattle.disk_model.specs.Left.{saved_for}
+use Rattle.disk_model.specs.declared.save_outcome.SaveOutcome.{SaveOutcome}
+use Rattle.disk_model.specs.declared.save_outcome.SaveOutcome.TheVariants.{NoSave}
+use Rattle.disk_model.specs.SaveOutcome.{saved_for}
 use Rattle.messages.specs.declared.packet.PacketParts.{PacketParts}
 use Rattle.messages.specs.declared.frame.Frame.{Frame}
 use Rattle.messages.specs.declared.refusal.Act.TheVariants as acts
@@ -56,7 +56,7 @@ met_err t s e list fault is h = fails (answers.refusal (opening_of s) (of_server
 
 -- ---- a frame
 
-come : ℕ → Frame → Left → Outcome
+come : ℕ → Frame → SaveOutcome → Outcome
 come s f left = Does (Changed (OfServer s (Comes f left)))
 
 says_here : (t : List Step) (s : ℕ) (f : Frame) (p : PacketParts) → answers.refusal (opening_of s) (of_server s t) (inputs.Deliver p) ≡ None

@@ -4,7 +4,7 @@ use Rattle.std.proofs.Common.{◌≡◌, ◌⊎◌, refl, sym, ◌∙◌, ap, su
 use Rattle.std.specs.Prelude.{Contains, IsTrue}
 use Rattle.fc_base.specs.declared.numbers.Key.{Key}
 use Rattle.verify_state.specs.State.{State}
-use Rattle.state_table.specs.Laws.{FoundHasItsKey}
+use Rattle.verify_state.specs.TableLaws.{FoundHasItsKey}
 use Rattle.messages.specs.declared.packet.PacketParts.{PacketParts}
 use Rattle.messages.specs.declared.body.Body.{Body}
 use Rattle.messages.specs.declared.body.Body.TheVariants as bodies

@@ -8,7 +8,7 @@ use Rattle.messages.specs.declared.packet.PacketParts.{PacketParts}
 use Rattle.messages.specs.declared.frame.Frame.TheVariants.{Whole, Piece}
 use Rattle.messages.specs.Laws.{IsPacket}
 use Rattle.messages.specs.PieceLaws.{ArePackets}
-use Rattle.disk_model.specs.declared.left.Left.{Left}
+use Rattle.disk_model.specs.declared.save_outcome.SaveOutcome.{SaveOutcome}
 use Rattle.fc_base.proofs.ListLemmas.{none_in, each_of}
 use Rattle.server_core.specs.Inputs.{PacketInput as ServerInput}
 use Rattle.server_core.specs.declared.input.Input.TheVariants as server_inputs
@@ -35,7 +35,7 @@ AllSent ps step = AllByRecursion (WasSentTo ps (node_of step)) (taken_by step)
 both : (xs ys : List PacketParts) → ArePackets xs → ArePackets ys → ArePackets (xs ++ ys)
 both xs ys a b p i = elim (Contains-append_cases xs ys p i) [ inl j ↦ a p j | inr j ↦ b p j ]
 
-event_in : (ps : List PacketParts) (s : ℕ) (e : ServerInput) (left : Left) → ArePackets ps → AllSent ps (AtServer s (history.Met e left)) → ReportFits e
+event_in : (ps : List PacketParts) (s : ℕ) (e : ServerInput) (left : SaveOutcome) → ArePackets ps → AllSent ps (AtServer s (history.Met e left)) → ReportFits e
     → ranges.IsInRange e
 unfolding AllSent
 event_in ps s (server_inputs.Deliver p) left are w r = are p w.0.0
@@ -68,7 +68,7 @@ came_to w s (AtServer r e ∷ past) h f are =
 came_to w s (AtClient e ∷ past) h f are = came_to w s past h.0 f.1 (before w (AtClient e) past are)
 came_to w s (AtMirror e ∷ past) h f are = came_to w s past h.0 f.1 (before w (AtMirror e) past are)
 
-call_in : (ps : List PacketParts) (c : ClientInput) (left : Left) (older : List PacketParts) → ArePackets ps → AllSent ps (AtClient (entry.Met c left))
+call_in : (ps : List PacketParts) (c : ClientInput) (left : SaveOutcome) (older : List PacketParts) → ArePackets ps → AllSent ps (AtClient (entry.Met c left))
     → AllByRecursion IsPacket older → AllByRecursion IsPacket (packet_in (entry.Met c left) ++ older)
 unfolding AllSent
 call_in ps (client_inputs.Deliver p) left older are w h = (are p w.0.0, h)

@@ -9,8 +9,8 @@ use Rattle.fc_base.specs.declared.fault.Fault.{Fault}
 use Rattle.fc_base.specs.declared.fault.FaultSort.TheVariants as sorts
 use Rattle.fc_base.specs.Fault.{sort_of}
 use Rattle.fc_base.specs.declared.fault.Fault.TheVariants.{NoMemory, NoMirror, NodeOn, NoSave, BadNote, BadGeneration, UsedGeneration}
-use Rattle.disk_model.specs.declared.left.Left.{Left}
-use Rattle.disk_model.specs.declared.left.Left.TheVariants.{Saved}
+use Rattle.disk_model.specs.declared.save_outcome.SaveOutcome.{SaveOutcome}
+use Rattle.disk_model.specs.declared.save_outcome.SaveOutcome.TheVariants.{Saved}
 use Rattle.messages.specs.FrameBytes.{frame_spelling}
 use Rattle.messages.specs.Ranges.{is_generation}
 use Rattle.messages.specs.Hearing.{Happens, Meaning, Says, Waits, Spoils, Strays, meaning, heard_by, with_entry}
@@ -48,7 +48,7 @@ use Rattle.net_world.proofs.AskLemmas.{up_is, HasMoved, HasPassed, client_passed
 
 -- ---- the generations that were handed in are those of the trace
 
-heard_none : (o : client.Opening) (left : Left) (m : Meaning) (list : List client.Entry)
+heard_none : (o : client.Opening) (left : SaveOutcome) (m : Meaning) (list : List client.Entry)
     → generations (with_entry (heard_by (rules o) left m) list) ≡ generations list
 heard_none o left (Says p) list = refl
 heard_none o left Waits list = refl
@@ -151,7 +151,7 @@ loss_ends w past _ old new stands moved free h = absurd h
 -- ---- a renewal
 
 -- The client is renewed with this generation, or loses its power within the save of it.
-pub record Renews (w : Setup) (past : List Change) (g : ℕ) (left : Left) (e : Happening) : Type 0 where
+pub record Renews (w : Setup) (past : List Change) (g : ℕ) (left : SaveOutcome) (e : Happening) : Type 0 where
   pub bar : barring_fault w (trace w past) (frames_sent w (steps past)) e ≡ option_or (unless_losable w (trace w past)) (unless_unused w (trace w past) g)
   pub saves : is_blank (noted_in w (trace w past)) ≡ true → brings w past e ≡ Does (Met (step_of (hearing.Renew g left)))
   pub answers : answer w past e ≡ Plain
@@ -177,7 +177,7 @@ noted_is : (w : Setup) (past : List Change) (b : Bool) → lacks_note (client_op
 noted_is w past b h = ap (λ list. is_blank (words_noted (client_opening w) list)) (sym (heard_is w past)) ∙ h
 
 -- It was handed in.
-pub renewal_ends : (w : Setup) (past : List Change) (g : ℕ) (left : Left) (e : Happening) (first : ℕ) (t : Told) (old new : World) → Renews w past g left e
+pub renewal_ends : (w : Setup) (past : List Change) (g : ℕ) (left : SaveOutcome) (e : Happening) (first : ℕ) (t : Told) (old new : World) → Renews w past g left e
     → StandsFor w past old → HasPassed [] old new → new.mirror.greatest ≡ g
     → option_or (unless_losable w (trace w past)) (unless_unused w (trace w past) g) ≡ None → is_generation g ≡ true
     → lacks_note (client_opening w) (entries w past) true ≡ true → nodes.Stands (client_opening w) (hearing.Renew g left ∷ entries w past) new.client

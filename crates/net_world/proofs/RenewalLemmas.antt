@@ -9,7 +9,7 @@ use Rattle.fc_base.specs.declared.fault.Fault.TheVariants.{NoMemory, LoadFault, 
 use Rattle.verify_state.specs.State.{State}
 use Rattle.disk_model.specs.MemNotes.{Saved as Kept, note_of}
 use Rattle.disk_model.specs.Notes.{Note}
-use Rattle.disk_model.specs.declared.left.Left.TheVariants.{Saved, LostNew}
+use Rattle.disk_model.specs.declared.save_outcome.SaveOutcome.TheVariants.{Saved, LostNew}
 use Rattle.messages.specs.Ranges.{is_generation}
 use Rattle.client_core.specs.declared.note.ClientNote.{ClientNote}
 use Rattle.client_core.specs.History.{Opening}

@@ -12,8 +12,8 @@ use Rattle.messages.specs.declared.node.Node.{Node}
 use Rattle.messages.specs.declared.node.Node.TheVariants.{Server}
 use Rattle.messages.specs.declared.packet.PacketParts.{PacketParts}
 use Rattle.messages.specs.Bodies.{kind_of}
-use Rattle.disk_model.specs.declared.left.Left.{Left}
-use Rattle.disk_model.specs.declared.left.Left.TheVariants.{Saved}
+use Rattle.disk_model.specs.declared.save_outcome.SaveOutcome.{SaveOutcome}
+use Rattle.disk_model.specs.declared.save_outcome.SaveOutcome.TheVariants.{Saved}
 use Rattle.server_core.specs.Inputs.{PacketInput}
 use Rattle.server_core.specs.declared.input.Input.TheVariants.{CheckDone}
 use Rattle.server_core.specs.History.{Opening, Entry, Met, Restart}
@@ -49,18 +49,18 @@ pub record Reporting : Type 0 where
 
 -- ---- where a server's list splits at an input, the trace does
 
-record IsSplit (s : ℕ) (t : List Step) (e : PacketInput) (left : Left) (older : List Entry) : Type 0 where
+record IsSplit (s : ℕ) (t : List Step) (e : PacketInput) (left : SaveOutcome) (older : List Entry) : Type 0 where
   pub later : List Step
   pub earlier : List Step
   pub split : t ≡ later ++ AtServer s (Met e left) ∷ earlier
   pub older_is : of_server s earlier ≡ older
 
-behind_step : (step : Step) (s : ℕ) (t : List Step) (e : PacketInput) (left : Left) (older : List Entry) → IsSplit s t e left older
+behind_step : (step : Step) (s : ℕ) (t : List Step) (e : PacketInput) (left : SaveOutcome) (older : List Entry) → IsSplit s t e left older
     → IsSplit s (step ∷ t) e left older
 behind_step step s t e left older k =
     record { later = step ∷ k.later; earlier = k.earlier; split = ap (λ (l : List Step). step ∷ l) k.split; older_is = k.older_is }
 
-not_first : (newer : List Entry) (e : PacketInput) (left : Left) (older : List Entry) → Restart Saved ∷ [] ≡ newer ++ Met e left ∷ older → ⊥
+not_first : (newer : List Entry) (e : PacketInput) (left : SaveOutcome) (older : List Entry) → Restart Saved ∷ [] ≡ newer ++ Met e left ∷ older → ⊥
 not_first [] e left older h = cc
 not_first (x ∷ []) e left older h = cc
 not_first (x ∷ (y ∷ newer)) e left older h = cc
@@ -71,7 +71,7 @@ tail_of x y l m h = cc
 head_of : (x y : Entry) (l m : List Entry) → ◌≡◌ {A = List Entry} (x ∷ l) (y ∷ m) → x ≡ y
 head_of x y l m h = cc
 
-split_if : (b : Bool) (r : ℕ) (x : Entry) (s : ℕ) (past : List Step) (newer : List Entry) (e : PacketInput) (left : Left) (older : List Entry) → (r == s) ≡ b
+split_if : (b : Bool) (r : ℕ) (x : Entry) (s : ℕ) (past : List Step) (newer : List Entry) (e : PacketInput) (left : SaveOutcome) (older : List Entry) → (r == s) ≡ b
     → ((new : List Entry) → of_server s past ≡ new ++ Met e left ∷ older → IsSplit s past e left older)
     → (if b then x ∷ of_server s past else of_server s past) ≡ newer ++ Met e left ∷ older → IsSplit s (AtServer r x ∷ past) e left older
 split_if false r x s past newer e left older is f h = behind_step (AtServer r x) s past e left older (f newer h)
@@ -84,7 +84,7 @@ split_if true r x s past [] e left older is f h = record {
 split_if true r x s past (n ∷ newer) e left older is f h =
     behind_step (AtServer r x) s past e left older (f newer (tail_of x n (of_server s past) (newer ++ Met e left ∷ older) h))
 
-split_of : (s : ℕ) (t : List Step) (newer : List Entry) (e : PacketInput) (left : Left) (older : List Entry) → of_server s t ≡ newer ++ Met e left ∷ older
+split_of : (s : ℕ) (t : List Step) (newer : List Entry) (e : PacketInput) (left : SaveOutcome) (older : List Entry) → of_server s t ≡ newer ++ Met e left ∷ older
     → IsSplit s t e left older
 split_of s [] newer e left older h = absurd (not_first newer e left older h)
 split_of s (AtServer r x ∷ past) newer e left older h =

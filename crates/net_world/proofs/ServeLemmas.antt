@@ -15,7 +15,7 @@ use Rattle.fc_base.specs.declared.fault.Fault.TheVariants.{NoServer, NodeOff, No
 use Rattle.fc_base.specs.declared.fault.FaultSort.{FaultSort}
 use Rattle.fc_base.specs.declared.fault.FaultSort.TheVariants as sorts
 use Rattle.fc_base.specs.Fault.{sort_of}
-use Rattle.disk_model.specs.declared.left.Left.TheVariants.{NoSave}
+use Rattle.disk_model.specs.declared.save_outcome.SaveOutcome.TheVariants.{NoSave}
 use Rattle.messages.specs.FrameBytes.{frame_spelling}
 use Rattle.messages.specs.declared.node.Node.TheVariants as nodes
 use Rattle.messages.specs.declared.body.Body.{Body}
@@ -33,8 +33,8 @@ use Rattle.server_core.specs.Answers.{to_client, sent_by}
 use Rattle.server_core.specs.Words as words
 use Rattle.server_core.specs.Hearing.{FrameEntry, Met, rules, heard_at, coming_of, packets_heard, arrival, is_up}
 use Rattle.server_core.specs.FrameAnswers as answers
-use Rattle.net_world.specs.declared.served.Served.{Served}
-use Rattle.net_world.specs.declared.mirror_node.Mirrored.{Mirrored}
+use Rattle.net_world.specs.declared.sent_reply.SentReply.{SentReply}
+use Rattle.net_world.specs.declared.mirror_node.MirrorSlot.{MirrorSlot}
 use Rattle.net_world.specs.ServerNodes.{ServerNode}
 use Rattle.net_world.specs.declared.world.World.{World}
 use Rattle.net_world.specs.Setup.{Setup}
@@ -136,13 +136,13 @@ pub record HasServed (s : ℕ) (e : FrameInput) (result : Result Outs Fault) (se
   pub moved : HasMoved s node sent old new
 
 -- This is handed out of what a step hands out, behind the frames that were sent.
-pub record IsOf (sent : List (List ℕ)) (outs : Outs) (served : Served) : Type 0 where
+pub record IsOf (sent : List (List ℕ)) (outs : Outs) (served : SentReply) : Type 0 where
   pub first : served.first ≡ length sent
   pub sent_is : served.sent ≡ length outs.frames
   pub issue : served.issue ≡ outs.issue
   pub act : served.act ≡ outs.act
 
-pub serve_ends : (w : Setup) (past : List Change) (s : ℕ) (e : FrameInput) (outs : Outs) (served : Served) (old new : World) → StandsFor w past old
+pub serve_ends : (w : Setup) (past : List Change) (s : ℕ) (e : FrameInput) (outs : Outs) (served : SentReply) (old new : World) → StandsFor w past old
     → HasServed s e (Ok outs) outs.frames old new → IsOf (sent_in old.sent) outs served
     → Serves w past s e new served
 serve_ends w past s e outs served old new stands h is =
@@ -212,8 +212,8 @@ settled w past old new stands sent servers client files mirror = record {
   sent_is = sent ∙ stands.sent_is;
   servers_are = λ s node at. stands.servers_are s node (ap (λ (v : Vec ServerNode Global). slice_get v.items s) (sym servers) ∙ at);
   client_is = subst (λ x. clients.Stands (client_opening w) (client_entries w (steps past)) x) (sym client) stands.client_is;
-  mirror_is = subst (λ (m : Mirrored). IsMirror w (of_mirror (steps past)) m.node) (sym mirror) stands.mirror_is;
-  greatest_is = subst (λ (m : Mirrored). IsGreatest m.greatest (handed_in (client_entries w (steps past)))) (sym mirror) stands.greatest_is;
+  mirror_is = subst (λ (m : MirrorSlot). IsMirror w (of_mirror (steps past)) m.node) (sym mirror) stands.mirror_is;
+  greatest_is = subst (λ (m : MirrorSlot). IsGreatest m.greatest (handed_in (client_entries w (steps past)))) (sym mirror) stands.greatest_is;
   files = ap (λ (v : Vec MemDisk Global). length v.items) files ∙ stands.files;
   files_are = λ s j disk l at. stands.files_are s j disk l (ap (λ (v : Vec MemDisk Global). slice_get v.items (MAX_JOBS * s + j)) (sym files) ∙ at);
 }

@@ -2,7 +2,7 @@
 use Rattle.std.proofs.Common.{◌≡◌, refl, ◌∙◌, ap, ℕ, List, [], ◌∷◌}
 use Rattle.std.specs.Prelude.{map}
 use Rattle.messages.specs.Hearing.{Heard, Coming, Comes, Happens, entry_of, rows_of, with_entry, heard, frames_by}
-use Rattle.disk_model.specs.declared.left.Left.{Left}
+use Rattle.disk_model.specs.declared.save_outcome.SaveOutcome.{SaveOutcome}
 use Rattle.server_core.specs.declared.input.Input.TheVariants as inputs
 use Rattle.server_core.specs.History as server
 use Rattle.server_core.specs.Hearing.{coming_of}
@@ -12,10 +12,10 @@ use Rattle.net_world.specs.Frames.{of_server, at_server, frame_entry}
 use Rattle.net_world.specs.FrameLaws.{ServersStand}
 
 -- What is heard with one more.
-next : ℕ → Heard server.Entry → Coming server.Entry Left → Heard server.Entry
+next : ℕ → Heard server.Entry → Coming server.Entry SaveOutcome → Heard server.Entry
 next s h c = record { entries = with_entry (entry_of (at_server s) h c) h.entries; rows = rows_of (at_server s) h c }
 
-entry_same : (s : ℕ) (h : Heard server.Entry) (c : Coming server.Entry Left) → entry_of (at_server s) h (coming_of (frame_entry c)) ≡ entry_of (at_server s) h c
+entry_same : (s : ℕ) (h : Heard server.Entry) (c : Coming server.Entry SaveOutcome) → entry_of (at_server s) h (coming_of (frame_entry c)) ≡ entry_of (at_server s) h c
 entry_same s h (Comes f left) = refl
 entry_same s h (Happens (server.Met (inputs.Deliver p) left)) = refl
 entry_same s h (Happens (server.Met (inputs.Issue j) left)) = refl
@@ -24,7 +24,7 @@ entry_same s h (Happens (server.Met (inputs.CheckDone boot a j report) left)) = 
 entry_same s h (Happens server.Cut) = refl
 entry_same s h (Happens (server.Restart left)) = refl
 
-next_same : (s : ℕ) (h : Heard server.Entry) (c : Coming server.Entry Left) → next s h (coming_of (frame_entry c)) ≡ next s h c
+next_same : (s : ℕ) (h : Heard server.Entry) (c : Coming server.Entry SaveOutcome) → next s h (coming_of (frame_entry c)) ≡ next s h c
 unfolding next
 next_same s h (Comes f left) = refl
 next_same s h (Happens (server.Met (inputs.Deliver p) left)) = refl
@@ -34,7 +34,7 @@ next_same s h (Happens (server.Met (inputs.CheckDone boot a j report) left)) = r
 next_same s h (Happens server.Cut) = refl
 next_same s h (Happens (server.Restart left)) = refl
 
-hears_same : (s : ℕ) (list : List (Coming server.Entry Left)) → heard (at_server s) (map coming_of (map frame_entry list)) ≡ heard (at_server s) list
+hears_same : (s : ℕ) (list : List (Coming server.Entry SaveOutcome)) → heard (at_server s) (map coming_of (map frame_entry list)) ≡ heard (at_server s) list
 unfolding next
 hears_same s [] = refl
 hears_same s (c ∷ past) = ap (λ h. next s h (coming_of (frame_entry c))) (hears_same s past) ∙ next_same s (heard (at_server s) past) c

@@ -5,8 +5,8 @@ use Rattle.std.specs.List.{AllByRecursion}
 use Rattle.std.proofs.lemmas.Bool.{eqb-true, ltb-true, and_parts}
 use Rattle.std.proofs.lemmas.Bool.Decides.{nat_tests}
 use Rattle.fc_base.specs.Counted.{has, is_distinct}
-use Rattle.disk_model.specs.declared.left.Left.{Left}
-use Rattle.disk_model.specs.declared.left.Left.TheVariants.{NoSave, Saved, LostNew, LostOld}
+use Rattle.disk_model.specs.declared.save_outcome.SaveOutcome.{SaveOutcome}
+use Rattle.disk_model.specs.declared.save_outcome.SaveOutcome.TheVariants.{NoSave, Saved, LostNew, LostOld}
 use Rattle.server_core.specs.Inputs.{PacketInput}
 use Rattle.server_core.specs.History.{Opening, Entry, Met, Cut, Restart}
 use Rattle.server_core.specs.Request.{Request, ToStage, ToStart, ToTrigger, ToMark, ToStop, ToVerify}
@@ -65,7 +65,7 @@ weaker : (a b : ℕ) (xs : List ℕ) → a ≤ b → AllByRecursion (λ r. r ≤
 weaker a b [] l h = tt
 weaker a b (x ∷ xs) l h = (let p = h.0 in omega (arith, l), weaker a b xs l h.1)
 
-started_now : (o : Opening) (past : List Entry) (e : PacketInput) (left : Left) (d : Option Staged) → NumbersGrow → due o past e ≡ d
+started_now : (o : Opening) (past : List Entry) (e : PacketInput) (left : SaveOutcome) (d : Option Staged) → NumbersGrow → due o past e ≡ d
     → AllByRecursion (λ r. r ≤ last_run o past) (started_runs o past)
     → AllByRecursion (λ r. r ≤ last_run o (Met e left ∷ past)) (started_by left d ++ started_runs o past)
 started_now o past e Saved (Some s) grow is h = (
@@ -90,7 +90,7 @@ not_has (x ∷ xs) a r l h =
     let other : (x == r) ≡ false = grind (arith, nat_tests) in
     rw (other, not_has xs a r l h.1) refl
 
-distinct_after : (o : Opening) (past : List Entry) (e : PacketInput) (left : Left) (d : Option Staged) → NumbersGrow → due o past e ≡ d
+distinct_after : (o : Opening) (past : List Entry) (e : PacketInput) (left : SaveOutcome) (d : Option Staged) → NumbersGrow → due o past e ≡ d
     → is_distinct (started_runs o past) ≡ true → is_distinct (started_by left d ++ started_runs o past) ≡ true
 distinct_after o past e Saved (Some s) grow is h =
     rw (not_has (started_runs o past) (last_run o past) s.run (due_above o past e s is) (started_below grow o past), h) refl

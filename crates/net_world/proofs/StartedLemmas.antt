@@ -11,9 +11,9 @@ use Rattle.fc_base.specs.declared.fault.Fault.TheVariants.{NoMirror, BadGenerati
 use Rattle.fc_base.specs.Counted.{has}
 use Rattle.messages.specs.Hearing.{Coming, Comes, Happens, Meaning, Says, Waits, Spoils, Strays, meaning, heard_by, entry_of, with_entry, heard}
 use Rattle.messages.specs.Ranges.{is_generation}
-use Rattle.disk_model.specs.declared.left.Left.{Left}
-use Rattle.disk_model.specs.declared.left.Left.TheVariants as lefts
-use Rattle.disk_model.specs.Left.{has_new, is_lost, is_saved}
+use Rattle.disk_model.specs.declared.save_outcome.SaveOutcome.{SaveOutcome}
+use Rattle.disk_model.specs.declared.save_outcome.SaveOutcome.TheVariants as lefts
+use Rattle.disk_model.specs.SaveOutcome.{has_new, is_lost, is_saved}
 use Rattle.client_core.specs.Inputs.{PacketInput}
 use Rattle.client_core.specs.declared.note.ClientNote.{ClientNote}
 use Rattle.client_core.specs.declared.peers.Peers.{Peers}
@@ -53,7 +53,7 @@ pub record IsOfGeneration (o : Opening) (list : List Entry) : Type 0 where
   pub on : is_on list ≡ true → nat_lt 0 (words_noted o list).generation ≡ true
   pub written : is_blank (words_noted o list) ≡ false → nat_lt 0 (words_noted o list).generation ≡ true
 
-met_written : (on : Bool) (p : Peers) (n : ClientNote) (c : PacketInput) (left : Left) → (on ≡ true → nat_lt 0 n.generation ≡ true)
+met_written : (on : Bool) (p : Peers) (n : ClientNote) (c : PacketInput) (left : SaveOutcome) → (on ≡ true → nat_lt 0 n.generation ≡ true)
     → (is_blank n ≡ false → nat_lt 0 n.generation ≡ true)
     → is_blank (noted_after (has_new left) (due_by on p n c) n) ≡ false → nat_lt 0 (noted_after (has_new left) (due_by on p n c) n).generation ≡ true
 met_written true p n c left f g h = ap (λ (x : ℕ). nat_lt 0 x) (generation_stays (has_new left) (due_by true p n c) n) ∙ f refl
@@ -68,10 +68,10 @@ renewed_positive true g n h f = positive g h
 renewed_positive false g n h f = f refl
 
 -- A renewal that saves nothing finds a note that says something.
-not_blank : (g : ℕ) (left : Left) (b : Bool) → is_generation g ≡ true → is_saved left ≡ true → (has_new left && (is_generation g && b)) ≡ false → b ≡ false
+not_blank : (g : ℕ) (left : SaveOutcome) (b : Bool) → is_generation g ≡ true → is_saved left ≡ true → (has_new left && (is_generation g && b)) ≡ false → b ≡ false
 not_blank g left b h s e = by left (is_generation g) h s e
   where
-    by : (l : Left) (x : Bool) → x ≡ true → is_saved l ≡ true → (has_new l && (x && b)) ≡ false → b ≡ false
+    by : (l : SaveOutcome) (x : Bool) → x ≡ true → is_saved l ≡ true → (has_new l && (x && b)) ≡ false → b ≡ false
     by lefts.NoSave x f k y = absurd cc
     by lefts.Saved true f k y = y
     by lefts.Saved false f k y = absurd cc
@@ -105,14 +105,14 @@ IsWithMirror : Opening → List Entry → Option Entry → Type 0
 IsWithMirror o list None = Unit {0}
 IsWithMirror o list (Some e) = is_with_mirror o list e ≡ true
 
-said_so : (w : Setup) (list : List Entry) (left : Left) (m : Meaning) → IsWithMirror (client_opening w) list (heard_by (at_client w) left m)
+said_so : (w : Setup) (list : List Entry) (left : SaveOutcome) (m : Meaning) → IsWithMirror (client_opening w) list (heard_by (at_client w) left m)
 unfolding IsWithMirror
 said_so w list left (Says p) = refl
 said_so w list left Waits = tt
 said_so w list left Spoils = tt
 said_so w list left Strays = tt
 
-heard_so : (w : Setup) (past : List FrameStep) (c : Coming Entry Left) → w.mirror ≡ true → is_allowed w past (OfClient c) ≡ true
+heard_so : (w : Setup) (past : List FrameStep) (c : Coming Entry SaveOutcome) → w.mirror ≡ true → is_allowed w past (OfClient c) ≡ true
     → IsWithMirror (client_opening w) (of_client w (trace_heard w past)) (entry_of (at_client w) (heard (at_client w) (frames.of_client w past)) c)
 unfolding IsWithMirror
 heard_so w past (Comes f left) has h =
@@ -168,7 +168,7 @@ renews : (b : Bool) (g : ℕ) (gs : List ℕ) (y : Bool) → b ≡ true → is_g
 renews true g gs y h k l = rw (k, l) refl
 renews false g gs y h k l = absurd cc
 
-pub renewal_fits : (w : Setup) (ps : List FrameStep) (g : ℕ) (left : Left)
+pub renewal_fits : (w : Setup) (ps : List FrameStep) (g : ℕ) (left : SaveOutcome)
     → option_or (unless_losable w (trace_heard w ps)) (unless_unused w (trace_heard w ps) g) ≡ None
     → is_of_setup w (trace_heard w ps) (AtClient (client.Renew g left)) ≡ true
 renewal_fits w ps g left h =

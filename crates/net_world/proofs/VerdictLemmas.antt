@@ -3,11 +3,11 @@ use Rattle.std.proofs.Common.{◌≡◌, refl, ◌∙◌, ap, subst, inl, inr, �
 use Rattle.std.specs.Prelude.{if◌then◌else◌, Contains}
 use Rattle.fc_base.specs.declared.numbers.Key.{Key}
 use Rattle.verify_state.specs.State.{State}
-use Rattle.state_table.specs.Laws.{FoundHasItsKey}
+use Rattle.verify_state.specs.TableLaws.{FoundHasItsKey}
 use Rattle.messages.specs.declared.packet.PacketParts.{PacketParts}
 use Rattle.messages.specs.declared.body.Body.TheVariants as bodies
-use Rattle.disk_model.specs.declared.left.Left.TheVariants.{Saved}
-use Rattle.disk_model.specs.Left.{is_lost}
+use Rattle.disk_model.specs.declared.save_outcome.SaveOutcome.TheVariants.{Saved}
+use Rattle.disk_model.specs.SaveOutcome.{is_lost}
 use Rattle.fc_base.proofs.ListLemmas.{none_in, first_or_behind, first_of, behind_one}
 use Rattle.server_core.specs.History.{Opening, Entry, Met, Cut, Restart}
 use Rattle.server_core.specs.Request.{request_of}

@@ -14,7 +14,7 @@ use Rattle.messages.specs.declared.node.Node.{Node}
 use Rattle.messages.specs.declared.node.Node.TheVariants.{Server, Client, Mirror}
 use Rattle.messages.specs.PieceLaws.{OnlySentComesTogether}
 use Rattle.messages.specs.Hearing.{Meaning, Says, Waits, Spoils, Strays, heard}
-use Rattle.disk_model.specs.declared.left.Left.TheVariants as lefts
+use Rattle.disk_model.specs.declared.save_outcome.SaveOutcome.TheVariants as lefts
 use Rattle.server_core.specs.Inputs.{PacketInput as ServerInput}
 use Rattle.server_core.specs.declared.input.Input.TheVariants as server_inputs
 use Rattle.server_core.specs.declared.input.WriteEnd.{WriteEnd}

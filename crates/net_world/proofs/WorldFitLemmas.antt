@@ -5,8 +5,8 @@ use Rattle.std.specs.List.{AllByRecursion}
 use Rattle.fc_base.specs.declared.fault.Fault.{Fault}
 use Rattle.fc_base.specs.declared.fault.Fault.TheVariants.{BadNote, NumbersSpent, NoSave}
 use Rattle.fc_base.specs.declared.limits.TheConstants.{MAX_SERVERS}
-use Rattle.disk_model.specs.declared.left.Left.{Left}
-use Rattle.disk_model.specs.declared.left.Left.TheVariants as lefts
+use Rattle.disk_model.specs.declared.save_outcome.SaveOutcome.{SaveOutcome}
+use Rattle.disk_model.specs.declared.save_outcome.SaveOutcome.TheVariants as lefts
 use Rattle.recheck.specs.Fits.{ReportsFit}
 use Rattle.engine.specs.Running.{Origin}
 use Rattle.engine.specs.Answers.{ticket_of}
@@ -118,7 +118,7 @@ fit_restarted w t (Server s) l h = fit_if (has_boot (opening_of s) (of_server s 
 fit_restarted w t Client l h = fit_unless_so (w.mirror && is_blank (noted_in w t)) (OfClient (Happens (client.Restart w.mirror))) BadNote tt
 fit_restarted w t Mirror l h = tt
 
-fit_renewal : (w : Setup) (t : List Step) (g : ℕ) (left : Left) (fault : Fault)
+fit_renewal : (w : Setup) (t : List Step) (g : ℕ) (left : SaveOutcome) (fault : Fault)
     → FitBe (if is_blank (noted_in w t) then Ok (OfClient (Happens (client.Renew g left))) else Err fault)
 fit_renewal w t g left fault = fit_if (is_blank (noted_in w t)) (OfClient (Happens (client.Renew g left))) fault tt
 

@@ -6,11 +6,11 @@ use Rattle.std.specs.Option.{option_or}
 use Rattle.std.proofs.lemmas.Option.{slice_get_within, get_or_from_slice_get}
 use Rattle.fc_base.specs.declared.fault.Fault.{Fault}
 use Rattle.fc_base.specs.declared.fault.Fault.TheVariants.{BadNote, NumbersSpent, NoSave}
-use Rattle.disk_model.specs.declared.left.Left.{Left}
-use Rattle.disk_model.specs.declared.left.Left.TheVariants as lefts
+use Rattle.disk_model.specs.declared.save_outcome.SaveOutcome.{SaveOutcome}
+use Rattle.disk_model.specs.declared.save_outcome.SaveOutcome.TheVariants as lefts
 use Rattle.engine.specs.Running.{Origin}
 use Rattle.engine.specs.Answers.{ticket_of}
-use Rattle.disk_model.specs.Left.{saved_for}
+use Rattle.disk_model.specs.SaveOutcome.{saved_for}
 use Rattle.messages.specs.declared.frame.Frame.{Frame}
 use Rattle.messages.specs.declared.node.Node.{Node}
 use Rattle.messages.specs.declared.node.Node.TheVariants.{Server, Client, Mirror}
@@ -101,7 +101,7 @@ pub either_way : (b : Bool) → (if b then true else true) ≡ true
 either_way true = refl
 either_way false = refl
 
-pub may_client : (w : Setup) (ps : List FrameStep) (t : List Step) (c : ClientInput) → ((left : Left) → packet_in (client.Met c left) ≡ [])
+pub may_client : (w : Setup) (ps : List FrameStep) (t : List Step) (c : ClientInput) → ((left : SaveOutcome) → packet_in (client.Met c left) ≡ [])
     → MayBe w ps (met_by_client w t c)
 unfolding MayBe Goes
 may_client w ps t c m = may_unless w ps (clients.refusal (client_opening w) (of_client w t) c) _
@@ -140,14 +140,14 @@ may_restart w ps Client so h =
     (λ e. (refl, restart_fits w ps so e))
 may_restart w ps Mirror so h = (tt, has_mirror_of w.mirror _ h)
 
-pub may_renew : (w : Setup) (ps : List FrameStep) (g : ℕ) (left : Left) (fault : Fault)
+pub may_renew : (w : Setup) (ps : List FrameStep) (g : ℕ) (left : SaveOutcome) (fault : Fault)
     → option_or (unless_losable w (trace_heard w ps)) (unless_unused w (trace_heard w ps) g) ≡ None
     → MayBe w ps (if is_blank (noted_in w (trace_heard w ps)) then Ok (OfClient (Happens (client.Renew g left))) else Err fault)
 unfolding Goes
 may_renew w ps g left fault h =
     may_if w ps (is_blank (noted_in w (trace_heard w ps))) (OfClient (Happens (client.Renew g left))) fault (λ e. (refl, renewal_fits w ps g left h))
 
-may_client_cut : (w : Setup) (ps : List FrameStep) (t : List Step) (landed : Bool) (c : ClientInput) → ((left : Left) → packet_in (client.Met c left) ≡ [])
+may_client_cut : (w : Setup) (ps : List FrameStep) (t : List Step) (landed : Bool) (c : ClientInput) → ((left : SaveOutcome) → packet_in (client.Met c left) ≡ [])
     → MayBe w ps (client_cut_in w t landed c)
 unfolding Goes
 may_client_cut w ps t landed c m = may_save w ps (clients.due (client_opening w) (of_client w t) c) (OfClient (Happens (client.Met c (lost_by landed))))

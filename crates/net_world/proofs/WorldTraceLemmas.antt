@@ -3,7 +3,7 @@ use Rattle.std.proofs.Common.{◌≡◌, refl, List, [], ◌∷◌, Option, Some
 use Rattle.std.specs.Prelude.{slice_get}
 use Rattle.fc_base.specs.declared.fault.Fault.{Fault}
 use Rattle.fc_base.specs.declared.fault.Fault.TheVariants.{BadNote}
-use Rattle.disk_model.specs.declared.left.Left.TheVariants as lefts
+use Rattle.disk_model.specs.declared.save_outcome.SaveOutcome.TheVariants as lefts
 use Rattle.server_core.specs.declared.input.Input.TheVariants as server_inputs
 use Rattle.server_core.specs.declared.input.WriteEnd.TheVariants as ends
 use Rattle.server_core.specs.Check.{check}

@@ -6,13 +6,14 @@ use Rattle.fc_base.specs.declared.fault.FaultSort.{FaultSort}
 use Rattle.fc_base.specs.declared.fault.FaultSort.TheVariants as sorts
 use Rattle.fc_base.specs.Fault.{sort_of}
 use Rattle.messages.specs.Senses.{is_drop}
-use Rattle.disk_model.specs.declared.left.Left.TheVariants.{NoSave}
+use Rattle.disk_model.specs.declared.save_outcome.SaveOutcome.TheVariants.{NoSave}
 use Rattle.messages.specs.declared.node.Node.TheVariants.{Client}
 use Rattle.messages.specs.declared.refusal.Act.TheVariants as acts
 use Rattle.client_core.specs.Inputs.{FrameInput}
 use Rattle.client_core.specs.Hearing.{FrameEntry, Met, coming_of}
 use Rattle.client_core.specs.FrameAnswers.{sense, refusal, answered_entry}
-use Rattle.net_world.specs.declared.client_outs.ClientOuts.{ClientOuts}
+use Rattle.client_core.specs.declared.outs.Outs.{Outs}
+use Rattle.net_world.specs.ClientAnswers.{world_answer}
 use Rattle.net_world.specs.declared.told.Told.{Told}
 use Rattle.net_world.specs.declared.world.World.{World}
 use Rattle.net_world.specs.Setup.{Setup}
@@ -37,9 +38,9 @@ abbrev pub step_by : Setup → List Change → FrameInput → FrameStep
 step_by w past e = step_of (answered_entry (client_opening w) (entries w past) e)
 
 -- What is told of what the client has answered, behind so many frames.
-abbrev pub told_of : ℕ → ClientOuts → Told
+abbrev pub told_of : ℕ → Outs → Told
 told_of first asked =
-    record { answer = asked.answer; first = first; sent = length asked.frames; act = acts.None }
+    record { answer = world_answer asked.answer; first = first; sent = length asked.frames; act = acts.None }
 
 -- The client is on, doesn't refuse what comes, and its step is added.
 pub record IsAnswered (w : Setup) (past : List Change) (e : FrameInput) (new : World)

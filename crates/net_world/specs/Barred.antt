@@ -29,11 +29,11 @@ unless test fault = if test then None else Some fault
 abbrev pub no_server : Setup → ℕ → Option Fault
 no_server w s = unless (nat_lt s w.servers) NoServer
 
--- It has no mirror.
+-- A world has no mirror.
 abbrev pub no_mirror : Setup → Option Fault
 no_mirror w = unless w.mirror NoMirror
 
--- It has no such node.
+-- A world has no such node.
 abbrev pub no_node : Setup → Node → Option Fault
 no_node w (Server s) = no_server w s
 no_node w Client = None

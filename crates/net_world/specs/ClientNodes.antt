@@ -1,30 +1,30 @@
 -- What kind of node the client of a world is, and how its calls end.
-use Rattle.std.specs.Prelude.{◌≡◌, ◌⊎◌, ℕ, ◌+◌, Bool, true, false, ◌&&◌, List, [], ◌∷◌}
+use Rattle.std.specs.Prelude.{◌≡◌, ◌⊎◌, ℕ, Bool, true, false, ◌&&◌, List, [], ◌∷◌}
 use Rattle.std.specs.Prelude.{Result, Ok, Err}
 use Rattle.fc_base.specs.declared.fault.Fault.{Fault}
 use Rattle.fc_base.specs.declared.fault.Fault.TheVariants.{BadNote, NodeOn, NoSave}
 use Rattle.fc_base.specs.Fault.{sort_of}
 use Rattle.disk_model.specs.MemNotes.{Saved as Kept, note_of}
-use Rattle.disk_model.specs.declared.left.Left.TheVariants.{Saved}
+use Rattle.disk_model.specs.declared.save_outcome.SaveOutcome.TheVariants.{Saved}
 use Rattle.client_core.specs.declared.client.Client.{Client}
 use Rattle.client_core.specs.Inputs.{FrameInput}
-use Rattle.client_core.specs.Inputs as inputs
 use Rattle.client_core.specs.History.{Opening}
 use Rattle.client_core.specs.declared.note.ClientNote.{ClientNote}
 use Rattle.client_core.specs.Note.{Says, is_blank}
 use Rattle.client_core.specs.Words.{words_noted}
 use Rattle.client_core.specs.Saves.{Addition}
-use Rattle.client_core.specs.Hearing.{FrameEntry, Restart, Renew, Lose, packets_heard, is_up}
+use Rattle.client_core.specs.Hearing.{FrameEntry, Cut, Restart, Renew, Lose, packets_heard, is_up}
 use Rattle.client_core.specs.FrameEnds.{steps}
-use Rattle.net_world.specs.declared.client_outs.ClientOuts.{ClientOuts}
+use Rattle.client_core.specs.Answers as core
+use Rattle.client_core.specs.declared.outs.Outs.{Outs}
 use Rattle.node.specs.declared.power.Power.{Power}
 use Rattle.node.specs.declared.power.Power.TheVariants.{Off}
 use Rattle.node.specs.Kinds.{Kind}
 use Rattle.net_world.specs.declared.told.WorldAnswer.{WorldAnswer}
-use Rattle.net_world.specs.declared.told.WorldAnswer.TheVariants as answers
+use Rattle.net_world.specs.ClientAnswers.{world_answer}
 use Rattle.net_world.specs.Nodes as nodes
 use Rattle.net_world.specs.Nodes.{Answers, Faults, Starts}
-use Rattle.net_world.specs.Outcomes.{lost_by}
+use Rattle.node.specs.Kinds.{lost_by}
 
 -- The client of a world.
 abbrev pub ClientNode : Type 0
@@ -53,24 +53,21 @@ client_nodes opening = record {
   core = steps note_of opening;
   note = note_of;
   Says = IsNoteOf opening;
+  cut = Cut;
 }
 
--- For which lists it stands.
+-- For which lists the client of a world stands.
 abbrev pub Stands : Opening → List FrameEntry → ClientNode → Type 0
 Stands opening = nodes.Stands (client_nodes opening)
 
 -- What is answered: the number of the run or of the attempt, if one has begun.
 abbrev pub answer_to : Opening → List FrameEntry → FrameInput → WorldAnswer
-answer_to opening past (inputs.Begin text) =
-    answers.Run ((words_noted opening (packets_heard opening past)).runs + 1)
-answer_to opening past (inputs.Verify run text) =
-    answers.Attempt ((words_noted opening (packets_heard opening past)).attempts + 1)
-answer_to opening past _ = answers.Plain
+answer_to opening past e = world_answer (core.answer_to opening past e)
 
 -- How a call ends: as what comes to a node does, and with that number.
-abbrev pub Asks : Opening → List FrameEntry → FrameInput → ClientNode → Result ClientOuts Fault → Type 0
+abbrev pub Asks : Opening → List FrameEntry → FrameInput → ClientNode → Result Outs Fault → Type 0
 Asks opening past e new (Ok asked) =
-    (asked.answer ≡ answer_to opening past e)
+    (asked.answer ≡ core.answer_to opening past e)
     × Answers (client_nodes opening) past e new asked.frames
 Asks opening past e new (Err fault) = Faults (client_nodes opening) past e (sort_of fault) fault new
 

@@ -7,7 +7,7 @@ use Rattle.net_world.specs.Setup.{Setup}
 use Rattle.net_world.specs.Frames.{frames_sent}
 use Rattle.net_world.specs.Changes.{Change, steps}
 
--- It is the frame of this number, or there is none, or memory has run out.
+-- The frame of this number is found, or there is none, or memory has run out.
 abbrev pub FindsFrame : Setup → List Change → ℕ → Result Frame Fault → Type 0
 FindsFrame w past number (Ok f) = slice_get (frames_sent w (steps past)) number ≡ Some f
 FindsFrame w past number (Err NoFrame) = slice_get (frames_sent w (steps past)) number ≡ None

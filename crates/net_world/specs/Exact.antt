@@ -3,8 +3,8 @@ use Rattle.std.specs.Prelude.{◌≡◌, ℕ, false, List, ◌∷◌, ◌++◌, 
 use Rattle.fc_base.specs.declared.report.ReportParts.{ReportParts}
 use Rattle.job_file.specs.declared.job.Job.{Job}
 use Rattle.verify_state.specs.State.{State}
-use Rattle.disk_model.specs.declared.left.Left.{Left}
-use Rattle.disk_model.specs.declared.left.Left.TheVariants.{Saved}
+use Rattle.disk_model.specs.declared.save_outcome.SaveOutcome.{SaveOutcome}
+use Rattle.disk_model.specs.declared.save_outcome.SaveOutcome.TheVariants.{Saved}
 use Rattle.server_core.specs.Inputs.{PacketInput}
 use Rattle.server_core.specs.History.{Opening, Entry, Met}
 use Rattle.server_core.specs.Accepted.{IsTaking}
@@ -24,7 +24,7 @@ abbrev pub IsQuiet :
     IsTaking opening run j list state
     → Type 0
 IsQuiet {opening} taking =
-    (later between : List Entry) (e : PacketInput) (left : Left) →
+    (later between : List Entry) (e : PacketInput) (left : SaveOutcome) →
     taking.newer ≡ later ++ Met e left ∷ between →
     gives_write (issue opening (between ++ Met taking.trigger taking.left
     ∷ (taking.between ++ Met taking.start Saved ∷ taking.older)) e) ≡ false

@@ -61,7 +61,7 @@ frames_of events = map shown_frame (frames_sent one (steps (world one events)))
 abbrev pub told_next : List Happening → Happening → Result Told Fault
 told_next events e = told_of_happening one (world one events) e
 
--- It is told this, with so many frames from the first on.
+-- A happening is told with this answer and act, and with this many frames from the first on.
 abbrev pub says : WorldAnswer → ℕ → ℕ → Act → Result Told Fault
 says answer first sent act = Ok (record { answer = answer; first = first; sent = sent; act = act })
 
@@ -81,7 +81,7 @@ writing_text = codes "[a]\nrw=write\nbs=512\nsize=1k\niodepth=2\n"
 abbrev pub reading_text : List ℕ
 reading_text = codes "[a]\nrw=read\nbs=512\nsize=1k\nverify_state_load=1\n"
 
--- The same job without a state, so that it is checked in a full pass.
+-- A job that checks without a state, in a full pass.
 abbrev pub full_reading_text : List ℕ
 full_reading_text = codes "[a]\nrw=read\nbs=512\nsize=1k\n"
 
@@ -90,7 +90,7 @@ full_reading_text = codes "[a]\nrw=read\nbs=512\nsize=1k\n"
 abbrev pub after_stage : List Happening
 after_stage = Deliver 1 ∷ Deliver 0 ∷ Begin writing_text ∷ []
 
--- Its Start has come, and the answer to that.
+-- The Start has come to the server, and the answer to it has come to the client.
 abbrev pub after_start : List Happening
 after_start = Deliver 3 ∷ Deliver 2 ∷ after_stage
 
@@ -121,7 +121,7 @@ first_frames =
     asks kinds.Jobs 62 ∷ replies kinds.JobsOk 28 ∷ asks kinds.Start 24 ∷ replies kinds.Started 24 ∷
     []
 
--- Those of the trigger.
+-- The frames of the trigger: the request, the state, and its acknowledgment.
 abbrev pub trigger_frames : List Shown
 trigger_frames = asks kinds.Trigger 25 ∷ replies kinds.State 156 ∷ asks kinds.StateAck 28 ∷ []
 

@@ -10,7 +10,7 @@ use Rattle.messages.specs.Pieces.{frames_of}
 use Rattle.messages.specs.Assemblies.{look_at_piece, Gives}
 use Rattle.messages.specs.PieceLaws.{ArePackets, OneBodyOfEachTag, all_taken}
 use Rattle.messages.specs.Hearing.{Coming, heard}
-use Rattle.disk_model.specs.declared.left.Left.{Left}
+use Rattle.disk_model.specs.declared.save_outcome.SaveOutcome.{SaveOutcome}
 use Rattle.server_core.specs.History.{Entry}
 use Rattle.server_core.specs.Hearing.{heard_at}
 use Rattle.server_core.specs.FrameAnswers as answers
@@ -67,7 +67,7 @@ pub record PiecesHold (w : Setup) (t : List FrameStep) (key : Key) (state : Stat
 pub record ServerStands (w : Setup) (s : ℕ) (t : List FrameStep) : Type 0 where
   pub hears : heard_at (opening_of s) (server_entries s t) ≡ heard (at_server s) (of_server s t)
   pub sends :
-      (c : Coming Entry Left)
+      (c : Coming Entry SaveOutcome)
       → answers.frames (opening_of s) (server_entries s t) (frame_entry c)
       ≡ frames_of_step w t (OfServer s c)
 

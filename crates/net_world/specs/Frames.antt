@@ -10,8 +10,8 @@ use Rattle.messages.specs.declared.frame.Frame.{Frame}
 use Rattle.messages.specs.declared.frame.Frame.TheVariants.{Whole, Piece}
 use Rattle.messages.specs.Pieces.{frames_of}
 use Rattle.messages.specs.Hearing.{Rules, Coming, Comes, Happens, entry_of, frames_by, with_entry, heard}
-use Rattle.disk_model.specs.declared.left.Left.{Left}
-use Rattle.disk_model.specs.declared.left.Left.TheVariants.{Saved}
+use Rattle.disk_model.specs.declared.save_outcome.SaveOutcome.{SaveOutcome}
+use Rattle.disk_model.specs.declared.save_outcome.SaveOutcome.TheVariants.{Saved}
 use Rattle.server_core.specs.Inputs.{PacketInput as ServerInput}
 use Rattle.server_core.specs.declared.input.Input.TheVariants as server_inputs
 use Rattle.server_core.specs.History as server
@@ -30,19 +30,19 @@ use Rattle.net_world.specs.Trace.{Step, AtServer, AtClient, AtMirror, opening_of
 -- A step: a frame comes to the server with this number, or anything else happens to it; or to the
 -- client; or something comes to the mirror, which hears whole frames alone.
 pub data FrameStep : Type 0 where
-  OfServer : ℕ → Coming server.Entry Left → FrameStep
-  OfClient : Coming client.Entry Left → FrameStep
+  OfServer : ℕ → Coming server.Entry SaveOutcome → FrameStep
+  OfClient : Coming client.Entry SaveOutcome → FrameStep
   OfMirror : mirror.Entry → FrameStep
 
 -- What has happened to server s: its first restart, and its steps since.
-abbrev pub of_server : ℕ → List FrameStep → List (Coming server.Entry Left)
+abbrev pub of_server : ℕ → List FrameStep → List (Coming server.Entry SaveOutcome)
 of_server s [] = Happens (server.Restart Saved) ∷ []
 of_server s (OfServer r c ∷ past) = if r == s then c ∷ of_server s past else of_server s past
 of_server s (OfClient c ∷ past) = of_server s past
 of_server s (OfMirror e ∷ past) = of_server s past
 
 -- What has happened to the client.
-abbrev pub of_client : Setup → List FrameStep → List (Coming client.Entry Left)
+abbrev pub of_client : Setup → List FrameStep → List (Coming client.Entry SaveOutcome)
 of_client w [] = Happens (first_entry w.mirror) ∷ []
 of_client w (OfServer s c ∷ past) = of_client w past
 of_client w (OfClient c ∷ past) = c ∷ of_client w past
@@ -55,18 +55,18 @@ of_mirror (OfServer s c ∷ past) = of_mirror past
 of_mirror (OfClient c ∷ past) = of_mirror past
 of_mirror (OfMirror e ∷ past) = e ∷ of_mirror past
 
--- How each node hears.
-abbrev pub at_server : ℕ → Rules ServerInput server.Entry Left
+-- How the server of this number hears frames.
+abbrev pub at_server : ℕ → Rules ServerInput server.Entry SaveOutcome
 at_server s = server_hearing.rules (opening_of s)
 
 -- How the client of a setup hears frames.
-abbrev pub at_client : Setup → Rules ClientInput client.Entry Left
+abbrev pub at_client : Setup → Rules ClientInput client.Entry SaveOutcome
 at_client w = client_hearing.rules (client_opening w)
 
 -- The frames that a node sends, to which this has happened, with what happens now.
 abbrev pub frames_of_coming :
-    {X E : Type 0} → Rules X E Left → (List E → E → List PacketParts) → List (Coming E Left)
-    → Coming E Left → List Frame
+    {X E : Type 0} → Rules X E SaveOutcome → (List E → E → List PacketParts) → List (Coming E SaveOutcome)
+    → Coming E SaveOutcome → List Frame
 frames_of_coming r sends past c =
     frames_by sends (heard r past).entries (entry_of r (heard r past) c)
 
@@ -128,7 +128,7 @@ IsFrameTrace w (step ∷ past) =
 
 -- What happens to a server, as an entry of its list of frames. A packet that comes besides the
 -- frames, as none does in a trace, is one that comes whole.
-abbrev pub frame_entry : Coming server.Entry Left → server_hearing.FrameEntry
+abbrev pub frame_entry : Coming server.Entry SaveOutcome → server_hearing.FrameEntry
 frame_entry (Comes f left) = server_hearing.Met (server_inputs.Deliver f) left
 frame_entry (Happens (server.Met (server_inputs.Deliver p) left)) =
     server_hearing.Met (server_inputs.Deliver (Whole p)) left
@@ -145,7 +145,7 @@ abbrev pub server_entries : ℕ → List FrameStep → List server_hearing.Frame
 server_entries s t = map frame_entry (of_server s t)
 
 -- What happens to the client, as an entry of its list of frames.
-abbrev pub client_frame_entry : Coming client.Entry Left → client_hearing.FrameEntry
+abbrev pub client_frame_entry : Coming client.Entry SaveOutcome → client_hearing.FrameEntry
 client_frame_entry (Comes f left) = client_hearing.Met (client_inputs.Deliver f) left
 client_frame_entry (Happens (client.Met (client_inputs.Begin text) left)) =
     client_hearing.Met (client_inputs.Begin text) left

@@ -9,7 +9,7 @@ use Rattle.verify_state.specs.State.{State}
 use Rattle.messages.specs.declared.packet.PacketParts.{PacketParts}
 use Rattle.messages.specs.declared.body.Body.TheVariants as bodies
 use Rattle.messages.specs.declared.refusal.Act.TheVariants as acts
-use Rattle.disk_model.specs.declared.left.Left.{Left}
+use Rattle.disk_model.specs.declared.save_outcome.SaveOutcome.{SaveOutcome}
 use Rattle.server_core.specs.Inputs.{PacketInput}
 use Rattle.server_core.specs.History.{Met}
 use Rattle.server_core.specs.Run.{Work}
@@ -48,7 +48,7 @@ OneTaking w t = (key : Key) → length (taken_of key t) ≤ 1
 abbrev pub HeldIsTheTaken : Setup → List Step → Type 0
 HeldIsTheTaken w t = (key : Key) (state : State) → Holds w t key state → taken_of key t ≡ state ∷ []
 
--- So do pieces that were sent and hold one together.
+-- Pieces that were sent, and together hold a state of a job of a run, hold the one that was taken.
 abbrev pub PiecesHoldTheTaken : Setup → List FrameStep → Type 0
 PiecesHoldTheTaken w t =
     (key : Key) (state : State) → PiecesHold w t key state
@@ -110,7 +110,7 @@ KeptWhereServed w t =
 -- be lost since.
 abbrev pub KeptWhereCut : Setup → List Step → Type 0
 KeptWhereCut w t =
-    (later earlier : List Step) (s : ℕ) (e : PacketInput) (left : Left) (now : Work) (j : ℕ)
+    (later earlier : List Step) (s : ℕ) (e : PacketInput) (left : SaveOutcome) (now : Work) (j : ℕ)
     (state : State) →
     t ≡ later ++ AtServer s (Met e left) ∷ earlier
     → work (opening_of s) (of_server s earlier) ≡ Some now

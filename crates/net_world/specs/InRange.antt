@@ -19,7 +19,7 @@ ReportFits (Issue j) = Unit {0}
 ReportFits (WriteDone ticket end) = Unit {0}
 ReportFits (CheckDone boot a j report) = IsTrue (is_report report)
 
--- So it is with that of an entry.
+-- The report of a check that comes by an entry is within its ranges.
 abbrev pub EntryFits : Entry → Type 0
 EntryFits (Met e left) = ReportFits e
 EntryFits Cut = Unit {0}
@@ -32,7 +32,8 @@ StepFits (AtServer s e) = (s < MAX_SERVERS) × EntryFits e
 StepFits (AtClient e) = Unit {0}
 StepFits (AtMirror e) = Unit {0}
 
--- The same of a step of frames.
+-- A step of frames is at the client, at the mirror, or at a server with a number below 8, and its
+-- report is within its ranges.
 abbrev pub FrameStepFits : FrameStep → Type 0
 FrameStepFits (OfServer s (Comes f left)) = s < MAX_SERVERS
 FrameStepFits (OfServer s (Happens e)) = (s < MAX_SERVERS) × EntryFits e

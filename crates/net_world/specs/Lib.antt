@@ -32,11 +32,11 @@ pub mod Ends
 -- Calls inside a world that runs: no public contract cites these.
 pub mod Nodes
 pub mod ServerNodes
+pub mod ClientAnswers
 pub mod ClientNodes
 pub mod MirrorNodes
 pub mod Serving
 pub mod Asking
-pub mod Asks
 pub mod Telling
 pub mod Finding
 pub mod Delivering

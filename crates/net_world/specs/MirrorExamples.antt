@@ -50,7 +50,7 @@ after_write =
     Done 0 0 0 ∷ Land 0 0 0 1 ∷ Issue 0 0
     ∷ Deliver 5 ∷ Deliver 4 ∷ Deliver 3 ∷ Deliver 2 ∷ Begin writing_text ∷ after_grant
 
--- Its state is taken.
+-- The run is triggered, and its state is taken.
 abbrev pub after_trigger : List Happening
 after_trigger = Deliver 6 ∷ Trigger 4294967297 acts.Cut ∷ after_write
 
@@ -114,8 +114,8 @@ pub record RefusesOfAMirror : Type 0 where
 abbrev pub after_cut_in_renewal : Bool → List Happening
 after_cut_in_renewal landed = CutIn landed (Renew 2) ∷ LoseNote ∷ Cut Client ∷ []
 
--- Its generation is used up either way; behind the save it is restarted, before it it is renewed
--- with the next.
+-- A client that is stopped within its renewal has used its generation up either way: where the save
+-- was made it is restarted, else it is renewed with the next.
 pub record StopsWithinARenewal : Type 0 where
   pub old_used : told_next (after_cut_in_renewal false) (Renew 2) ≡ Err faults.UsedGeneration
   pub old_empty : told_next (after_cut_in_renewal false) (Restart Client) ≡ Err faults.BadNote

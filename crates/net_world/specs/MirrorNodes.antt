@@ -22,7 +22,7 @@ MirrorNode = Power (Mirror Kept) Kept
 abbrev pub mirror_nodes : MirrorNote → Kind (Mirror Kept) Kept Frame Entry Addition (List (List ℕ))
 mirror_nodes opening = mirror_kind note_of opening
 
--- For which lists it stands.
+-- For which lists the mirror of a world stands.
 abbrev pub Stands : MirrorNote → List Entry → MirrorNode → Type 0
 Stands opening = nodes.Stands (mirror_nodes opening)
 

@@ -8,12 +8,12 @@ use Rattle.fc_base.specs.declared.fault.Fault.TheVariants as faults
 use Rattle.fc_base.specs.declared.fault.FaultSort.{FaultSort}
 use Rattle.fc_base.specs.declared.fault.FaultSort.TheVariants as sorts
 use Rattle.fc_base.specs.Fault.{sort_of}
-use Rattle.disk_model.specs.declared.left.Left.TheVariants.{NoSave}
+use Rattle.disk_model.specs.declared.save_outcome.SaveOutcome.TheVariants.{NoSave}
 use Rattle.node.specs.Steps.{answered}
 use Rattle.node.specs.declared.power.Power.{Power}
 use Rattle.node.specs.declared.power.Power.TheVariants.{On, Off, Lent}
 use Rattle.node.specs.Kinds.{Kind}
-use Rattle.net_world.specs.Outcomes.{lost_by}
+use Rattle.node.specs.Kinds.{lost_by}
 
 -- A node that has power is on, which the list says, and its core stands for the list; of one that
 -- has none, which the list says, the notes say what the list says.

@@ -3,18 +3,18 @@ use Rattle.std.specs.Prelude.{◌≡◌, ℕ, Bool, true, false, List, [], ◌�
 use Rattle.disk_model.specs.File.{File, zeros}
 use Rattle.disk_model.specs.MemDisk.{file_of}
 use Rattle.disk_model.specs.declared.mem_disk.MemDisk.{MemDisk}
-use Rattle.disk_model.specs.declared.left.Left.TheVariants.{Saved}
+use Rattle.disk_model.specs.declared.save_outcome.SaveOutcome.TheVariants.{Saved}
 use Rattle.server_core.specs.Hearing.{Restart}
 use Rattle.mirror_core.specs.History as mirror
 use Rattle.net_world.specs.declared.config.Config.{Config}
 use Rattle.net_world.specs.MirrorNodes.{MirrorNode}
-use Rattle.net_world.specs.declared.mirror_node.Mirrored.{Mirrored}
+use Rattle.net_world.specs.declared.mirror_node.MirrorSlot.{MirrorSlot}
 use Rattle.net_world.specs.ServerNodes.{ServerNode}
 use Rattle.net_world.specs.Trace.{opening_of, mirror_opening}
 use Rattle.net_world.specs.MirrorNodes as mirrors
 use Rattle.net_world.specs.ServerNodes.{Stands}
 
--- So many servers, each on since its first restart.
+-- The servers of a world are this many, each on since its first restart.
 pub record AreOpened (count : ℕ) (nodes : List ServerNode) : Type 0 where
   pub number : length nodes ≡ count
   pub each :
@@ -31,14 +31,14 @@ OpensMirror _ _ greatest = ⊥
 
 -- The mirror is on since its first restart, where the world has one, and the client's generation
 -- was handed in.
-abbrev pub HasOpened : Config → Mirrored → Type 0
+abbrev pub HasOpened : Config → MirrorSlot → Type 0
 HasOpened config m = OpensMirror config.mirror m.node m.greatest
 
 -- A file that was never written, in a disk that is on.
 abbrev pub blank : File
 blank = record { content = λ _. zeros; power = Some 0; failures = 0 }
 
--- So many of them.
+-- The files are this many, each never written, in a disk that is on.
 pub record AreBlank (count : ℕ) (files : List MemDisk) : Type 0 where
   pub number : length files ≡ count
   pub each : (i : ℕ) (disk : MemDisk) → slice_get files i ≡ Some disk → file_of disk ≡ blank

@@ -6,9 +6,9 @@ use Rattle.messages.specs.declared.node.Node.{Node}
 use Rattle.messages.specs.declared.node.Node.TheVariants.{Server, Client, Mirror}
 use Rattle.messages.specs.declared.frame.Frame.{Frame}
 use Rattle.messages.specs.Hearing.{Comes, Happens, Meaning, Says, Waits, Spoils, Strays, meaning, heard}
-use Rattle.disk_model.specs.declared.left.Left.{Left}
-use Rattle.disk_model.specs.declared.left.Left.TheVariants as lefts
-use Rattle.disk_model.specs.Left.{saved_for}
+use Rattle.disk_model.specs.declared.save_outcome.SaveOutcome.TheVariants as lefts
+use Rattle.disk_model.specs.SaveOutcome.{saved_for}
+pub use Rattle.node.specs.Kinds.{lost_by}
 use Rattle.engine.specs.Running.{Origin}
 use Rattle.engine.specs.Answers.{ticket_of}
 use Rattle.server_core.specs.Inputs.{PacketInput as ServerInput}
@@ -59,10 +59,6 @@ abbrev pub where_saved : {X Y : Type 0} → Option X → Y → Result Y Fault
 where_saved None y = Err NoSave
 where_saved (Some x) y = Ok y
 
--- What is left by a save in which the node loses its power.
-abbrev pub lost_by : Bool → Left
-lost_by landed = if landed then lefts.LostNew else lefts.LostOld
-
 -- A server meets an event and saves what is due, unless it refuses the event.
 abbrev pub met_by_server : List Step → ℕ → ServerInput → Result FrameStep Fault
 met_by_server t s e =
@@ -91,7 +87,8 @@ comes_to_server t s f Waits = Does (Met (OfServer s (Comes f lefts.NoSave)))
 comes_to_server t s f Spoils = Drops (OfServer s (Comes f lefts.NoSave))
 comes_to_server t s f Strays = Refuses Misdirected
 
--- The same of the client.
+-- A frame comes to the client, which makes this of it: its packet is met, or refused; a piece waits
+-- for others; or it is refused, and its tag is dropped; or it isn't for the client.
 abbrev pub comes_to_client : Setup → List Step → Frame → Meaning → Outcome
 comes_to_client w t f (Says p) =
     let opening = client_opening w in
@@ -186,13 +183,13 @@ client_frame_cut w t landed f (Says p) =
     (OfClient (Comes f (lost_by landed)))
 client_frame_cut w t landed f _ = Err NoSave
 
--- The mirror does.
+-- The mirror loses its power within the save that a frame is due to make.
 abbrev pub mirror_frame_cut : List Step → Bool → Frame → Result FrameStep Fault
 mirror_frame_cut t landed f =
     where_saved (mirrors.due mirror_opening (of_mirror t) f)
     (OfMirror (mirror.Met f (lost_by landed)))
 
--- The node of a frame does.
+-- The node to which a frame goes loses its power within the save that the frame is due to make.
 abbrev pub frame_cut : Setup → List Change → Bool → Node → Frame → Result FrameStep Fault
 frame_cut w past landed (Server s) f =
     server_frame_cut (trace w past) s landed f (said_to_server (steps past) s f)

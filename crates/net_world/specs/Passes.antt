@@ -73,7 +73,7 @@ NoPacketConflicts w t =
     (p : PacketParts) → Contains (sent_packets w t) p →
     refusal (client_opening w) (of_client w t) (Deliver p) ≡ Some Conflict → ⊥
 
--- Nor is one by the mirror.
+-- No packet that was sent is refused by the mirror as another state of a kept key.
 abbrev pub NoCopyConflicts : Setup → List Step → Type 0
 NoCopyConflicts w t =
     (p : PacketParts) → Contains (sent_packets w t) p →

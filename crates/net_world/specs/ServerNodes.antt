@@ -4,7 +4,7 @@ use Rattle.std.specs.Prelude.{Result, Ok, Err}
 use Rattle.fc_base.specs.declared.fault.Fault.{Fault}
 use Rattle.fc_base.specs.declared.fault.Fault.TheVariants.{NoSave, NumbersSpent}
 use Rattle.disk_model.specs.MemNotes.{Saved as Kept, note_of}
-use Rattle.disk_model.specs.declared.left.Left.TheVariants.{Saved}
+use Rattle.disk_model.specs.declared.save_outcome.SaveOutcome.TheVariants.{Saved}
 use Rattle.server_core.specs.Inputs.{FrameInput}
 use Rattle.server_core.specs.declared.note.ServerNote.{ServerNote}
 use Rattle.server_core.specs.declared.outs.Outs.{Outs}
@@ -17,7 +17,7 @@ use Rattle.node.specs.Kinds.{Kind}
 use Rattle.server_core.specs.NodeKind.{server_kind}
 use Rattle.net_world.specs.Nodes as nodes
 use Rattle.net_world.specs.Nodes.{Starts}
-use Rattle.net_world.specs.Outcomes.{lost_by}
+use Rattle.node.specs.Kinds.{lost_by}
 
 -- A server of a world.
 abbrev pub ServerNode : Type 0
@@ -27,7 +27,7 @@ ServerNode = Power (Server Kept) Kept
 abbrev pub server_nodes : Opening → Kind (Server Kept) Kept FrameInput FrameEntry Staged Outs
 server_nodes opening = server_kind note_of opening
 
--- For which lists it stands.
+-- For which lists a server of a world stands.
 abbrev pub Stands : Opening → List FrameEntry → ServerNode → Type 0
 Stands opening = nodes.Stands (server_nodes opening)
 

@@ -6,12 +6,12 @@ use Rattle.fc_base.specs.declared.fault.FaultSort.{FaultSort}
 use Rattle.fc_base.specs.declared.fault.FaultSort.TheVariants as sorts
 use Rattle.fc_base.specs.Fault.{sort_of}
 use Rattle.messages.specs.Senses.{is_drop}
-use Rattle.disk_model.specs.declared.left.Left.TheVariants.{NoSave}
+use Rattle.disk_model.specs.declared.save_outcome.SaveOutcome.TheVariants.{NoSave}
 use Rattle.messages.specs.declared.node.Node.TheVariants as nodes
 use Rattle.server_core.specs.Inputs.{FrameInput}
 use Rattle.server_core.specs.Hearing.{FrameEntry, Met, coming_of}
 use Rattle.server_core.specs.FrameAnswers.{sense, refusal, issue, act, answered_entry}
-use Rattle.net_world.specs.declared.served.Served.{Served}
+use Rattle.net_world.specs.declared.sent_reply.SentReply.{SentReply}
 use Rattle.net_world.specs.declared.world.World.{World}
 use Rattle.net_world.specs.Setup.{Setup}
 use Rattle.net_world.specs.Trace.{opening_of}
@@ -35,7 +35,7 @@ step_by past s e = step_of s (answered_entry (opening_of s) (entries past s) e)
 
 -- The server is there and on, doesn't refuse what comes, and its step is added.
 pub record Serves (w : Setup) (past : List Change) (s : ℕ) (e : FrameInput) (new : World)
-    (served : Served) : Type 0 where
+    (served : SentReply) : Type 0 where
   pub on : unless_on w (trace w past) (nodes.Server s) ≡ None
   pub free : refusal (opening_of s) (entries past s) e ≡ None
   pub first_is : served.first ≡ length (frames_sent w (steps past))
@@ -67,6 +67,6 @@ Faults w past s e sorts.Refusal fault new =
     IsBarred w past s fault new ⊎ Refuses w past s e fault new
 
 -- How what comes to a server ends.
-abbrev pub ServerEnds : Setup → List Change → ℕ → FrameInput → World → Result Served Fault → Type 0
+abbrev pub ServerEnds : Setup → List Change → ℕ → FrameInput → World → Result SentReply Fault → Type 0
 ServerEnds w past s e new (Ok served) = Serves w past s e new served
 ServerEnds w past s e new (Err fault) = Faults w past s e (sort_of fault) fault new

@@ -2,12 +2,12 @@
 use Rattle.std.specs.Prelude.{ℕ, Bool, false}
 use Rattle.net_world.specs.declared.config.Config.{Config}
 
--- So many servers, and a mirror or none.
+-- A world has this many servers, and a mirror or none.
 pub record Setup : Type 0 where
   pub servers : ℕ
   pub mirror : Bool
 
--- So many servers, and no mirror.
+-- A world with this many servers, and no mirror.
 abbrev pub without_mirror : ℕ → Setup
 without_mirror n = record { servers = n; mirror = false }
 

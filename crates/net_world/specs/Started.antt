@@ -1,12 +1,12 @@
 -- Which Starts a server has accepted.
 use Rattle.std.specs.Prelude.{ℕ, List, [], ◌∷◌, ◌++◌, Option, Some}
-use Rattle.disk_model.specs.declared.left.Left.{Left}
-use Rattle.disk_model.specs.declared.left.Left.TheVariants.{Saved}
+use Rattle.disk_model.specs.declared.save_outcome.SaveOutcome.{SaveOutcome}
+use Rattle.disk_model.specs.declared.save_outcome.SaveOutcome.TheVariants.{Saved}
 use Rattle.server_core.specs.History.{Opening, Entry, Met, Cut, Restart}
 use Rattle.server_core.specs.Words.{Staged, due}
 
 -- The run that an event starts: one that was due, where its save answered Ok.
-abbrev pub started_by : Left → Option Staged → List ℕ
+abbrev pub started_by : SaveOutcome → Option Staged → List ℕ
 started_by Saved (Some s) = s.run ∷ []
 started_by _ _ = []
 

@@ -6,7 +6,7 @@ use Rattle.messages.specs.declared.packet.PacketParts.{PacketParts}
 use Rattle.messages.specs.declared.node.Node.{Node}
 use Rattle.messages.specs.declared.node.Node.TheVariants.{Server, Client, Mirror}
 use Rattle.messages.specs.Ranges.{is_generation}
-use Rattle.disk_model.specs.declared.left.Left.TheVariants.{Saved}
+use Rattle.disk_model.specs.declared.save_outcome.SaveOutcome.TheVariants.{Saved}
 use Rattle.server_core.specs.History as server
 use Rattle.server_core.specs.Heard.{heard_packets}
 use Rattle.server_core.specs.Answers as servers
@@ -37,7 +37,7 @@ opening_of s = record { me = s; boot = 0; last = 0 }
 abbrev pub client_opening : Setup → client.Opening
 client_opening w = record { servers = w.servers; noted = blank }
 
--- Its mirror does, too.
+-- The mirror of a world opens on an empty note.
 abbrev pub mirror_opening : MirrorNote
 mirror_opening = mirror_note.blank
 

@@ -6,7 +6,7 @@ use Rattle.fc_base.specs.declared.fault.Fault.TheVariants.{FrameBadField}
 use Rattle.fc_base.specs.declared.numbers.Key.{Key}
 use Rattle.engine.specs.declared.issue.Issue.{Issue as Issued}
 use Rattle.verify_state.specs.State.{State}
-use Rattle.disk_model.specs.Left.{is_lost}
+use Rattle.disk_model.specs.SaveOutcome.{is_lost}
 use Rattle.messages.specs.declared.node.Node.TheVariants.{Server, Client}
 use Rattle.messages.specs.declared.refusal.Act.{Act}
 use Rattle.messages.specs.declared.refusal.Act.TheVariants as acts

@@ -16,7 +16,7 @@ abbrev pub EachWorldIsAFrameTrace : Type 0
 EachWorldIsAFrameTrace =
     (w : Setup) (events : List Happening) → IsFrameTrace w (steps (world w events))
 
--- So what they hear is a trace, where the world has at most 8 servers.
+-- What the nodes of a world hear is a trace, where the world has at most 8 servers.
 abbrev pub EachWorldIsATrace : Type 0
 EachWorldIsATrace = (w : Setup) (events : List Happening) → w.servers ≤ MAX_SERVERS
     → IsTrace w (trace w (world w events))

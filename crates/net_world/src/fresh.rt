@@ -20,7 +20,7 @@ pub fn nothing_differs()
     ensures copied { OfEachTrace NoCopyConflicts }
     ensures packets { OfEachList StatePacketsAreEqual }
 {
-    state_table::found_states();
+    verify_state::found_states();
     sent_states_were_taken();
     held_states_were_sent();
     one_state_of_each_job();
@@ -61,7 +61,7 @@ pub fn ends_are_kept()
     ensures served { OfEachTrace KeptWhereServed }
     ensures cut { OfEachTrace KeptWhereCut }
 {
-    state_table::found_states();
+    verify_state::found_states();
     sent_states_were_taken();
     held_states_were_sent();
     one_state_of_each_job();

@@ -6,9 +6,8 @@ ghost use Rattle.net_world.specs.Headline.{FewFaults, NoFaults};
 use crate::passes::{checked_states_were_sent, held_states_were_sent, sent_states_were_taken};
 use crate::world_law::each_world_is_a_trace;
 use disk_model::block_law;
-use engine::{overlap_law, taken_law};
+use engine::{overlap_law, sets_law, taken_law};
 use server_core::{counts_the_done, legal_histories, open_check_is_last, starts, with_was_heard};
-use window::sets_law;
 use write_order::{writes_fill_their_blocks, writes_stay_in_the_region};
 
 /// Where no sector of a file rots, and each write to it that is told as done is in it by then, a check
@@ -20,7 +19,7 @@ pub fn honest_disks()
 {
     each_world_is_a_trace();
     sent_states_were_taken();
-    state_table::found_states();
+    verify_state::found_states();
     held_states_were_sent();
     checked_states_were_sent();
     counts_the_done();

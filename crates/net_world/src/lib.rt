@@ -13,13 +13,12 @@
 //! `specs/Happenings.antt` what can happen.
 #![tactic(auto)]
 
-mod ask;
 mod client_node;
-mod client_outs;
 mod config;
 mod event;
 mod example;
 mod frame_law;
+mod frame_log;
 mod fresh;
 mod honest;
 mod mirror_node;
@@ -28,8 +27,7 @@ mod playing;
 mod put_in;
 mod ready;
 mod reported;
-mod sent;
-mod served;
+mod sent_reply;
 mod server_node;
 mod told;
 mod verdict;
@@ -43,6 +41,7 @@ pub use frame_law::{
     frames_are_of_packets, frames_hold_the_taken, only_sent_is_heard, sent_are_in_range,
     servers_stand, tags_name_one_body,
 };
+pub use frame_log::FrameLog;
 pub use fresh::{ends_are_kept, nothing_differs, numbers_are_given_once, one_text_of_each};
 pub use honest::honest_disks;
 pub use passes::{
@@ -51,7 +50,6 @@ pub use passes::{
 pub use playing::play;
 pub use put_in::{with_cut, with_stop};
 pub use reported::shown_reports_were_made;
-pub use sent::Sent;
 pub use told::{BoxedReport, Told, WorldAnswer};
 pub use verdict::one_state_of_each_job;
 pub use world::World;

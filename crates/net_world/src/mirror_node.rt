@@ -1,10 +1,10 @@
 //! The mirror of a world, which may be off.
 
-ghost use Rattle.std.specs.Prelude.{◌≡◌, ◌∷◌, [], List, IfOk, true, is_some};
+ghost use Rattle.std.specs.Prelude.{◌≡◌, ◌∷◌, [], List, IfOk};
 ghost use Rattle.mirror_core.specs.declared.note.MirrorNote.{MirrorNote};
 ghost use Rattle.mirror_core.specs.Note.{blank};
 ghost use Rattle.mirror_core.specs.History.{Entry, Restart, Cut};
-ghost use Rattle.mirror_core.specs.Words.{is_on, due};
+ghost use Rattle.mirror_core.specs.Words.{is_on};
 ghost use Rattle.net_world.specs.Nodes.{Ends, CutsIn};
 ghost use Rattle.net_world.specs.MirrorNodes.{mirror_nodes, Stands, Restarts};
 
@@ -19,15 +19,15 @@ use std::alloc::{AllocError, Global};
 pub(crate) type MirrorNode = Power<Mirror<MemNotes>, MemNotes>;
 
 /// The mirror of a world, if it has one, and the greatest generation that was handed in: 0 where none was.
-pub struct Mirrored {
+pub struct MirrorSlot {
     pub(crate) node: Option<MirrorNode>,
     pub(crate) greatest: u64,
 }
 
 /// It is written by hand so that it is one function.
-impl Drop for Mirrored {
+impl Drop for MirrorSlot {
     fn drop(self) {
-        let Mirrored { node, greatest: _ } = self;
+        let MirrorSlot { node, greatest: _ } = self;
         if let Some(node) = node {
             let _notes = node.into_notes();
         }
@@ -53,11 +53,11 @@ pub(crate) fn runs(node: &MirrorNode) -> bool
 }
 
 /// A frame comes to it. `NodeOff`: it doesn't run. Any other fault is the mirror's own.
-pub(crate) fn deliver(node: &mut MirrorNode, frame: &Frame) -> Result<Frames, Fault>
+pub(crate) fn deliver(node: &mut MirrorNode, frame: Frame) -> Result<Frames, Fault>
     ensures { (opening : MirrorNote) (past : List Entry) → Stands opening past node.old →
-        Ends (mirror_nodes opening) past frame.now node.new result }
+        Ends (mirror_nodes opening) past frame node.new result }
 {
-    node.on()?.deliver(frame)
+    node.step(frame)
 }
 
 /// Loses its power, where it has any.
@@ -84,33 +84,10 @@ pub(crate) fn restart(node: &mut MirrorNode, alloc: Global) -> Result<(), Fault>
 pub(crate) fn cut_in_delivery(
     node: &mut MirrorNode,
     landed: bool,
-    frame: &Frame,
+    frame: Frame,
 ) -> Result<(), Fault>
     ensures { (opening : MirrorNote) (past : List Entry) → Stands opening past node.old →
-        CutsIn (mirror_nodes opening) past landed frame.now node.new result }
+        CutsIn (mirror_nodes opening) past landed frame node.new result }
 {
-    let Power::On(mirror) = node else {
-        return Err(Fault::NodeOff);
-    };
-    if !mirror.would_save(frame) {
-        return Err(Fault::NoSave);
-    }
-    if landed {
-        return cut_behind_delivery(node, frame);
-    }
-    cut(node);
-    Ok(())
-}
-
-/// Loses its power once what a frame brings is saved.
-fn cut_behind_delivery(node: &mut MirrorNode, frame: &Frame) -> Result<(), Fault>
-    ensures { (opening : MirrorNote) (past : List Entry) → Stands opening past node.old →
-        is_on past ≡ true → is_some (due opening past frame.now) ≡ true →
-        CutsIn (mirror_nodes opening) past true frame.now node.new result }
-{
-    if let Err(fault) = deliver(node, frame) {
-        return Err(fault);
-    }
-    cut(node);
-    Ok(())
+    node.cut_in(landed, frame)
 }

@@ -1,14 +1,13 @@
 //! A server of a world, which may be off.
 
-ghost use Rattle.std.specs.Prelude.{◌≡◌, ◌<◌, ◌∷◌, [], true, false, List, IfOk};
+ghost use Rattle.std.specs.Prelude.{◌≡◌, ◌<◌, ◌∷◌, [], false, List, IfOk};
 ghost use Rattle.std.specs.Option.{option_copied};
 ghost use Rattle.fc_base.specs.declared.limits.TheConstants.{MAX_SERVERS};
-ghost use Rattle.disk_model.specs.declared.left.Left.TheVariants.{Saved};
+ghost use Rattle.disk_model.specs.declared.save_outcome.SaveOutcome.TheVariants.{Saved};
 ghost use Rattle.server_core.specs.declared.input.Input.TheVariants.{Deliver};
 ghost use Rattle.server_core.specs.declared.note.ServerNote.{ServerNote};
-ghost use Rattle.server_core.specs.FrameAnswers.{would_save};
 ghost use Rattle.server_core.specs.History.{Opening};
-ghost use Rattle.server_core.specs.Hearing.{FrameEntry, Restart, Cut, packets_heard, is_up};
+ghost use Rattle.server_core.specs.Hearing.{FrameEntry, Restart, Cut, packets_heard};
 ghost use Rattle.server_core.specs.Note.{Says};
 ghost use Rattle.server_core.specs.Words.{is_on};
 ghost use Rattle.node.specs.Kinds.{Shows};
@@ -84,29 +83,7 @@ pub(crate) fn cut_in_delivery(
     ensures { (opening : Opening) (past : List FrameEntry) → Stands opening past node.old →
         CutsIn (server_nodes opening) past landed (Deliver frame) node.new result }
 {
-    let Some(server) = server(node) else {
-        return Err(Fault::NodeOff);
-    };
-    if !server.would_save(&frame) {
-        return Err(Fault::NoSave);
-    }
-    if !landed {
-        cut(node);
-        return Ok(());
-    }
-    cut_behind(node, frame)
-}
-
-/// Loses its power once the save that a frame makes has landed.
-fn cut_behind(node: &mut ServerNode, frame: Frame) -> Result<(), Fault>
-    ensures { (opening : Opening) (past : List FrameEntry) → Stands opening past node.old →
-        is_up opening past ≡ true → would_save opening past frame ≡ true →
-        CutsIn (server_nodes opening) past true (Deliver frame) node.new result }
-{
-    let outs = node.on()?.step(Input::Deliver(frame))?;
-    let _unsent = outs;
-    cut(node);
-    Ok(())
+    node.cut_in(landed, Input::Deliver(frame))
 }
 
 /// Loses its power within the save of its restart.

@@ -3,6 +3,7 @@
 ghost use Rattle.std.specs.Prelude.{◌≡◌, IfOk};
 ghost use Rattle.net_world.specs.Telling.{plainly_told};
 
+use client_core::Answer;
 use engine::Issue;
 use fc_base::{Attempt, CheckReport, RunNo};
 use messages::Act;
@@ -22,6 +23,21 @@ pub enum WorldAnswer {
     Issued(Issue),
     /// The report of a check.
     Checked(BoxedReport),
+}
+
+impl WorldAnswer {
+    ghost use Rattle.net_world.specs.ClientAnswers.{world_answer};
+
+    /// What a client answers, as what a world does.
+    pub(crate) fn of_client(answer: Answer) -> WorldAnswer
+        ensures { result ≡ world_answer answer }
+    {
+        match answer {
+            Answer::Plain => WorldAnswer::Plain,
+            Answer::Run(run) => WorldAnswer::Run(run),
+            Answer::Attempt(attempt) => WorldAnswer::Attempt(attempt),
+        }
+    }
 }
 
 /// The report of a check, in memory of its own, since it is much larger than any other answer.

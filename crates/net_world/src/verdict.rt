@@ -17,7 +17,7 @@ pub fn one_state_of_each_job()
 {
     one_taking();
     sent_states_were_taken();
-    state_table::found_states();
+    verify_state::found_states();
     held_states_were_sent();
     checked_states_were_sent();
     counts_the_done();

@@ -20,16 +20,16 @@ mod renewal;
 mod serve;
 mod write;
 
-use crate::ask::Ask;
 use crate::client_node::ClientNode;
 use crate::config::Config;
 use crate::event::{PlainEvent, WorldEvent};
-use crate::mirror_node::Mirrored;
-use crate::sent::Sent;
+use crate::frame_log::FrameLog;
+use crate::mirror_node::MirrorSlot;
 use crate::server_node::ServerNode;
 use crate::told::Told;
 use crate::world::open::{open_client, open_files, open_mirror, open_servers};
 use crate::{client_node, server_node};
+use client_core::Input;
 use disk_model::MemDisk;
 use fc_base::{Fault, FaultSort, JobNo, Key, MAX_JOBS, ServerNo};
 use server_core::{Status, WriteEnd, looks_at_all};
@@ -42,9 +42,9 @@ pub struct World {
     alloc: Global,
     servers: Vec<ServerNode>,
     client: ClientNode,
-    mirror: Mirrored,
+    mirror: MirrorSlot,
     files: Vec<MemDisk>,
-    sent: Sent,
+    sent: FrameLog,
     /// The block of the write that landed last, for whose memory the next one needn't ask.
     block: Vec<u8>,
     ghost some: { 1 ≤ length servers.items },
@@ -94,7 +94,7 @@ impl World {
             client,
             mirror,
             files,
-            sent: Sent::new(alloc),
+            sent: FrameLog::new(alloc),
             block: Vec::new(alloc),
         })
     }
@@ -142,11 +142,11 @@ impl World {
             Ends w (world w events) (plain_happening event.now) self.new result }
     {
         match event {
-            PlainEvent::Begin { text } => self.ask(Ask::Begin(text)),
-            PlainEvent::Trigger { run, act } => self.ask(Ask::Trigger(*run, *act)),
-            PlainEvent::StopRun { run } => self.ask(Ask::Stop(*run)),
-            PlainEvent::Verify { run, text } => self.ask(Ask::Verify(*run, text)),
-            PlainEvent::Tick => self.ask(Ask::Tick),
+            PlainEvent::Begin { text } => self.ask(Input::Begin(text)),
+            PlainEvent::Trigger { run, act } => self.ask(Input::Trigger(*run, *act)),
+            PlainEvent::StopRun { run } => self.ask(Input::Stop(*run)),
+            PlainEvent::Verify { run, text } => self.ask(Input::Verify(*run, text)),
+            PlainEvent::Tick => self.ask(Input::Tick),
             PlainEvent::Deliver { frame } => self.deliver(*frame),
             PlainEvent::Issue { server, job } => self.issue(*server, *job),
             PlainEvent::Land {
@@ -176,7 +176,7 @@ impl World {
     }
 
     /// The frames that were ever sent, numbered from 0.
-    pub fn frames(&self) -> &Sent
+    pub fn frames(&self) -> &FrameLog
         ensures { (w : Setup) (past : List Change) → StandsFor w past self.now →
             sent_in result.now ≡ frames w past }
     {

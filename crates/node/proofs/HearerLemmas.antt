@@ -7,9 +7,9 @@ use Rattle.fc_base.specs.declared.fault.Fault.TheVariants.{Down, Misdirected, Fr
 use Rattle.fc_base.specs.declared.fault.FaultSort.{FaultSort}
 use Rattle.fc_base.specs.declared.fault.FaultSort.TheVariants as sorts
 use Rattle.fc_base.specs.Fault.{sort_of}
-use Rattle.disk_model.specs.declared.left.Left.{Left}
-use Rattle.disk_model.specs.declared.left.Left.TheVariants.{NoSave}
-use Rattle.disk_model.specs.Left.{saved_for, is_lost, bytes_left}
+use Rattle.disk_model.specs.declared.save_outcome.SaveOutcome.{SaveOutcome}
+use Rattle.disk_model.specs.declared.save_outcome.SaveOutcome.TheVariants.{NoSave}
+use Rattle.disk_model.specs.SaveOutcome.{saved_for, is_lost, bytes_left}
 use Rattle.node.specs.Steps.{LeavesNote, Answers, Refuses, Faults, Ends, answered}
 use Rattle.node.proofs.StepLemmas.{on_before, off_lost}
 use Rattle.messages.specs.declared.packet.PacketParts.{PacketParts}
@@ -25,11 +25,11 @@ use Rattle.node.specs.declared.hearer.Hearer.{Hearer}
 use Rattle.node.specs.Hearers.{CoreKind, Laws, rules_of, heard_at, entries, rows, sense, StandsFor, Sends, steps, Accepts}
 
 -- What has come together behind what comes.
-abbrev pub rows_after : {C X E D O : Type 0} → CoreKind C X E D O → List (Coming E Left) → Arrival X → Left → List Row
+abbrev pub rows_after : {C X E D O : Type 0} → CoreKind C X E D O → List (Coming E SaveOutcome) → Arrival X → SaveOutcome → List Row
 rows_after k past a left = senses.rows_after (rules_of k) (heard_at k past) a left
 
 -- What has come together where something was heard.
-abbrev pub HeardRows : {C X E D O : Type 0} → CoreKind C X E D O → List (Coming E Left) → Arrival X → List Row → List Row → Result O Fault → Type 0
+abbrev pub HeardRows : {C X E D O : Type 0} → CoreKind C X E D O → List (Coming E SaveOutcome) → Arrival X → List Row → List Row → Result O Fault → Type 0
 HeardRows k past a old new (Ok outs) = k.core.words.is_up (entries k past) ≡ true → new ≡ rows_after k past a NoSave
 HeardRows k past a old new (Err fault) = new ≡ old
 
@@ -39,20 +39,20 @@ with_core hearer core = record hearer { core = core }
 abbrev pub with_pieces : {C : Type 0} → Hearer C → List Row → Hearer C
 with_pieces hearer rows = record hearer { pieces = rows }
 
-module _ {C X E D O : Type 0} (k : CoreKind C X E D O) (laws : Laws k) (past : List (Coming E Left)) where
+module _ {C X E D O : Type 0} (k : CoreKind C X E D O) (laws : Laws k) (past : List (Coming E SaveOutcome)) where
   -- The packets that are heard behind what comes.
-  heard_is : (a : Arrival X) (left : Left) (s : Sense X) → sense k past a ≡ s
+  heard_is : (a : Arrival X) (left : SaveOutcome) (s : Sense X) → sense k past a ≡ s
       → entries k (coming k.core.words.met a left ∷ past) ≡ with_entry (entry_by (rules_of k) left s) (entries k past)
   heard_is a left s is = entries_are (rules_of k) (heard_at k past) a left s is
 
   -- Whether it is on behind what is heard.
-  on_is : (a : Arrival X) (x : X) (left : Left) → sense k past a ≡ Hears x
+  on_is : (a : Arrival X) (x : X) (left : SaveOutcome) → sense k past a ≡ Hears x
       → k.core.words.is_up (entries k (coming k.core.words.met a left ∷ past)) ≡ (k.core.words.is_up (entries k past) && not (is_lost left))
   on_is a x left is = ap k.core.words.is_up (heard_is a left (Hears x) is) ∙ laws.on_behind (entries k past) x left
 
   -- ---- what is heard
 
-  heard_stands : (a : Arrival X) (x : X) (left : Left) (new : Hearer C) → sense k past a ≡ Hears x
+  heard_stands : (a : Arrival X) (x : X) (left : SaveOutcome) (new : Hearer C) → sense k past a ≡ Hears x
       → k.core.StandsFor (k.core.words.met x left ∷ entries k past) new.core
       → (k.core.words.is_up (entries k (coming k.core.words.met a left ∷ past)) ≡ true → new.pieces ≡ rows_after k past a left)
       → StandsFor k (coming k.core.words.met a left ∷ past) new
@@ -169,7 +169,7 @@ module _ {C X E D O : Type 0} (k : CoreKind C X E D O) (laws : Laws k) (past : L
 
   -- ---- a piece that says nothing
 
-  silent_stands : (a : Arrival X) (s : Sense X) (left : Left) (old : Hearer C) (new : List Row) → sense k past a ≡ s → entry_by (rules_of k) left s ≡ None
+  silent_stands : (a : Arrival X) (s : Sense X) (left : SaveOutcome) (old : Hearer C) (new : List Row) → sense k past a ≡ s → entry_by (rules_of k) left s ≡ None
       → StandsFor k past old → (old.pieces ≡ rows k past → new ≡ rows_after k past a left)
       → StandsFor k (coming k.core.words.met a left ∷ past) (with_pieces old new)
   silent_stands a s left old new is none w rows_are =

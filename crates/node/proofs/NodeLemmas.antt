@@ -5,9 +5,9 @@ use Rattle.std.specs.List.{flat_map}
 use Rattle.fc_base.specs.declared.fault.Fault.{Fault}
 use Rattle.fc_base.specs.declared.fault.FaultSort.{FaultSort}
 use Rattle.fc_base.specs.declared.fault.FaultSort.TheVariants as sorts
-use Rattle.disk_model.specs.declared.left.Left.{Left}
-use Rattle.disk_model.specs.declared.left.Left.TheVariants.{NoSave}
-use Rattle.disk_model.specs.Left.{saved_for, bytes_left}
+use Rattle.disk_model.specs.declared.save_outcome.SaveOutcome.{SaveOutcome}
+use Rattle.disk_model.specs.declared.save_outcome.SaveOutcome.TheVariants.{NoSave}
+use Rattle.disk_model.specs.SaveOutcome.{saved_for, bytes_left}
 use Rattle.node.specs.Steps.{LeavesNote, Answers, Faults, answered}
 use Rattle.messages.specs.declared.packet.PacketParts.{PacketParts}
 use Rattle.messages.specs.FrameBytes.{frame_spelling}
@@ -22,10 +22,10 @@ use Rattle.node.specs.Nodes.{Node, steps}
 
 -- What comes to the node is, as an entry, what comes to its core.
 abbrev pub IsMet : {S I F C X E D O : Type 0} → Node S I F C X E D O → Type 0
-IsMet {S} {I} n = (e : I) (left : Left) → n.coming (n.met e left) ≡ coming n.kind.core.words.met (n.arrival e) left
+IsMet {S} {I} n = (e : I) (left : SaveOutcome) → n.coming (n.met e left) ≡ coming n.kind.core.words.met (n.arrival e) left
 
 module _ {S I F C X E D O : Type 0} (n : Node S I F C X E D O) (same : IsMet n) (past : List F) (e : I) (old new : S) where
-  stands : (left : Left) → StandsFor n.kind (coming n.kind.core.words.met (n.arrival e) left ∷ map n.coming past) (n.hearer new)
+  stands : (left : SaveOutcome) → StandsFor n.kind (coming n.kind.core.words.met (n.arrival e) left ∷ map n.coming past) (n.hearer new)
       → StandsFor n.kind (n.coming (n.met e left) ∷ map n.coming past) (n.hearer new)
   stands left h = subst (λ c. StandsFor n.kind (c ∷ map n.coming past) (n.hearer new)) (sym (same e left)) h
 
@@ -69,7 +69,7 @@ spelled k packets past Drops = refl
 spelled k packets past Misses = refl
 
 -- They are the frames of the entry that is heard.
-pub sent : {C X E D O : Type 0} (k : CoreKind C X E D O) (packets : List E → E → List PacketParts) (past : List (Coming E Left)) (a : Arrival X) (s : Sense X)
+pub sent : {C X E D O : Type 0} (k : CoreKind C X E D O) (packets : List E → E → List PacketParts) (past : List (Coming E SaveOutcome)) (a : Arrival X) (s : Sense X)
     → sense k past a ≡ s
     → sent_with k packets (entries k past) s
     ≡ map frame_spelling (frames_by packets (entries k past) (entry_of (rules_of k) (heard_at k past) (answered (hearers.steps k).words past a)))

@@ -1,8 +1,8 @@
 -- What an entry leaves of a core: whether it is on, and what it shows.
 use Rattle.std.proofs.Common.{◌≡◌, refl, sym, ap, Bool, true, false, ◌&&◌, List, ◌∷◌, Option, None, Some}
 use Rattle.std.specs.Prelude.{if◌then◌else◌, not}
-use Rattle.disk_model.specs.declared.left.Left.{Left}
-use Rattle.disk_model.specs.Left.{saved_for, is_lost}
+use Rattle.disk_model.specs.declared.save_outcome.SaveOutcome.{SaveOutcome}
+use Rattle.disk_model.specs.SaveOutcome.{saved_for, is_lost}
 use Rattle.node.specs.Steps.{is_answer}
 
 pub and_true : (b : Bool) → (b && true) ≡ b
@@ -19,7 +19,7 @@ not_lost None = refl
 not_lost (Some a) = refl
 
 -- a core is off behind what was lost, and where it is on it was on before
-pub lost_off : (on : Bool) (left : Left) → is_lost left ≡ true → true ≡ not (on && not (is_lost left))
+pub lost_off : (on : Bool) (left : SaveOutcome) → is_lost left ≡ true → true ≡ not (on && not (is_lost left))
 lost_off true left e = ap (λ b. not (true && not b)) (sym e)
 lost_off false left e = refl
 

@@ -1,7 +1,7 @@
 -- A node whose core hears frames: its own inputs and entries are what comes to the core, in the
 -- node's words.
 use Rattle.std.specs.Prelude.{List, map}
-use Rattle.disk_model.specs.declared.left.Left.{Left}
+use Rattle.disk_model.specs.declared.save_outcome.SaveOutcome.{SaveOutcome}
 use Rattle.node.specs.Steps.{Words, Steps}
 use Rattle.messages.specs.Hearing.{Coming}
 use Rattle.messages.specs.Senses.{Arrival}
@@ -14,8 +14,8 @@ pub record Node (S I F C X E D O : Type 0) : Type 1 where
   pub kind : CoreKind C X E D O
   pub hearer : S → Hearer C  -- what hears in it
   pub arrival : I → Arrival X  -- what an input is to that
-  pub coming : F → Coming E Left  -- what an entry is to it
-  pub met : I → Left → F  -- the entry of an input whose save left this
+  pub coming : F → Coming E SaveOutcome  -- what an entry is to it
+  pub met : I → SaveOutcome → F  -- the entry of an input whose save left this
   pub Sends : List F → I → O → Type 0  -- what is answered and sent for an input
 
 -- What the list of such a node says.
@@ -28,7 +28,7 @@ words n = record {
   spelled = λ past. (hearers.words n.kind).spelled (map n.coming past);
 }
 
--- Its steps.
+-- The steps of a node whose core hears frames.
 abbrev pub steps : {S I F C X E D O : Type 0} → Node S I F C X E D O → Steps S I F D O
 steps n = record {
   words = words n;

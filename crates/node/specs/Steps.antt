@@ -7,9 +7,9 @@ use Rattle.fc_base.specs.declared.fault.Fault.TheVariants.{NoMemory}
 use Rattle.fc_base.specs.declared.fault.FaultSort.{FaultSort}
 use Rattle.fc_base.specs.declared.fault.FaultSort.TheVariants as sorts
 use Rattle.fc_base.specs.Fault.{sort_of}
-use Rattle.disk_model.specs.declared.left.Left.{Left}
-use Rattle.disk_model.specs.declared.left.Left.TheVariants.{NoSave, Saved}
-use Rattle.disk_model.specs.Left.{saved_for, is_lost, bytes_left}
+use Rattle.disk_model.specs.declared.save_outcome.SaveOutcome.{SaveOutcome}
+use Rattle.disk_model.specs.declared.save_outcome.SaveOutcome.TheVariants.{NoSave, Saved}
+use Rattle.disk_model.specs.SaveOutcome.{saved_for, is_lost, bytes_left}
 use Rattle.disk_model.specs.Notes.{Note}
 
 -- Nothing is due for an input that is refused.
@@ -18,7 +18,7 @@ unless_refused None addition = addition
 unless_refused (Some fault) addition = None
 
 -- The input left what an answered input leaves.
-abbrev pub is_answer : {D : Type 0} → Option D → Left → Bool
+abbrev pub is_answer : {D : Type 0} → Option D → SaveOutcome → Bool
 is_answer None NoSave = true
 is_answer (Some addition) Saved = true
 is_answer _ _ = false
@@ -29,7 +29,7 @@ pub record Words (E X D : Type 0) : Type 0 where
   pub is_up : List X → Bool  -- behind this list it is on
   pub refusal : List X → E → Option Fault  -- why an input is refused, if it is
   pub due : List X → E → Option D  -- what an input is due to add to the note
-  pub met : E → Left → X  -- the entry of an input whose save left this
+  pub met : E → SaveOutcome → X  -- the entry of an input whose save left this
   pub spelled : List X → List ℕ  -- the spelling of what is noted behind the list
 
 -- What has to be known of a core of states S, to which inputs E come, whose lists have entries X,
@@ -79,7 +79,7 @@ pub record Fails {S E X D O : Type 0} (s : Steps S E X D O)
   pub free : s.words.refusal past e ≡ None
   pub addition : D
   pub makes_one : s.words.due past e ≡ Some addition
-  pub left : Left
+  pub left : SaveOutcome
   pub lost : is_lost left ≡ true
   pub bytes_are :
       (s.note new).bytes

@@ -1,7 +1,7 @@
 //! A core over packets that hears frames.
 
 ghost use Rattle.std.specs.Prelude.{List};
-ghost use Rattle.disk_model.specs.declared.left.Left.{Left};
+ghost use Rattle.disk_model.specs.declared.save_outcome.SaveOutcome.{SaveOutcome};
 ghost use Rattle.messages.specs.declared.frame.Frame.TheVariants.{Whole, Piece as OfPiece};
 ghost use Rattle.messages.specs.Hearing.{Coming};
 ghost use Rattle.messages.specs.Senses.{Framed};
@@ -24,7 +24,7 @@ impl<C: PacketCore> Hearer<C> {
     /// `Down`; `Misdirected`, a piece isn't for it; `FrameBadField`, a piece completes a body that isn't the
     /// packet of its tag, which is dropped; what the core refuses; `NoMemory`, and nothing changes.
     pub fn deliver(&mut self, frame: Frame) -> Result<C::Outs, Fault>
-        ensures { (opening : C.Opening) (past : List (Coming C.Entry Left)) →
+        ensures { (opening : C.Opening) (past : List (Coming C.Entry SaveOutcome)) →
             StandsFor (C.kind opening) past self.old →
             Accepts (C.kind opening) past (Framed frame) self.old self.new result }
     {
@@ -36,7 +36,7 @@ impl<C: PacketCore> Hearer<C> {
 
     /// Accepts a packet, or refuses it.
     fn accept(&mut self, packet: Packet) -> Result<C::Outs, Fault>
-        ensures { (opening : C.Opening) (past : List (Coming C.Entry Left)) →
+        ensures { (opening : C.Opening) (past : List (Coming C.Entry SaveOutcome)) →
             StandsFor (C.kind opening) past self.old →
             Accepts (C.kind opening) past (Framed (Whole packet)) self.old self.new result }
     {
@@ -46,7 +46,7 @@ impl<C: PacketCore> Hearer<C> {
 
     /// Accepts a piece: the packet that it completes, or else the piece alone.
     fn join(&mut self, piece: &Piece) -> Result<C::Outs, Fault>
-        ensures { (opening : C.Opening) (past : List (Coming C.Entry Left)) →
+        ensures { (opening : C.Opening) (past : List (Coming C.Entry SaveOutcome)) →
             StandsFor (C.kind opening) past self.old →
             Accepts (C.kind opening) past (Framed (OfPiece piece.now)) self.old self.new result }
     {
@@ -75,7 +75,7 @@ impl<C: PacketCore> Hearer<C> {
 
     /// The packet that a piece completes, if it completes one; or why it is refused. Nothing changes.
     pub fn look(&self, piece: &Piece) -> Result<Option<Packet>, Fault>
-        ensures { (opening : C.Opening) (past : List (Coming C.Entry Left)) →
+        ensures { (opening : C.Opening) (past : List (Coming C.Entry SaveOutcome)) →
             StandsFor (C.kind opening) past self.now →
             IsSensed (C.kind opening) past piece.now result }
     {

@@ -9,7 +9,8 @@
 //! let outs = hearer.deliver(frame)?;      // what the core answers to the packet, or nothing yet
 //!
 //! let core = power.core();                // where it is on
-//! power.on()?.step(input)?;               // `NodeOff` where it isn't
+//! let outs = power.step(input)?;          // `NodeOff` where it isn't
+//! power.cut_in(landed, input)?;           // within the save of that step: `NoSave` where it makes none
 //! power.cut()?;
 //! power.restart(alloc, seed)?;
 //! ```

@@ -1,10 +1,10 @@
 //! A node that has power, or none.
 
-ghost use Rattle.std.specs.Prelude.{◌≡◌, List, IfSome, IfNone};
+ghost use Rattle.std.specs.Prelude.{◌≡◌, true, List, IfSome, IfNone, is_some};
 ghost use Rattle.std.specs.Borrow.{sem};
 ghost use Rattle.std.specs.Option.{option_copied};
 ghost use Rattle.node.specs.declared.power.Power.TheVariants.{Lent as Away};
-ghost use Rattle.node.specs.Kinds.{left_by, note_of, told_of, Cuts, IsLent, LendsCore, Restarts, Shows, Stands};
+ghost use Rattle.node.specs.Kinds.{left_by, note_of, told_of, Cuts, CutsIn, IsLent, LendsCore, Restarts, Shows, Stands, Takes};
 
 use crate::node_core::NodeCore;
 use fc_base::Fault;
@@ -20,7 +20,7 @@ pub enum Power<C, N> {
     Lent,
 }
 
-impl<N: Drop, C: NodeCore<N>> Power<C, N> {
+impl<'t, N: Drop, C: NodeCore<'t, N>> Power<C, N> {
     /// The core, where it is on: it has power, and isn't down.
     pub fn core(&self) -> Option<&C>
         ensures { (opening : C.Opening) (past : List C.Entry) →
@@ -51,6 +51,52 @@ impl<N: Drop, C: NodeCore<N>> Power<C, N> {
             }
             _ => Err(Fault::NodeOff),
         }
+    }
+
+    /// Makes a step of its core. `NodeOff`: it isn't on, and nothing changes. Any other fault is the core's.
+    pub fn step(&mut self, input: C::Input) -> Result<C::Outs, Fault>
+        ensures { (opening : C.Opening) (past : List C.Entry) →
+            Stands (C.kind opening) past self.old →
+            Takes (C.kind opening) past (C.came input) self.old self.new result }
+    {
+        self.on()?.step(input)
+    }
+
+    /// Loses its power within the save that a step would make, which is to land or not.
+    ///
+    /// `NodeOff`: it isn't on; `NoSave`: the step would make none; `NoMemory`: nothing changes. Any other fault
+    /// is that of the save, and it is down.
+    pub fn cut_in(&mut self, landed: bool, input: C::Input) -> Result<(), Fault>
+        ensures { (opening : C.Opening) (past : List C.Entry) →
+            Stands (C.kind opening) past self.old →
+            CutsIn (C.kind opening) past landed (C.came input) self.old self.new result }
+    {
+        let Some(core) = self.core() else {
+            return Err(Fault::NodeOff);
+        };
+        match core.would_save(&input) {
+            Ok(true) => {}
+            Ok(false) => return Err(Fault::NoSave),
+            Err(_) => return Err(Fault::NoMemory),
+        }
+        C::keeps_laws();
+        if landed {
+            return self.cut_behind(input);
+        }
+        self.cut()
+    }
+
+    /// Loses its power once the save has landed that a step makes.
+    fn cut_behind(&mut self, input: C::Input) -> Result<(), Fault>
+        ensures { (opening : C.Opening) (past : List C.Entry) →
+            Stands (C.kind opening) past self.old →
+            (C.kind opening).core.words.is_up past ≡ true →
+            is_some ((C.kind opening).core.words.due past (C.came input)) ≡ true →
+            CutsIn (C.kind opening) past true (C.came input) self.old self.new result }
+    {
+        C::keeps_laws();
+        let _unsent = self.step(input)?;
+        self.cut()
     }
 
     /// Loses its power. `NodeOff`: it isn't on, and nothing changes.

@@ -14,11 +14,11 @@ use Rattle.cells.specs.ServerCells.{ServerLog, IsReplay}
 use Rattle.client_core.specs.declared.received.Received.{Received}
 use Rattle.node_threads.specs.declared.ends.CheckEnd.{CheckEnd}
 
--- Whose end it is.
+-- The place of an end: its server and its job.
 abbrev pub place_of : CheckEnd → ℕ × ℕ
 place_of end = (end.server, end.job)
 
--- So many jobs of a server, from the first on.
+-- The places of this many jobs of a server, from the first on.
 abbrev pub jobs_of : ℕ → ℕ → List (ℕ × ℕ)
 jobs_of server count = map (λ job. (server, job)) (numbers_below count)
 
@@ -66,7 +66,8 @@ pub record IsEndAt (cell : ServerLog) (came : List Received) (attempt : ℕ)
   pub report_is : end.report ≡ report_of came attempt end.server end.job
   pub none_is : IfNone end.report (Refuses end.job cell)
 
--- So it is of the server that the end names.
+-- An end has the report that came of its job in this attempt; where none came, the server that it
+-- names has refused the job's state.
 abbrev pub IsEnd : List ServerLog → List Received → ℕ → CheckEnd → Type 0
 IsEnd cells came attempt end = IsAt cells end.server (λ cell. IsEndAt cell came attempt end)
 

@@ -1,14 +1,13 @@
 //! What is done with a node and the hub, whichever node it is.
 
 ghost use Rattle.std.specs.Prelude.{◌≡◌, false, IfErr, slice_get};
-ghost use Rattle.hub.specs.Waiting.{picked_frame, waiting_frames};
+ghost use Rattle.messages.specs.Waiting.{picked_frame, waiting_frames};
 ghost use Rattle.cells.specs.Calls.{Replays, Delivers, IsWhyNot, HasWhy, Commands};
 ghost use Rattle.cells.specs.Failures.{Counts};
 
-use cells::{CallerAnswer, Node};
+use cells::{Node, Receipt};
 use fc_base::Fault;
-use hub::Hub;
-use messages::Node as NodeName;
+use messages::{Hub, Node as NodeName};
 
 /// Has a node take the frame at this position of the hub.
 ///
@@ -16,7 +15,7 @@ use messages::Node as NodeName;
 /// save fails, or a piece completes a body that isn't the packet of its tag, that is entered in the
 /// history and in the hub's journal, as what is answered is; any other refusal, and `NoMemory`, changes
 /// nothing.
-pub fn deliver<T: Node>(hub: &mut Hub, node: &mut T, position: u64) -> Result<CallerAnswer, Fault>
+pub fn deliver<T: Node>(hub: &mut Hub, node: &mut T, position: u64) -> Result<Receipt, Fault>
     ensures opening { T.opening node.new ≡ T.opening node.old }
     ensures failures { Counts false (T.failures node.old) (T.failures node.new) result }
     ensures ends { Delivers (T.name (T.opening node.old)) position
@@ -35,11 +34,7 @@ pub fn deliver<T: Node>(hub: &mut Hub, node: &mut T, position: u64) -> Result<Ca
 ///
 /// `NodeOff`, it isn't on; the node's own. A save that fails is entered in the history, as what is answered
 /// is; any other refusal, and `NoMemory`, changes nothing.
-pub fn post<T: Node>(
-    hub: &mut Hub,
-    node: &mut T,
-    command: T::Command,
-) -> Result<CallerAnswer, Fault>
+pub fn post<T: Node>(hub: &mut Hub, node: &mut T, command: T::Command) -> Result<Receipt, Fault>
     ensures opening { T.opening node.new ≡ T.opening node.old }
     ensures failures { Counts false (T.failures node.old) (T.failures node.new) result }
     ensures ends { Commands (T.rules (T.opening node.old)) (T.asks command)

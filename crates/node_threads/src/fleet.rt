@@ -10,11 +10,10 @@ use crate::asked::look_for_errand;
 use crate::ends::{CheckEnd, ends_of};
 use crate::left::{FleetLeft, take_apart};
 use fc_base::{Fault, MAX_TEXT, RunNo};
-use fleet_threads::{FleetFault, Opened, Plan, Ran, Trigger, open, run_threads};
+use fleet_threads::{FleetEnd, FleetFault, Gate, OpenFleet, Plan, Trigger, open, run_threads};
 use std::alloc::Global;
 use std::sync::Wait;
 use std::thread::Threads;
-use workers::Gate;
 
 /// Runs a client and so many servers of so many workers each, 16 files in memory at each server: the
 /// client begins a run by the text `write`; the workers write, each write once `gate` lets it through,
@@ -89,12 +88,12 @@ fn run_to_the_end<R: Threads + Wait + Sync, T: Trigger, G: Gate + Sync>(
     requires workers { (1 ≤ plan.workers) × (plan.workers ≤ MAX_WORKERS) }
     ensures { IfOk result (λ ran. IsOneRun ran.0) }
 {
-    let Opened {
+    let OpenFleet {
         nodes,
         posts,
         hands,
     } = open(alloc, servers, plan.workers)?;
-    let Ran {
+    let FleetEnd {
         ended,
         posts,
         hands,

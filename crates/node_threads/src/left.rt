@@ -6,8 +6,8 @@ ghost use Rattle.node_threads.specs.OneRun.{IsOneRun};
 use assembly::{Assembled, Place, assemble};
 use cells::Seat;
 use fc_base::Fault;
-use fleet_threads::{Client, Hand, Nodes, Server, add};
-use hub::Hub;
+use fleet_threads::{Client, Nodes, Server, WorkerSeat, add};
+use messages::Hub;
 use std::alloc::Global;
 
 /// What is left of a fleet that has ended: the network, the nodes with their histories, the seats of all
@@ -38,7 +38,7 @@ pub(crate) fn take_apart(
     alloc: Global,
     nodes: Nodes,
     posts: Vec<Seat>,
-    hands: Vec<Hand>,
+    hands: Vec<WorkerSeat>,
 ) -> Result<FleetLeft, Fault>
     ensures { IfOk result IsOneRun }
 {

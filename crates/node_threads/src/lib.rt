@@ -30,14 +30,14 @@ mod left;
 pub use assembly::{AssembleFault, Assembled, Place, assemble};
 pub use calls::{deliver, pick, post};
 pub use cells::{
-    Answer, CallerAnswer, ClientCell, ClientCommand, ClientRequest, ClientTask, FrameBytes,
-    History, HistoryEntry, LentEntry, Node, NodeInput, Reply, Report, Seat, ServerCell, ServerTask,
+    Answer, ClientCell, ClientCommand, ClientRequest, ClientTask, FrameBytes, History,
+    HistoryEntry, LentEntry, Node, NodeInput, Receipt, Reply, Report, Seat, ServerCell, ServerTask,
     Turn,
 };
 pub use ends::CheckEnd;
 pub use fleet::{run_and_leave, run_fleet};
-pub use fleet_threads::{FleetFault, Trigger, run_post};
-pub use hub::{Hub, Line};
+pub use fleet_threads::{
+    CheckTask, FleetFault, Gate, OpenGate, TURNS, Trigger, check_jobs, run_post, run_worker,
+};
 pub use left::FleetLeft;
-pub use parallel_checks::{CheckTask, check_jobs};
-pub use workers::{Gate, OpenGate, TURNS, run_worker};
+pub use messages::{Hub, Line};

@@ -17,11 +17,11 @@ use Rattle.write_order.specs.Blocks.{block_of}
 use Rattle.write_order.specs.Progress.{Progress, next_block}
 use Rattle.verify_state.specs.State.{State}
 use Rattle.recheck.specs.Expected.{issued_in, counts, greatest_below, last_completed, in_flight, placed_write, expected_by}
-use Rattle.recheck.specs.declared.expected.Placed.{Placed}
+use Rattle.recheck.specs.declared.expected.BlockWrites.{BlockWrites}
 use Rattle.recheck.specs.Faults.{writes_to}
 
 -- Of the writes that go to a block one passes.
-pub any_to : (test : ℕ → Bool) (block : ℕ) (writes : List Placed)
+pub any_to : (test : ℕ → Bool) (block : ℕ) (writes : List BlockWrites)
     → list_any test (writes_to block writes) ≡ list_any (λ w. eqb w.block block && test w.seq) writes
 any_to test block [] = refl
 any_to test block (w ∷ ws) = by (eqb w.block block) refl (any_to test block ws)
@@ -38,7 +38,7 @@ any_at q (x ∷ xs) zero d lt e = rw e refl
 any_at q (x ∷ xs) (suc i) d lt e = or_right (q x) (list_any q xs) (any_at q xs i d (omega arith) e)
 
 -- A write of a list that goes to the block and passes.
-pub found_at : (test : ℕ → Bool) (block : ℕ) (writes : List Placed) (i : ℕ) (w : Placed) → i < length writes → w ≡ get_or writes i w → w.block ≡ block
+pub found_at : (test : ℕ → Bool) (block : ℕ) (writes : List BlockWrites) (i : ℕ) (w : BlockWrites) → i < length writes → w ≡ get_or writes i w → w.block ≡ block
     → test w.seq ≡ true → list_any test (writes_to block writes) ≡ true
 found_at test block writes i w lt is here passes =
     any_to test block writes
@@ -46,7 +46,7 @@ found_at test block writes i w lt is here passes =
     (subst (λ v. (eqb v.block block && test v.seq) ≡ true) is (rw (eq-eqb w.block block here, passes) refl))
 
 -- None of a list goes to the block and passes.
-pub none_found : (test : ℕ → Bool) (block : ℕ) (writes : List Placed) (n : ℕ) → length writes ≤ n
+pub none_found : (test : ℕ → Bool) (block : ℕ) (writes : List BlockWrites) (n : ℕ) → length writes ≤ n
     → list_any (λ v. eqb v.block block && test v.seq) (take n writes) ≡ false → list_any test (writes_to block writes) ≡ false
 none_found test block writes n all none =
     any_to test block writes ∙ ap (list_any (λ v. eqb v.block block && test v.seq)) (sym (take_all n writes all)) ∙ none
@@ -54,13 +54,13 @@ none_found test block writes n all none =
 -- ---- the pass over the writes
 
 -- What is kept once the first n writes are gone through.
-pub record Gone (job : JobParts) (state : Option State) (n : ℕ) (last : List (Option ℕ)) (open_writes : List Placed) : Type 0 where
+pub record Gone (job : JobParts) (state : Option State) (n : ℕ) (last : List (Option ℕ)) (open_writes : List BlockWrites) : Type 0 where
   pub all : length last ≡ job.blocks
   pub each : (b : ℕ) → b < job.blocks → get_or last b None ≡ greatest_below (λ k. counts state k && eqb (block_of job k) b) n
   pub in_flight : open_writes ≡ map (placed_write job) (filter (λ k. not (counts state k)) (numbers_below n))
 
 -- A completed write is the last one to its block.
-pub gone_counted : (job : JobParts) (state : Option State) (n : ℕ) (last : List (Option ℕ)) (open_writes : List Placed) → counts state n ≡ true
+pub gone_counted : (job : JobParts) (state : Option State) (n : ℕ) (last : List (Option ℕ)) (open_writes : List BlockWrites) → counts state n ≡ true
     → Gone job state n last open_writes → Gone job state (n + 1) (set last (block_of job n) (Some n)) open_writes
 gone_counted job state n last open_writes counted gone = rw add-one (record {
   all = length-set last (block_of job n) (Some n) ∙ gone.all;
@@ -76,7 +76,7 @@ gone_counted job state n last open_writes counted gone = rw add-one (record {
 })
 
 -- A write that isn't completed is in flight.
-pub gone_in_flight : (job : JobParts) (state : Option State) (n : ℕ) (last : List (Option ℕ)) (open_writes : List Placed) → counts state n ≡ false
+pub gone_in_flight : (job : JobParts) (state : Option State) (n : ℕ) (last : List (Option ℕ)) (open_writes : List BlockWrites) → counts state n ≡ false
     → Gone job state n last open_writes → Gone job state (n + 1) last (open_writes ++ placed_write job n ∷ [])
 gone_in_flight job state n last open_writes not_counted gone = rw add-one (record {
   all = gone.all;
@@ -88,7 +88,7 @@ gone_in_flight job state n last open_writes not_counted gone = rw add-one (recor
 })
 
 -- All writes are gone through.
-pub gone_all : (key : Key) (job : JobParts) (state : Option State) (n : ℕ) (last : List (Option ℕ)) (open_writes : List Placed) → n ≡ issued_in job state
+pub gone_all : (key : Key) (job : JobParts) (state : Option State) (n : ℕ) (last : List (Option ℕ)) (open_writes : List BlockWrites) → n ≡ issued_in job state
     → Gone job state n last open_writes → record { key = key; job = job; last = last; in_flight = open_writes } ≡ expected_by key job state
 gone_all key job state n last open_writes is gone =
     let table : last ≡ map (last_completed job state) (range_with_len 0 job.blocks) =
@@ -115,13 +115,13 @@ advanced at new job k is told =
 
 -- What the loop leaves of a completed write.
 pub step_counted : (job : JobParts) (state : Option State) (n block : ℕ) (write : Option ℕ) (last new_last : List (Option ℕ))
-    (open_writes new_open : List Placed) → counts state n ≡ true → block ≡ block_of job n → write ≡ Some n → new_last ≡ set last block write
+    (open_writes new_open : List BlockWrites) → counts state n ≡ true → block ≡ block_of job n → write ≡ Some n → new_last ≡ set last block write
     → new_open ≡ open_writes → Gone job state n last open_writes → Gone job state (n + 1) new_last new_open
 step_counted job state n block write last new_last open_writes new_open counted at is put same gone =
     rw (put, at, is, same) (gone_counted job state n last open_writes counted gone)
 
 -- What it leaves of one that isn't.
-pub step_in_flight : (job : JobParts) (state : Option State) (n block : ℕ) (last new_last : List (Option ℕ)) (open_writes new_open : List Placed)
+pub step_in_flight : (job : JobParts) (state : Option State) (n block : ℕ) (last new_last : List (Option ℕ)) (open_writes new_open : List BlockWrites)
     → counts state n ≡ false → block ≡ block_of job n → new_last ≡ last → new_open ≡ open_writes ++ record { seq = n; block = block } ∷ []
     → Gone job state n last open_writes → Gone job state (n + 1) new_last new_open
 step_in_flight job state n block last new_last open_writes new_open not_counted at same put gone =

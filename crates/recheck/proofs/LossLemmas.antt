@@ -16,7 +16,7 @@ use Rattle.write_order.specs.Blocks.{block_of}
 use Rattle.write_order.specs.Stamps.{written_bytes}
 use Rattle.verify_state.specs.State.{State}
 use Rattle.recheck.specs.Expected.{issued_in, counts, greatest_below, last_completed, placed_write, expected_by}
-use Rattle.recheck.specs.declared.expected.Placed.{Placed}
+use Rattle.recheck.specs.declared.expected.BlockWrites.{BlockWrites}
 use Rattle.recheck.specs.Faults.{last_write, is_write, writes_to, is_fault}
 use Rattle.recheck.specs.Laws.{IsCompletedTo, IsLastCompleted, IsInFlightTo, Holds, HasLost}
 use Rattle.recheck.proofs.ExpectedLemmas.{any_to}
@@ -59,7 +59,7 @@ greatest_none test (suc n) j e lt passes = by (test n) refl (greatest_none test 
     ]
 
 -- A write of those in flight among the first n that goes to the block and passes.
-abbrev flight : JobParts → Option State → ℕ → List Placed
+abbrev flight : JobParts → Option State → ℕ → List BlockWrites
 flight job state n = map (placed_write job) (filter (λ k. not (counts state k)) (numbers_below n))
 
 flight_next : (job : JobParts) (state : Option State) (n : ℕ) → counts state n ≡ false
@@ -79,7 +79,7 @@ record Passes (job : JobParts) (state : Option State) (test : ℕ → Bool) (blo
   pub goes : block_of job write ≡ block
   pub passes : test write ≡ true
 
-abbrev goes_to : (ℕ → Bool) → ℕ → Placed → Bool
+abbrev goes_to : (ℕ → Bool) → ℕ → BlockWrites → Bool
 goes_to test block w = eqb w.block block && test w.seq
 
 some_passes : (job : JobParts) (state : Option State) (test : ℕ → Bool) (block n : ℕ) → list_any (goes_to test block) (flight job state n) ≡ true

@@ -6,7 +6,7 @@ use Rattle.fc_base.specs.declared.record.JobParts.{JobParts}
 use Rattle.fc_base.specs.Counted.{has, numbers_below}
 use Rattle.write_order.specs.Blocks.{block_of}
 use Rattle.verify_state.specs.State.{State}
-use Rattle.recheck.specs.declared.expected.Placed.{Placed}
+use Rattle.recheck.specs.declared.expected.BlockWrites.{BlockWrites}
 
 -- How many writes were issued: those that the state tells of, or in a full pass all of the job's.
 abbrev pub issued_in : JobParts → Option State → ℕ
@@ -33,7 +33,7 @@ abbrev pub in_flight : JobParts → Option State → List ℕ
 in_flight job state = filter (λ k. not (counts state k)) (numbers_below (issued_in job state))
 
 -- A write and its block.
-abbrev pub placed_write : JobParts → ℕ → Placed
+abbrev pub placed_write : JobParts → ℕ → BlockWrites
 placed_write job k = record { seq = k; block = block_of job k }
 
 -- What a check goes by: whose blocks they are and by which job, the last completed write to each of
@@ -42,7 +42,7 @@ pub record Expected : Type 0 where
   pub key : Key
   pub job : JobParts
   pub last : List (Option ℕ)
-  pub in_flight : List Placed
+  pub in_flight : List BlockWrites
 
 -- What the job's blocks are checked against, by a state or without one.
 abbrev pub expected_by : Key → JobParts → Option State → Expected

@@ -4,7 +4,7 @@ use Rattle.std.specs.Prelude.{ℕ, Bool, not, ◌&&◌, ◌==◌, List, [], ◌�
 use Rattle.std.specs.List.{list_any}
 use Rattle.std.specs.Str.{bytes_eq}
 use Rattle.write_order.specs.Stamps.{written_bytes}
-use Rattle.recheck.specs.declared.expected.Placed.{Placed}
+use Rattle.recheck.specs.declared.expected.BlockWrites.{BlockWrites}
 use Rattle.recheck.specs.declared.verdict.Verdict.{Verdict}
 use Rattle.recheck.specs.declared.verdict.Verdict.TheVariants as verdicts
 use Rattle.recheck.specs.Expected.{Expected}
@@ -17,8 +17,8 @@ last_write e block = slice_index_or e.last block None
 abbrev pub is_checked : Expected → ℕ → Bool
 is_checked e block = is_some (last_write e block)
 
--- Those of the writes that go to a block.
-abbrev pub writes_to : ℕ → List Placed → List ℕ
+-- The numbers of those writes that go to a block.
+abbrev pub writes_to : ℕ → List BlockWrites → List ℕ
 writes_to block writes = map (λ w. w.seq) (filter (λ w. w.block == block) writes)
 
 -- The writes that a checked block may hold: the last completed one, and those in flight to it.

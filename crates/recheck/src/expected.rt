@@ -16,7 +16,7 @@ use write_order::{Order, holds_write};
 
 /// A write and its block.
 #[derive(Clone, Copy, Debug)]
-pub struct Placed {
+pub struct BlockWrites {
     pub seq: Seq,
     pub block: u32,
 }
@@ -28,7 +28,7 @@ pub struct Expected {
     key: Key,
     rec: JobRecord,
     last: Vec<LastWrite>,
-    in_flight: Vec<Placed>,
+    in_flight: Vec<BlockWrites>,
 }
 
 impl Model for Expected {
@@ -71,7 +71,7 @@ impl Expected {
             if counts(state, seq) {
                 last[block as usize] = LastWrite::of(seq);
             } else {
-                in_flight.push(Placed { seq, block })?;
+                in_flight.push(BlockWrites { seq, block })?;
             }
             order.advance();
         }
@@ -106,7 +106,7 @@ impl Expected {
     }
 
     /// The writes in flight when the state was taken, ascending, each with its block.
-    pub fn in_flight(&self) -> &[Placed]
+    pub fn in_flight(&self) -> &[BlockWrites]
         ensures { result.now ≡ self.now.in_flight }
     {
         &self.in_flight

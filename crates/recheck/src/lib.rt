@@ -19,7 +19,7 @@ mod tally;
 mod verdict;
 mod whole_disk;
 
-pub use expected::{Expected, Placed};
+pub use expected::{BlockWrites, Expected};
 pub use fit_law::reports_fit;
 pub use law::{examples, faults_are_losses, faults_end_checks, same_states_check_alike};
 pub use recheck::Recheck;

@@ -10,9 +10,9 @@ use Rattle.fc_base.specs.declared.limits.TheConstants.{MAX_SERVERS}
 use Rattle.fc_base.specs.Faults.{when}
 use Rattle.fc_base.proofs.ListLemmas.{none_in}
 use Rattle.verify_state.specs.State.{State}
-use Rattle.disk_model.specs.declared.left.Left.{Left}
-use Rattle.disk_model.specs.declared.left.Left.TheVariants as lefts
-use Rattle.disk_model.specs.Left.{is_lost}
+use Rattle.disk_model.specs.declared.save_outcome.SaveOutcome.{SaveOutcome}
+use Rattle.disk_model.specs.declared.save_outcome.SaveOutcome.TheVariants as lefts
+use Rattle.disk_model.specs.SaveOutcome.{is_lost}
 use Rattle.node.specs.Steps.{is_answer}
 use Rattle.messages.specs.declared.packet.PacketParts.{PacketParts}
 use Rattle.messages.specs.declared.body.Body.TheVariants as bodies
@@ -78,13 +78,13 @@ not_mirror h = cc
 
 -- The entry of the client that sends a packet, in a step of its own.
 pub record ClientSends (w : Setup) (ps : List FrameStep) (x : Option FrameStep) (p : PacketParts) : Type 0 where
-  pub coming : Coming Entry Left
+  pub coming : Coming Entry SaveOutcome
   pub step_is : x ≡ Some (OfClient coming)
   pub entry : Entry
   pub is : entry_of (at_client w) (heard (at_client w) (frames.of_client w ps)) coming ≡ Some entry
   pub sends : Contains (clients.packets (client_opening w) (of_client w (trace_heard w ps)) entry) p
 
-by_entry : FrameLaws → (w : Setup) (ps : List FrameStep) (c : Coming Entry Left) (x : Option Entry) (p : PacketParts)
+by_entry : FrameLaws → (w : Setup) (ps : List FrameStep) (c : Coming Entry SaveOutcome) (x : Option Entry) (p : PacketParts)
     → entry_of (at_client w) (heard (at_client w) (frames.of_client w ps)) c ≡ x
     → Contains (frames_by (clients.packets (client_opening w)) (heard (at_client w) (frames.of_client w ps)).entries x) (Whole p)
     → ClientSends w ps (Some (OfClient c)) p
@@ -121,7 +121,7 @@ pub on_by : (b : Bool) (rest : List Fault) → is_none (slice_get (when (not b) 
 on_by true rest h = refl
 on_by false rest h = absurd cc
 
-kept_by : (d : Option Addition) (left : Left) → is_answer d left ≡ true → is_lost left ≡ false
+kept_by : (d : Option Addition) (left : SaveOutcome) → is_answer d left ≡ true → is_lost left ≡ false
 kept_by None lefts.NoSave h = refl
 kept_by None lefts.Saved h = absurd cc
 kept_by None lefts.LostNew h = absurd cc

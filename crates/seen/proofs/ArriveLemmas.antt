@@ -4,8 +4,8 @@ use Rattle.std.specs.Prelude.{if◌then◌else◌, ◌&&◌, ◌≤◌, slice_ge
 use Rattle.std.specs.Option.{option_map}
 use Rattle.std.proofs.lemmas.Option.{slice_get-map}
 use Rattle.fc_base.specs.declared.limits.TheConstants.{MAX_SERVERS}
-use Rattle.disk_model.specs.declared.left.Left.{Left}
-use Rattle.disk_model.specs.Left.{is_lost, saved_for}
+use Rattle.disk_model.specs.declared.save_outcome.SaveOutcome.{SaveOutcome}
+use Rattle.disk_model.specs.SaveOutcome.{is_lost, saved_for}
 use Rattle.messages.specs.declared.packet.PacketParts.{PacketParts}
 use Rattle.messages.specs.declared.frame.Frame.{Frame}
 use Rattle.messages.specs.declared.frame.Frame.TheVariants.{Whole, Piece}
@@ -48,7 +48,7 @@ use Rattle.seen.proofs.FrameLemmas.{sent_at, frames_are}
 use Rattle.seen.proofs.DoneLemmas.{same_event, told_ok}
 
 -- An event by which a packet comes to a server, in a frame that is delivered.
-pub record Arrives (w : Setup) (s : ℕ) (events : List Happening) (e : Happening) (x : PacketInput) (left : Left) : Type 0 where
+pub record Arrives (w : Setup) (s : ℕ) (events : List Happening) (e : Happening) (x : PacketInput) (left : SaveOutcome) : Type 0 where
   pub index : ℕ
   pub event : e ≡ Deliver index
   pub frame : Frame
@@ -60,7 +60,7 @@ pub record Arrives (w : Setup) (s : ℕ) (events : List Happening) (e : Happenin
   pub kept : is_lost left ≡ false
   pub does : outcome w (world w events) e ≡ Does (Met (OfServer s (ComesFrame frame left)))
 
-pub same_left : (x y : PacketInput) (l m : Left) → server.Met x l ≡ server.Met y m → l ≡ m
+pub same_left : (x y : PacketInput) (l m : SaveOutcome) → server.Met x l ≡ server.Met y m → l ≡ m
 same_left x y l m h = cc
 
 not_lost : (x : Option Staged) → is_lost (saved_for x) ≡ false
@@ -73,7 +73,7 @@ no_packet s x y same none some =
     let both : false ≡ true = sym none ∙ k in
     absurd cc
 
-arrived : (w : Setup) (s : ℕ) (evs : List Happening) (e : Happening) (x : PacketInput) (left : Left) → is_packets (request_of s x) ≡ true
+arrived : (w : Setup) (s : ℕ) (evs : List Happening) (e : Happening) (x : PacketInput) (left : SaveOutcome) → is_packets (request_of s x) ≡ true
     → (is_lost left ≡ true → (d : Staged) → due (opening_of s) (list_at w s evs) x ≡ Some d → ⊥)
     → Makes w (world w evs) s e (outcome w (world w evs) e) (server.Met x left) → Arrives w s evs e x left
 arrived w s evs e x left asks stays (ByFrame i f p l event there to says free saved is does) =
@@ -89,7 +89,7 @@ arrived w s evs e x left asks stays (ByFrame i f p l event there to says free sa
       is = same;
       free = subst (λ (z : PacketInput). refusal (opening_of s) (list_at w s evs) z ≡ None) (sym same) free;
       kept = ap is_lost (l_is ∙ saved) ∙ not_lost (due (opening_of s) (list_at w s evs) (inputs.Deliver p));
-      does = does ∙ ap (λ (v : Left). Does (Met (OfServer s (ComesFrame f v)))) (sym l_is);
+      does = does ∙ ap (λ (v : SaveOutcome). Does (Met (OfServer s (ComesFrame f v)))) (sym l_is);
     }
 arrived w s evs e x left asks stays (ByLoss y l is lost d due_is) =
     let same : x ≡ y = same_event x y left l is in
@@ -104,7 +104,7 @@ arrived w s evs e x left asks stays (ByCut is) = absurd cc
 arrived w s evs e x left asks stays (ByRestart l is) = absurd cc
 
 -- What asks in a packet arrives in a frame, where its save wasn't cut off.
-pub arrives : (w : Setup) (s : ℕ) (evs : List Happening) (e : Happening) (x : PacketInput) (left : Left) → entry_now w s evs e ≡ Some (server.Met x left)
+pub arrives : (w : Setup) (s : ℕ) (evs : List Happening) (e : Happening) (x : PacketInput) (left : SaveOutcome) → entry_now w s evs e ≡ Some (server.Met x left)
     → is_packets (request_of s x) ≡ true → (is_lost left ≡ true → (d : Staged) → due (opening_of s) (list_at w s evs) x ≡ Some d → ⊥)
     → Arrives w s evs e x left
 arrives w s evs e x left h asks stays = arrived w s evs e x left asks stays (makes w (world w evs) s e (server.Met x left) h)
@@ -143,7 +143,7 @@ whole_if laws w s evs (Piece q) i p few there says short =
     absurd cc
 
 -- It is seen to come.
-pub comes : ArriveLaws → (w : Setup) (s : ℕ) (evs : List Happening) (e : Happening) (x : PacketInput) (left : Left) (p : PacketParts) → w.servers ≤ MAX_SERVERS
+pub comes : ArriveLaws → (w : Setup) (s : ℕ) (evs : List Happening) (e : Happening) (x : PacketInput) (left : SaveOutcome) (p : PacketParts) → w.servers ≤ MAX_SERVERS
     → (a : Arrives w s evs e x left) → a.packet ≡ p → is_cut p.body ≡ false → Comes (observations w evs) (observation w evs e) p
 comes laws w s evs e x left p few a packet short =
     let says : said_to_server (steps (world w evs)) s a.frame ≡ Says p = a.says ∙ ap Says packet in

@@ -4,8 +4,8 @@ use Rattle.std.specs.Prelude.{◌≤◌, Contains}
 use Rattle.std.proofs.lemmas.List.Elements.{Contains-append_left}
 use Rattle.fc_base.specs.declared.limits.TheConstants.{MAX_SERVERS}
 use Rattle.fc_base.proofs.ListLemmas.{first_of}
-use Rattle.disk_model.specs.declared.left.Left.{Left}
-use Rattle.disk_model.specs.Left.{is_lost}
+use Rattle.disk_model.specs.declared.save_outcome.SaveOutcome.{SaveOutcome}
+use Rattle.disk_model.specs.SaveOutcome.{is_lost}
 use Rattle.messages.specs.declared.packet.PacketParts.{PacketParts}
 use Rattle.messages.specs.Laws.{LengthsAreBounded}
 use Rattle.messages.specs.Pieces.{is_cut}
@@ -63,12 +63,12 @@ pub record CameIn (w : Setup) (s : ℕ) (evs : List Happening) (x : Request) : T
   pub earlier : List Happening
   pub split : evs ≡ later ++ event ∷ earlier
   pub input : PacketInput
-  pub left : Left
+  pub left : SaveOutcome
   pub arrives_in : Arrives w s earlier event input left
   pub request : request_of s (inputs.Deliver arrives_in.packet) ≡ x
   pub sent : Contains (sent_packets w (trace w (world w evs))) arrives_in.packet
 
-no_loss : (left : Left) → is_lost left ≡ false → is_lost left ≡ true → ⊥
+no_loss : (left : SaveOutcome) → is_lost left ≡ false → is_lost left ≡ true → ⊥
 no_loss left h k = let both : false ≡ true = sym h ∙ k in absurd cc
 
 pub came_in : TakingLaws → (w : Setup) (s : ℕ) (evs : List Happening) (x : Request) → w.servers ≤ MAX_SERVERS → is_packets x ≡ true

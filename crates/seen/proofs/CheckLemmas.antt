@@ -7,9 +7,9 @@ use Rattle.job_file.specs.declared.job.Job.{Job}
 use Rattle.job_file.specs.declared.job.Phase.{Phase}
 use Rattle.job_file.specs.declared.job.Phase.TheVariants.{Read}
 use Rattle.job_file.specs.JobSet.{jobs_of, phase_in, refusal_of}
-use Rattle.disk_model.specs.declared.left.Left.{Left}
-use Rattle.disk_model.specs.declared.left.Left.TheVariants.{NoSave, Saved, LostNew, LostOld}
-use Rattle.disk_model.specs.Left.{is_lost}
+use Rattle.disk_model.specs.declared.save_outcome.SaveOutcome.{SaveOutcome}
+use Rattle.disk_model.specs.declared.save_outcome.SaveOutcome.TheVariants.{NoSave, Saved, LostNew, LostOld}
+use Rattle.disk_model.specs.SaveOutcome.{is_lost}
 use Rattle.server_core.specs.Inputs.{PacketInput}
 use Rattle.server_core.specs.History.{Opening, Entry, Met, Cut, Restart}
 use Rattle.server_core.specs.Request.{Request, ToStage, ToStart, ToTrigger, ToMark, ToStop, ToVerify, ToHold, ToPassFully, ToIssue, ToEnd, ToReport, ToNobody, request_of}
@@ -25,7 +25,7 @@ use Rattle.server_core.specs.Check.{is_above, new_check, opens, check_goes_on, o
 pub record Came (o : Opening) (list : List Entry) (x : Request) : Type 0 where
   pub newer : List Entry
   pub event : PacketInput
-  pub left : Left
+  pub left : SaveOutcome
   pub older : List Entry
   pub split : list ≡ newer ++ Met event left ∷ older
   pub request : request_of o.me event ≡ x
@@ -35,7 +35,7 @@ pub came_more : (o : Opening) (e : Entry) (list : List Entry) (x : Request) → 
 came_more o e list x c =
     record { newer = e ∷ c.newer; event = c.event; left = c.left; older = c.older; split = ap (λ l. e ∷ l) c.split; request = c.request; kept = c.kept }
 
-pub came_now : (o : Opening) (e : PacketInput) (left : Left) (list : List Entry) (x : Request) → is_lost left ≡ false → request_of o.me e ≡ x → Came o (Met e left ∷ list) x
+pub came_now : (o : Opening) (e : PacketInput) (left : SaveOutcome) (list : List Entry) (x : Request) → is_lost left ≡ false → request_of o.me e ≡ x → Came o (Met e left ∷ list) x
 came_now o e left list x kept is = record { newer = []; event = e; left = left; older = list; split = refl; request = is; kept = kept }
 
 -- ---- the jobs of a text
@@ -104,7 +104,7 @@ new_or_on : (new older : Option Check) (x : Request) (c : Check) → or_opened n
 new_or_on None older x c h = inr (goes_so older x c h)
 new_or_on (Some n) older x c h = inl h
 
-behind : (left : Left) (d : Option Staged) (new older : Option Check) (x : Request) (c : Check) → check_after left d new x older ≡ Some c
+behind : (left : SaveOutcome) (d : Option Staged) (new older : Option Check) (x : Request) (c : Check) → check_after left d new x older ≡ Some c
     → (is_lost left ≡ false) × ((new ≡ Some c) ⊎ GoesOn older x c)
 behind NoSave d new older x c h = (refl, new_or_on new older x c h)
 behind Saved None new older x c h = (refl, new_or_on new older x c h)
@@ -119,7 +119,7 @@ pub record Rests (o : Opening) (list : List Entry) (c : Check) : Type 0 where
   pub jobs : jobs_for Read text ≡ Ok c.jobs
   pub since : (x : Request) → Contains c.since x → Came o list x
 
-rests_now : (o : Opening) (e : PacketInput) (left : Left) (list : List Entry) (c : Check) → is_lost left ≡ false → Opens (request_of o.me e) c
+rests_now : (o : Opening) (e : PacketInput) (left : SaveOutcome) (list : List Entry) (c : Check) → is_lost left ≡ false → Opens (request_of o.me e) c
     → Rests o (Met e left ∷ list) c
 rests_now o e left list c kept k =
     record {
@@ -129,7 +129,7 @@ rests_now o e left list c kept k =
       since = λ x h. absurd (none_in x (subst (λ l. Contains l x) k.none h));
     }
 
-rests_on : (o : Opening) (e : PacketInput) (left : Left) (list : List Entry) (b : Check) → is_lost left ≡ false → Rests o list b
+rests_on : (o : Opening) (e : PacketInput) (left : SaveOutcome) (list : List Entry) (b : Check) → is_lost left ≡ false → Rests o list b
     → Rests o (Met e left ∷ list) (record b { since = request_of o.me e ∷ b.since })
 rests_on o e left list b kept k =
     record {

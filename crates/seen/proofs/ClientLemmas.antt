@@ -7,9 +7,9 @@ use Rattle.fc_base.specs.declared.fault.Fault.{Fault}
 use Rattle.fc_base.specs.declared.fault.Fault.TheVariants.{BadNote, NumbersSpent}
 use Rattle.engine.specs.Running.{Origin}
 use Rattle.engine.specs.Answers.{ticket_of}
-use Rattle.disk_model.specs.declared.left.Left.{Left}
-use Rattle.disk_model.specs.declared.left.Left.TheVariants as lefts
-use Rattle.disk_model.specs.Left.{saved_for}
+use Rattle.disk_model.specs.declared.save_outcome.SaveOutcome.{SaveOutcome}
+use Rattle.disk_model.specs.declared.save_outcome.SaveOutcome.TheVariants as lefts
+use Rattle.disk_model.specs.SaveOutcome.{saved_for}
 use Rattle.messages.specs.declared.frame.Frame.{Frame}
 use Rattle.messages.specs.declared.node.Node.{Node}
 use Rattle.messages.specs.declared.node.Node.TheVariants.{Server, Client, Mirror}
@@ -157,7 +157,7 @@ plain_when true xs a = a
 plain_when false xs a = tt
 
 -- What a frame says gives none.
-said_calm : (w : Setup) (list : List Entry) (left : Left) (m : Meaning)
+said_calm : (w : Setup) (list : List Entry) (left : SaveOutcome) (m : Meaning)
     → AllByRecursion IsPlain (new_deeds (client_opening w) list (heard_by (at_client w) left m))
 said_calm w list left (Says p) =
     let o = client_opening w in
@@ -170,7 +170,7 @@ said_calm w list left Strays = tt
 abbrev pub StepIsCalm : Setup → List Change → FrameStep → Type 0
 StepIsCalm w past step = AllByRecursion IsPlain (new_deeds (client_opening w) (of_client w (trace w past)) (client_in w (steps past) step))
 
-pub frame_calm : (w : Setup) (past : List Change) (f : Frame) (left : Left) → StepIsCalm w past (OfClient (Comes f left))
+pub frame_calm : (w : Setup) (past : List Change) (f : Frame) (left : SaveOutcome) → StepIsCalm w past (OfClient (Comes f left))
 frame_calm w past f left = said_calm w (of_client w (trace w past)) left (said_to_client w (steps past) f)
 
 free : (w : Setup) (past : List Change) (x : Option Fault) (step : FrameStep) → StepIsCalm w past step

@@ -6,7 +6,7 @@ use Rattle.std.proofs.lemmas.Option.{slice_get-map}
 use Rattle.fc_base.specs.declared.fault.Fault.{Fault}
 use Rattle.fc_base.specs.declared.fault.Fault.TheVariants.{BadNote}
 use Rattle.fc_base.specs.declared.limits.TheConstants.{MAX_SERVERS}
-use Rattle.disk_model.specs.Left.{is_lost, saved_for}
+use Rattle.disk_model.specs.SaveOutcome.{is_lost, saved_for}
 use Rattle.messages.specs.declared.packet.PacketParts.{PacketParts}
 use Rattle.messages.specs.declared.frame.Frame.{Frame}
 use Rattle.messages.specs.declared.frame.Frame.TheVariants.{Whole}

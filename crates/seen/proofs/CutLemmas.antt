@@ -6,7 +6,7 @@ use Rattle.fc_base.specs.declared.limits.TheConstants.{MAX_SERVERS}
 use Rattle.fc_base.proofs.ListLemmas.{none_in, first_of, first_or_behind}
 use Rattle.job_file.specs.declared.job.Job.{Job}
 use Rattle.verify_state.specs.State.{State}
-use Rattle.disk_model.specs.declared.left.Left.{Left}
+use Rattle.disk_model.specs.declared.save_outcome.SaveOutcome.{SaveOutcome}
 use Rattle.messages.specs.declared.packet.PacketParts.{PacketParts}
 use Rattle.messages.specs.declared.body.Body.TheVariants as bodies
 use Rattle.server_core.specs.Inputs.{PacketInput}
@@ -50,7 +50,7 @@ no_start o list x r j d asks h =
     absurd cc
 
 -- An acknowledgement arrives in a frame.
-ack_arrives : (w : Setup) (s : ℕ) (evs : List Happening) (e : Happening) (x : PacketInput) (left : Left) (r j : ℕ) → entry_now w s evs e ≡ Some (server.Met x left)
+ack_arrives : (w : Setup) (s : ℕ) (evs : List Happening) (e : Happening) (x : PacketInput) (left : SaveOutcome) (r j : ℕ) → entry_now w s evs e ≡ Some (server.Met x left)
     → request_of s x ≡ ToMark r j → Arrives w s evs e x left
 ack_arrives w s evs e x left r j h asks =
     arrives w s evs e x left h (ap is_packets asks) (λ lost d k. no_start (opening_of s) (list_at w s evs) x r j d asks k)
@@ -58,7 +58,7 @@ ack_arrives w s evs e x left r j h asks =
 -- A packet that came in this life came with an entry.
 record HeardAt (list : List Entry) (p : PacketParts) : Type 0 where
   pub newer : List Entry
-  pub left : Left
+  pub left : SaveOutcome
   pub older : List Entry
   pub split : list ≡ newer ++ server.Met (inputs.Deliver p) left ∷ older
 
@@ -93,7 +93,7 @@ mark_of me r j = by (me == me) (eq-eqb me me refl)
     by false e = absurd cc
 
 -- An acknowledgement is seen to come.
-ack_comes : TakingLaws → (w : Setup) (s : ℕ) (evs : List Happening) (e : Happening) (x : PacketInput) (left : Left) (r j : ℕ) → w.servers ≤ MAX_SERVERS
+ack_comes : TakingLaws → (w : Setup) (s : ℕ) (evs : List Happening) (e : Happening) (x : PacketInput) (left : SaveOutcome) (r j : ℕ) → w.servers ≤ MAX_SERVERS
     → (h : entry_now w s evs e ≡ Some (server.Met x left)) → (asks : request_of s x ≡ ToMark r j)
     → Comes (observations w evs) (observation w evs e) (to_server s (bodies.StateAck r j))
 ack_comes laws w s evs e x left r j few h asks =

@@ -7,12 +7,12 @@ use Rattle.fc_base.specs.declared.fault.Fault.{Fault}
 use Rattle.fc_base.specs.declared.numbers.Key.{Key}
 use Rattle.fc_base.proofs.ListLemmas.{none_in, first_of, behind_one, first_or_behind}
 use Rattle.job_file.specs.declared.job.Job.{Job}
-use Rattle.window.specs.History.{open_writes}
+use Rattle.engine.specs.History.{open_writes}
 use Rattle.engine.specs.declared.issue.Ticket.{Ticket}
 use Rattle.engine.specs.Running.{Origin}
 use Rattle.engine.specs.Answers.{ticket_of}
-use Rattle.disk_model.specs.declared.left.Left.{Left}
-use Rattle.disk_model.specs.Left.{saved_for}
+use Rattle.disk_model.specs.declared.save_outcome.SaveOutcome.{SaveOutcome}
+use Rattle.disk_model.specs.SaveOutcome.{saved_for}
 use Rattle.messages.specs.Hearing.{Happens, with_entry}
 use Rattle.server_core.specs.Inputs.{PacketInput}
 use Rattle.server_core.specs.declared.input.Input.TheVariants as inputs
@@ -92,13 +92,13 @@ pub record Ended (w : Setup) (past : List Change) (s : ℕ) (e : Happening) (r :
   pub change : Change
   pub does : r ≡ Does change
 
-same_end : (t u : Ticket) (a b : WriteEnd) (l m : Left) → server.Met (inputs.WriteDone t a) l ≡ server.Met (inputs.WriteDone u b) m → (t ≡ u) × (a ≡ b)
+same_end : (t u : Ticket) (a b : WriteEnd) (l m : SaveOutcome) → server.Met (inputs.WriteDone t a) l ≡ server.Met (inputs.WriteDone u b) m → (t ≡ u) × (a ≡ b)
 same_end t u a b l m h = (cc, cc)
 
-pub same_event : (x y : PacketInput) (l m : Left) → server.Met x l ≡ server.Met y m → x ≡ y
+pub same_event : (x y : PacketInput) (l m : SaveOutcome) → server.Met x l ≡ server.Met y m → x ≡ y
 same_event x y l m h = cc
 
-pub ended : (w : Setup) (past : List Change) (s : ℕ) (e : Happening) (r : Outcome) (ticket : Ticket) (left : Left)
+pub ended : (w : Setup) (past : List Change) (s : ℕ) (e : Happening) (r : Outcome) (ticket : Ticket) (left : SaveOutcome)
     → Makes w past s e r (server.Met (inputs.WriteDone ticket ends.Done) left) → Ended w past s e r ticket
 ended w past s e r ticket left (ByFrame i f p l event there to says free saved is does) = absurd cc
 ended w past s e r ticket left (ByLoss x l is lost d due_is) =
@@ -129,7 +129,7 @@ pub told_ok : (w : Setup) (past : List Change) (e : Happening) (r : Outcome) (c 
 told_ok w past e r c h = ap (λ x. is_ok (told_by w past e x)) h
 
 -- A write that a server accepted as done with an event is seen to be.
-done_now : PresentIsLast → (w : Setup) (s : ℕ) (events : List Happening) (e : Happening) (x : PacketInput) (left : Left) (past : List Entry) (key : Key) (k : ℕ)
+done_now : PresentIsLast → (w : Setup) (s : ℕ) (events : List Happening) (e : Happening) (x : PacketInput) (left : SaveOutcome) (past : List Entry) (key : Key) (k : ℕ)
     (among : List Observation) → entry_now w s events e ≡ Some (server.Met x left) → IsDoneBy (opening_of s) past x key k
     → IsDone (observation w events e ∷ among) s key.job k
 done_now law w s events e (inputs.WriteDone ticket ends.Done) left past key k among h d =
@@ -178,7 +178,7 @@ pub record Accepts (w : Setup) (s : ℕ) (events : List Happening) (e : Happenin
   pub origin : Origin
   pub there : open_at (trace w (world w events)) s j k ≡ Some origin
   pub free : refusal (opening_of s) (list_at w s events) (inputs.WriteDone (ticket_of origin k) ends.Done) ≡ None
-  pub left : Left
+  pub left : SaveOutcome
   pub heard : entry_now w s events e ≡ Some (server.Met (inputs.WriteDone (ticket_of origin k) ends.Done) left)
 
 -- What isn't refused comes of what happens.
@@ -198,7 +198,7 @@ own_entry s y ps = by (s == s) (eq-eqb s s refl)
 accepts_if : (w : Setup) (s : ℕ) (events : List Happening) (e : Happening) (j k : ℕ) (origin : Origin) (x : Option Fault)
     → open_at (trace w (world w events)) s j k ≡ Some origin
     → refusal (opening_of s) (list_at w s events) (inputs.WriteDone (ticket_of origin k) ends.Done) ≡ x
-    → (left : Left)
+    → (left : SaveOutcome)
     → outcome w (world w events) e ≡ outcome_of_step (unless_fault x (Ok (OfServer s (Happens (server.Met (inputs.WriteDone (ticket_of origin k) ends.Done) left)))))
     → is_ok (told_by w (world w events) e (outcome_of_step (unless_fault x (Ok (OfServer s (Happens (server.Met (inputs.WriteDone (ticket_of origin k) ends.Done) left)))))))
     ≡ true

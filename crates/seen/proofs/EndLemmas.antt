@@ -5,8 +5,8 @@ use Rattle.fc_base.specs.declared.fault.Fault.{Fault}
 use Rattle.fc_base.specs.declared.limits.TheConstants.{MAX_SERVERS}
 use Rattle.fc_base.specs.declared.report.ReportParts.{ReportParts}
 use Rattle.fc_base.proofs.ListLemmas.{first_of}
-use Rattle.disk_model.specs.declared.left.Left.{Left}
-use Rattle.disk_model.specs.Left.{is_lost, saved_for}
+use Rattle.disk_model.specs.declared.save_outcome.SaveOutcome.{SaveOutcome}
+use Rattle.disk_model.specs.SaveOutcome.{is_lost, saved_for}
 use Rattle.messages.specs.declared.body.Body.TheVariants as bodies
 use Rattle.messages.specs.Hearing.{Happens}
 use Rattle.server_core.specs.declared.input.Input.TheVariants as inputs
@@ -39,7 +39,7 @@ use Rattle.seen.proofs.QuietLemmas.{TakingLaws, short_packet, told_answer}
 
 -- The end of the check of a job, which its server has met.
 pub record Ends (w : Setup) (s : ℕ) (evs : List Happening) (j : ℕ) (c : Check) (r : ReportParts) : Type 0 where
-  pub left : Left
+  pub left : SaveOutcome
   pub kept : is_lost left ≡ false
   pub free : refusal (opening_of s) (list_at w s evs) (inputs.CheckDone c.boot c.attempt j r) ≡ None
   pub does :
@@ -50,7 +50,7 @@ not_lost : (x : Option Staged) → is_lost (saved_for x) ≡ false
 not_lost None = refl
 not_lost (Some d) = refl
 
-ends_if : (w : Setup) (s : ℕ) (evs : List Happening) (j : ℕ) (c : Check) (r : ReportParts) (x : Option Fault) (left : Left) → is_lost left ≡ false
+ends_if : (w : Setup) (s : ℕ) (evs : List Happening) (j : ℕ) (c : Check) (r : ReportParts) (x : Option Fault) (left : SaveOutcome) → is_lost left ≡ false
     → refusal (opening_of s) (list_at w s evs) (inputs.CheckDone c.boot c.attempt j r) ≡ x
     → outcome w (world w evs) (happenings.Check s j)
     ≡ outcome_of_step (unless_fault x (Ok (OfServer s (Happens (server.Met (inputs.CheckDone c.boot c.attempt j r) left)))))

@@ -7,9 +7,9 @@ use Rattle.fc_base.specs.declared.fault.Fault.TheVariants.{BadNote, NumbersSpent
 use Rattle.fc_base.specs.declared.report.ReportParts.{ReportParts}
 use Rattle.engine.specs.Running.{Origin}
 use Rattle.engine.specs.Answers.{ticket_of}
-use Rattle.disk_model.specs.declared.left.Left.{Left}
-use Rattle.disk_model.specs.declared.left.Left.TheVariants as lefts
-use Rattle.disk_model.specs.Left.{saved_for, is_lost}
+use Rattle.disk_model.specs.declared.save_outcome.SaveOutcome.{SaveOutcome}
+use Rattle.disk_model.specs.declared.save_outcome.SaveOutcome.TheVariants as lefts
+use Rattle.disk_model.specs.SaveOutcome.{saved_for, is_lost}
 use Rattle.messages.specs.declared.frame.Frame.{Frame}
 use Rattle.messages.specs.declared.node.Node.{Node}
 use Rattle.messages.specs.declared.node.Node.TheVariants.{Server, Client, Mirror}
@@ -91,23 +91,23 @@ list_with w s past (Drops step) = step_with w s (steps past) step
 
 -- What comes to server s with this event, of which this comes.
 pub data Makes (w : Setup) (past : List Change) (s : ℕ) (e : Happening) (r : Outcome) (y : Entry) : Type 0 where
-  ByFrame : (i : ℕ) (f : Frame) (p : PacketParts) (left : Left) → e ≡ Deliver i → slice_get (frames_sent w (steps past)) i ≡ Some f → to_of f ≡ Server s
+  ByFrame : (i : ℕ) (f : Frame) (p : PacketParts) (left : SaveOutcome) → e ≡ Deliver i → slice_get (frames_sent w (steps past)) i ≡ Some f → to_of f ≡ Server s
       → said_to_server (steps past) s f ≡ Says p → refusal (opening_of s) (of_server s (trace w past)) (inputs.Deliver p) ≡ None
       → left ≡ saved_for (due (opening_of s) (of_server s (trace w past)) (inputs.Deliver p)) → y ≡ server.Met (inputs.Deliver p) left
       → r ≡ Does (Met (OfServer s (Comes f left))) → Makes w past s e r y
-  ByLoss : (x : ServerInput) (left : Left) → y ≡ server.Met x left → is_lost left ≡ true → (d : Staged)
+  ByLoss : (x : ServerInput) (left : SaveOutcome) → y ≡ server.Met x left → is_lost left ≡ true → (d : Staged)
       → due (opening_of s) (of_server s (trace w past)) x ≡ Some d → Makes w past s e r y
-  ByWorker : (j : ℕ) (left : Left) → e ≡ Issue s j → left ≡ saved_for (due (opening_of s) (of_server s (trace w past)) (inputs.Issue j))
+  ByWorker : (j : ℕ) (left : SaveOutcome) → e ≡ Issue s j → left ≡ saved_for (due (opening_of s) (of_server s (trace w past)) (inputs.Issue j))
       → y ≡ server.Met (inputs.Issue j) left → (c : Change) → r ≡ Does c → Makes w past s e r y
-  ByEnd : (end : WriteEnd) (j k : ℕ) (origin : Origin) (left : Left) → e ≡ happening_of_end end s j k → open_at (trace w past) s j k ≡ Some origin
+  ByEnd : (end : WriteEnd) (j k : ℕ) (origin : Origin) (left : SaveOutcome) → e ≡ happening_of_end end s j k → open_at (trace w past) s j k ≡ Some origin
       → refusal (opening_of s) (of_server s (trace w past)) (inputs.WriteDone (ticket_of origin k) end) ≡ None
       → left ≡ saved_for (due (opening_of s) (of_server s (trace w past)) (inputs.WriteDone (ticket_of origin k) end))
       → y ≡ server.Met (inputs.WriteDone (ticket_of origin k) end) left → (c : Change) → r ≡ Does c → Makes w past s e r y
-  ByCheck : (boot a j : ℕ) (report : ReportParts) (left : Left) → e ≡ happenings.Check s j → end_of_check w past s j ≡ Some (inputs.CheckDone boot a j report)
+  ByCheck : (boot a j : ℕ) (report : ReportParts) (left : SaveOutcome) → e ≡ happenings.Check s j → end_of_check w past s j ≡ Some (inputs.CheckDone boot a j report)
       → left ≡ saved_for (due (opening_of s) (of_server s (trace w past)) (inputs.CheckDone boot a j report))
       → y ≡ server.Met (inputs.CheckDone boot a j report) left → (c : Change) → r ≡ Does c → Makes w past s e r y
   ByCut : y ≡ server.Cut → Makes w past s e r y
-  ByRestart : (left : Left) → y ≡ server.Restart left → Makes w past s e r y
+  ByRestart : (left : SaveOutcome) → y ≡ server.Restart left → Makes w past s e r y
 
 -- What a server hears of this is made so.
 unfoldable pub Adds : Setup → List Change → ℕ → Happening → Outcome → Type 0
@@ -221,7 +221,7 @@ by_cut w past s e (Server r) = powered w past s r e server.Cut _ refl (λ y k. B
 by_cut w past s e Client = adds_none w past s e _ refl
 by_cut w past s e Mirror = adds_none w past s e _ refl
 
-restarted : (w : Setup) (past : List Change) (s r : ℕ) (e : Happening) (b : Bool) (left : Left) (fault : Fault)
+restarted : (w : Setup) (past : List Change) (s r : ℕ) (e : Happening) (b : Bool) (left : SaveOutcome) (fault : Fault)
     → Adds w past s e (outcome_of_step (if b then Ok (OfServer r (Happens (server.Restart left))) else Err fault))
 restarted w past s r e true left fault = powered w past s r e (server.Restart left) _ refl (λ y k. ByRestart left (sym k))
 restarted w past s r e false left fault = adds_none w past s e _ refl
@@ -238,7 +238,7 @@ by_restart_cut w past s e landed (Server r) = restarted w past s r e (words.has_
 by_restart_cut w past s e landed Client = adds_none w past s e _ refl
 by_restart_cut w past s e landed Mirror = adds_none w past s e _ refl
 
-pub by_renewal : (w : Setup) (past : List Change) (s g : ℕ) (e : Happening) (left : Left) (fault : Fault)
+pub by_renewal : (w : Setup) (past : List Change) (s g : ℕ) (e : Happening) (left : SaveOutcome) (fault : Fault)
     → Adds w past s e (outcome_of_step (if is_blank (noted_in w (trace w past)) then Ok (OfClient (Happens (client.Renew g left))) else Err fault))
 by_renewal w past s g e left fault =
     adds_none w past s e _ (one_of s (steps past) (is_blank (noted_in w (trace w past))) (OfClient (Happens (client.Renew g left))) fault refl)

@@ -14,7 +14,7 @@ use Rattle.verify_state.specs.Same.{is_same}
 use Rattle.verify_state.specs.Spelling as states
 use Rattle.verify_state.specs.Spelling.{key_bytes, job_bytes}
 use Rattle.verify_state.specs.State.{State}
-use Rattle.state_table.specs.Laws.{FoundHasItsKey}
+use Rattle.verify_state.specs.TableLaws.{FoundHasItsKey}
 use Rattle.messages.specs.declared.body.Body.{Body}
 use Rattle.messages.specs.declared.body.Body.TheVariants as bodies
 use Rattle.messages.specs.declared.frame.Frame.{Frame}

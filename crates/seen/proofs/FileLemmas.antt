@@ -10,7 +10,7 @@ use Rattle.job_file.specs.declared.job.Job.{Job}
 use Rattle.job_file.specs.declared.job.Phase.TheVariants.{Write}
 use Rattle.write_order.specs.Blocks.{block_of}
 use Rattle.write_order.specs.Stamps.{bytes_of}
-use Rattle.window.specs.History.{open_writes}
+use Rattle.engine.specs.History.{open_writes}
 use Rattle.engine.specs.Running.{Origin}
 use Rattle.engine.specs.Answers.{ticket_of}
 use Rattle.disk_model.specs.File.{put}

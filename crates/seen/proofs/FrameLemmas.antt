@@ -15,7 +15,7 @@ use Rattle.messages.specs.declared.frame.Frame.TheVariants.{Whole, Piece}
 use Rattle.messages.specs.FrameBytes.{frame_at, frame_spelling}
 use Rattle.messages.specs.Pieces.{is_cut, pieces_of, frames_of}
 use Rattle.messages.specs.Hearing.{Coming, entry_of, frames_by, heard}
-use Rattle.disk_model.specs.declared.left.Left.{Left}
+use Rattle.disk_model.specs.declared.save_outcome.SaveOutcome.{SaveOutcome}
 use Rattle.server_core.specs.History.{Entry}
 use Rattle.server_core.specs.Answers as servers
 use Rattle.server_core.specs.Sent.{PacketsGoToClient}
@@ -151,7 +151,7 @@ by_entry s list None = refl
 by_entry s list (Some y) = refl
 
 -- What a step at a server sends, by what the server hears.
-pub server_sends : NodesHearTheirOwn → (w : Setup) (ps : List FrameStep) (s : ℕ) (c : Coming Entry Left)
+pub server_sends : NodesHearTheirOwn → (w : Setup) (ps : List FrameStep) (s : ℕ) (c : Coming Entry SaveOutcome)
     → frames_of_step w ps (OfServer s c)
     ≡ flat_map frames_of (packets_by_entry s (of_server s (trace_heard w ps)) (entry_of (at_server s) (heard (at_server s) (frames.of_server s ps)) c))
 server_sends law w ps s c =
@@ -235,7 +235,7 @@ sent_here laws w s events e p few from h =
     step_sends_so laws w (steps (world w events)) s (step_now w events e) p from i
 
 -- What a server sends with a step is seen, where it is short.
-pub seen_here : FrameLaws → (w : Setup) (s : ℕ) (events : List Happening) (e : Happening) (c : Coming Entry Left) (y : Entry) (p : PacketParts)
+pub seen_here : FrameLaws → (w : Setup) (s : ℕ) (events : List Happening) (e : Happening) (c : Coming Entry SaveOutcome) (y : Entry) (p : PacketParts)
     → w.servers ≤ MAX_SERVERS → outcome w (world w events) e ≡ Does (Met (OfServer s c))
     → entry_of (at_server s) (heard (at_server s) (frames.of_server s (steps (world w events)))) c ≡ Some y → is_cut p.body ≡ false
     → Contains (servers.packets (opening_of s) (list_at w s events) y) p → IsAmong (observation w events e).frames p

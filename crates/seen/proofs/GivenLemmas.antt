@@ -5,7 +5,7 @@ use Rattle.std.specs.Prelude.{if◌then◌else◌, ◌&&◌, ◌==◌}
 use Rattle.std.specs.Option.{option_or}
 use Rattle.std.proofs.lemmas.Bool.{and_parts, and_from, eqb-true, eq-eqb}
 use Rattle.fc_base.specs.declared.fault.Fault.{Fault}
-use Rattle.window.specs.History.{issued, in_flight}
+use Rattle.engine.specs.History.{issued, in_flight}
 use Rattle.engine.specs.declared.issue.Ticket.{Ticket}
 use Rattle.engine.specs.declared.issue.Issue.{Issue as Issued}
 use Rattle.engine.specs.declared.issue.Issue.TheVariants as issuing
@@ -13,7 +13,7 @@ use Rattle.engine.specs.declared.issue.Issue.TheVariants.{Write}
 use Rattle.engine.specs.Legal.{has_failed}
 use Rattle.engine.specs.Running.{Origin}
 use Rattle.engine.specs.Answers.{ticket_of, answer_to}
-use Rattle.disk_model.specs.declared.left.Left.{Left}
+use Rattle.disk_model.specs.declared.save_outcome.SaveOutcome.{SaveOutcome}
 use Rattle.messages.specs.Nodes.{is_client, is_server}
 use Rattle.messages.specs.declared.body.Body.{Body}
 use Rattle.messages.specs.declared.body.Body.TheVariants as bodies
@@ -83,7 +83,7 @@ asks_issue me j (inputs.WriteDone ticket end) h = absurd cc
 asks_issue me j (inputs.CheckDone boot a i report) h = absurd cc
 
 -- The happening of a request for a write.
-pub issue_happens : (w : Setup) (past : List Change) (s : ℕ) (e : Happening) (r : Outcome) (j : ℕ) (left : Left)
+pub issue_happens : (w : Setup) (past : List Change) (s : ℕ) (e : Happening) (r : Outcome) (j : ℕ) (left : SaveOutcome)
     → Makes w past s e r (Met (inputs.Issue j) left) → (e ≡ Issue s j) × (c : Change) × (r ≡ Does c)
 issue_happens w past s e r j left (ByFrame i f p l event there to says free saved is does) = absurd cc
 issue_happens w past s e r j left (ByLoss x l is lost d due_is) =
@@ -198,7 +198,7 @@ new_is_seen s j k ticket a seq is =
     ap (λ b. if b then ticket_in k a else None) (and_from (s == s) (j == j) (eq-eqb s s refl) (eq-eqb j j refl))
     ∙ ap (ticket_in k) is ∙ ap (λ b. if b then Some ticket else None) (eq-eqb ticket.seq k seq)
 
-seen_new : (w : Setup) (s j k : ℕ) (events : List Happening) (e : Happening) (origin : Origin) (x : PacketInput) (left : Left)
+seen_new : (w : Setup) (s j k : ℕ) (events : List Happening) (e : Happening) (origin : Origin) (x : PacketInput) (left : SaveOutcome)
     → (f : Opened (work (opening_of s) (list_at w s events)) j origin) → entry_now w s events e ≡ Some (Met x left)
     → IsNew origin (is_halted f.at) (request_of s x) (history origin f.at.since) k
     → ticket_with s j k e (told_of_happening w (world w events) e) ≡ Some (ticket_of origin k)

@@ -8,10 +8,10 @@ use Rattle.fc_base.specs.NumberLaws.{has_push, has_filter}
 use Rattle.fc_base.specs.declared.fault.Fault.{Fault}
 use Rattle.job_file.specs.declared.job.Job.{Job}
 use Rattle.write_order.specs.Blocks.{block_of}
-use Rattle.window.specs.History as window
-use Rattle.window.specs.History.{issues, failures, is_done, issued, in_flight, open_writes}
-use Rattle.window.specs.Kept.{is_held}
-use Rattle.window.proofs.HistoryLemmas.{open_writes-done, open_writes-fail}
+use Rattle.engine.specs.History as window
+use Rattle.engine.specs.History.{issues, failures, is_done, issued, in_flight, open_writes}
+use Rattle.engine.specs.Kept.{is_held}
+use Rattle.engine.proofs.HistoryLemmas.{open_writes-done, open_writes-fail}
 use Rattle.engine.specs.declared.issue.Ticket.{Ticket}
 use Rattle.engine.specs.declared.issue.Issue.{Issue as Issued}
 use Rattle.engine.specs.declared.issue.Issue.TheVariants as issuing
@@ -19,8 +19,8 @@ use Rattle.engine.specs.declared.issue.Issue.TheVariants.{Write}
 use Rattle.engine.specs.Legal.{has_failed, any_goes_to}
 use Rattle.engine.specs.Running.{Origin}
 use Rattle.engine.specs.Answers.{ticket_of, answer_by, answer_to, ticket_answer}
-use Rattle.disk_model.specs.declared.left.Left.{Left}
-use Rattle.disk_model.specs.declared.left.Left.TheVariants.{NoSave, Saved, LostNew, LostOld}
+use Rattle.disk_model.specs.declared.save_outcome.SaveOutcome.{SaveOutcome}
+use Rattle.disk_model.specs.declared.save_outcome.SaveOutcome.TheVariants.{NoSave, Saved, LostNew, LostOld}
 use Rattle.server_core.specs.declared.input.WriteEnd.{WriteEnd}
 use Rattle.server_core.specs.declared.input.WriteEnd.TheVariants as ends
 use Rattle.server_core.specs.Request.{Request, ToStage, ToStart, ToTrigger, ToMark, ToStop, ToVerify, ToHold, ToPassFully, ToIssue, ToEnd, ToReport, ToNobody}
@@ -198,7 +198,7 @@ none_at_first w j k origin (Some job) new h =
     let both : None ≡ Some origin = sym no ∙ h in
     absurd cc
 
-pub from_met : (left : Left) (d : Option Staged) (me now_boot : ℕ) (x : Request) (now : Option Work) (j k : ℕ) (origin : Origin)
+pub from_met : (left : SaveOutcome) (d : Option Staged) (me now_boot : ℕ) (x : Request) (now : Option Work) (j k : ℕ) (origin : Origin)
     → open_origin (work_after left d me now_boot x now) j k ≡ Some origin → FromRun x now j k origin
 from_met NoSave d me now_boot x now j k origin h = from_run x now j k origin h
 from_met Saved None me now_boot x now j k origin h = from_run x now j k origin h

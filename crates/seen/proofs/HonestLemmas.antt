@@ -6,7 +6,7 @@ use Rattle.fc_base.specs.declared.limits.TheConstants.{MAX_SERVERS}
 use Rattle.fc_base.specs.declared.record.JobParts.{JobParts}
 use Rattle.write_order.specs.Blocks.{block_of}
 use Rattle.write_order.specs.Stamps.{bytes_of}
-use Rattle.disk_model.specs.declared.left.Left.{Left}
+use Rattle.disk_model.specs.declared.save_outcome.SaveOutcome.{SaveOutcome}
 use Rattle.disk_model.specs.File.{block_bytes}
 use Rattle.engine.specs.declared.issue.Ticket.{Ticket}
 use Rattle.engine.specs.Running.{Origin}
@@ -94,7 +94,7 @@ Holds w evs e s j k =
     → (origin : Origin) → open_at (trace w (world w evs)) s j k ≡ Some origin
     → HoldsWrite (content w (world w evs) s j) origin.key origin.job k
 
-done_held : FileLaws → (w : Setup) (evs : List Happening) (e : Happening) (s : ℕ) (ticket : Ticket) (left : Left) → w.servers ≤ MAX_SERVERS
+done_held : FileLaws → (w : Setup) (evs : List Happening) (e : Happening) (s : ℕ) (ticket : Ticket) (left : SaveOutcome) → w.servers ≤ MAX_SERVERS
     → entry_now w s evs e ≡ Some (server.Met (inputs.WriteDone ticket ends.Done) left)
     → IsHonest (observations w evs) s ticket.key.job e (is_ok (told_by w (world w evs) e (outcome w (world w evs) e)))
     → (origin : Origin) → open_at (trace w (world w evs)) s ticket.key.job ticket.seq ≡ Some origin
@@ -118,7 +118,7 @@ done_held laws w evs e s ticket left few heard h origin there =
     (held_is laws w evs s ticket.key.job few) by_rec
 
 -- The same of the file of that server and job.
-held_at : FileLaws → (w : Setup) (evs : List Happening) (e : Happening) (r s j : ℕ) (ticket : Ticket) (left : Left) → w.servers ≤ MAX_SERVERS
+held_at : FileLaws → (w : Setup) (evs : List Happening) (e : Happening) (r s j : ℕ) (ticket : Ticket) (left : SaveOutcome) → w.servers ≤ MAX_SERVERS
     → entry_now w r evs e ≡ Some (server.Met (inputs.WriteDone ticket ends.Done) left) → r ≡ s → ticket.key.job ≡ j
     → IsHonest (observations w evs) s j e (is_ok (told_by w (world w evs) e (outcome w (world w evs) e)))
     → (origin : Origin) → open_at (trace w (world w evs)) s j ticket.seq ≡ Some origin

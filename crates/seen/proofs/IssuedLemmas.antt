@@ -7,8 +7,8 @@ use Rattle.std.proofs.lemmas.List.{length-append}
 use Rattle.fc_base.specs.declared.fault.Fault.{Fault}
 use Rattle.fc_base.proofs.ListLemmas.{none_in, first_of, behind_one, first_or_behind}
 use Rattle.job_file.specs.declared.job.Job.{Job}
-use Rattle.window.specs.History as window
-use Rattle.window.specs.History.{issued}
+use Rattle.engine.specs.History as window
+use Rattle.engine.specs.History.{issued}
 use Rattle.engine.specs.declared.issue.Ticket.{Ticket}
 use Rattle.engine.specs.declared.issue.Issue.{Issue as Issued}
 use Rattle.engine.specs.declared.issue.Issue.TheVariants as issuing
@@ -16,9 +16,9 @@ use Rattle.engine.specs.declared.issue.Issue.TheVariants.{Write}
 use Rattle.engine.specs.Legal.{has_failed}
 use Rattle.engine.specs.Running.{Origin}
 use Rattle.engine.specs.Answers.{ticket_of, answer_to, ticket_answer}
-use Rattle.disk_model.specs.declared.left.Left.{Left}
-use Rattle.disk_model.specs.declared.left.Left.TheVariants.{NoSave, Saved, LostNew, LostOld}
-use Rattle.disk_model.specs.Left.{saved_for}
+use Rattle.disk_model.specs.declared.save_outcome.SaveOutcome.{SaveOutcome}
+use Rattle.disk_model.specs.declared.save_outcome.SaveOutcome.TheVariants.{NoSave, Saved, LostNew, LostOld}
+use Rattle.disk_model.specs.SaveOutcome.{saved_for}
 use Rattle.messages.specs.Hearing.{Happens, with_entry}
 use Rattle.server_core.specs.Inputs.{PacketInput}
 use Rattle.server_core.specs.declared.input.Input.TheVariants as inputs
@@ -114,7 +114,7 @@ went_on x None v h = absurd cc
 went_on x (Some at) v h = record { at = at; is = refl; goes = cc }
 
 -- A run that is there behind an entry was there before it, unless it has begun with it, which makes it the last.
-met_before : (left : Left) (d : Option Staged) (me now_boot last : ℕ) (x : Request) (now : Option Work) (v : Work)
+met_before : (left : SaveOutcome) (d : Option Staged) (me now_boot last : ℕ) (x : Request) (now : Option Work) (v : Work)
     → ((r : Staged) → d ≡ Some r → last < r.run) → last_run_after left d last ≡ last → work_after left d me now_boot x now ≡ Some v → Before x now v
 met_before NoSave d me now_boot last x now v above same h = went_on x now v h
 met_before Saved None me now_boot last x now v above same h = went_on x now v h
@@ -134,7 +134,7 @@ record Gives (o : Observation) (s j k : ℕ) : Type 0 where
   pub number : ticket.seq ≡ k
 
 -- What isn't refused is heard.
-heard_if : (w : Setup) (s : ℕ) (events : List Happening) (e : Happening) (x : PacketInput) (left : Left) (fault : Option Fault)
+heard_if : (w : Setup) (s : ℕ) (events : List Happening) (e : Happening) (x : PacketInput) (left : SaveOutcome) (fault : Option Fault)
     → outcome w (world w events) e ≡ outcome_of_step (unless_fault fault (Ok (OfServer s (Happens (Met x left)))))
     → is_ok (told_by w (world w events) e (outcome_of_step (unless_fault fault (Ok (OfServer s (Happens (Met x left))))))) ≡ true
     → entry_now w s events e ≡ Some (Met x left)
@@ -144,7 +144,7 @@ heard_if w s events e x left (Some fault) is ok = absurd cc
 
 -- A request for a write that isn't refused.
 issue_heard : (w : Setup) (s : ℕ) (events : List Happening) (j : ℕ) → is_ok (told_of_happening w (world w events) (Issue s j)) ≡ true
-    → (left : Left) × (entry_now w s events (Issue s j) ≡ Some (Met (inputs.Issue j) left))
+    → (left : SaveOutcome) × (entry_now w s events (Issue s j) ≡ Some (Met (inputs.Issue j) left))
 issue_heard w s events j ok =
     let past = world w events in
     let x = inputs.Issue j in
@@ -156,7 +156,7 @@ issue_heard w s events j ok =
 
 -- The server has met the request with which a write is seen to be given.
 meets : (w : Setup) (s : ℕ) (events : List Happening) (e : Happening) (j k : ℕ) → (g : Gives (observation w events e) s j k)
-    → (left : Left) × (entry_now w s events e ≡ Some (Met (inputs.Issue j) left)) × (issue_of j (work (opening_of s) (list_at w s events)) ≡ Write g.ticket)
+    → (left : SaveOutcome) × (entry_now w s events e ≡ Some (Met (inputs.Issue j) left)) × (issue_of j (work (opening_of s) (list_at w s events)) ≡ Write g.ticket)
 meets w s events e j k g =
     let past = world w events in
     let told : told_of_happening w past e ≡ Ok g.answer = g.told in
@@ -169,7 +169,7 @@ meets w s events e j k g =
     )
 
 -- A request that the server answers with a write is seen to give it.
-gives : (w : Setup) (s j : ℕ) (events : List Happening) (e : Happening) (x : PacketInput) (left : Left) (t : Ticket)
+gives : (w : Setup) (s j : ℕ) (events : List Happening) (e : Happening) (x : PacketInput) (left : SaveOutcome) (t : Ticket)
     → entry_now w s events e ≡ Some (Met x left) → request_of s x ≡ ToIssue j → issue_of j (work (opening_of s) (list_at w s events)) ≡ Write t
     → Gives (observation w events e) s j t.seq
 gives w s j events e x left t is asks answer =
@@ -236,7 +236,7 @@ next_given o among s j n a g =
 
 -- ---- event by event
 
-met_is_seen : (w : Setup) (s j : ℕ) (events : List Happening) (e : Happening) (among : List Observation) (x : PacketInput) (left : Left) (at : Work) (job : Job)
+met_is_seen : (w : Setup) (s j : ℕ) (events : List Happening) (e : Happening) (among : List Observation) (x : PacketInput) (left : SaveOutcome) (at : Work) (job : Job)
     → entry_now w s events e ≡ Some (Met x left) → work (opening_of s) (list_at w s events) ≡ Some at → slice_get at.jobs j ≡ Some job
     → AreGiven among s j (issued (history (origin_of at j job) at.since))
     → AreGiven (observation w events e ∷ among) s j (issued (history (origin_of at j job) (request_of s x ∷ at.since)))

@@ -6,10 +6,10 @@ use Rattle.std.proofs.lemmas.List.Elements.{Contains-append_left}
 use Rattle.fc_base.specs.declared.limits.TheConstants.{MAX_SERVERS}
 use Rattle.fc_base.specs.declared.numbers.Key.{Key}
 use Rattle.verify_state.specs.State.{State}
-use Rattle.disk_model.specs.Left.{has_new, saved_for}
+use Rattle.disk_model.specs.SaveOutcome.{has_new, saved_for}
 use Rattle.node.specs.Steps.{unless_refused}
-use Rattle.state_table.specs.Kept.{kept_of}
-use Rattle.state_table.specs.Laws.{FoundHasItsKey, LastIsFound}
+use Rattle.verify_state.specs.StateTable.{kept_of}
+use Rattle.verify_state.specs.TableLaws.{FoundHasItsKey, LastIsFound}
 use Rattle.messages.specs.declared.body.Body.TheVariants as bodies
 use Rattle.messages.specs.declared.frame.Frame.TheVariants.{Whole}
 use Rattle.messages.specs.declared.packet.PacketParts.{PacketParts}

@@ -5,9 +5,9 @@ use Rattle.fc_base.specs.declared.fault.Fault.{Fault}
 use Rattle.fc_base.specs.declared.fault.Fault.TheVariants.{BadNote, NoSave, NumbersSpent}
 use Rattle.fc_base.specs.declared.numbers.Key.{Key}
 use Rattle.verify_state.specs.State.{State}
-use Rattle.disk_model.specs.declared.left.Left.{Left}
-use Rattle.disk_model.specs.declared.left.Left.TheVariants as lefts
-use Rattle.disk_model.specs.Left.{saved_for}
+use Rattle.disk_model.specs.declared.save_outcome.SaveOutcome.{SaveOutcome}
+use Rattle.disk_model.specs.declared.save_outcome.SaveOutcome.TheVariants as lefts
+use Rattle.disk_model.specs.SaveOutcome.{saved_for}
 use Rattle.engine.specs.Running.{Origin}
 use Rattle.engine.specs.Answers.{ticket_of}
 use Rattle.messages.specs.declared.frame.Frame.{Frame}
@@ -99,14 +99,14 @@ call w past c =
 
 -- ---- frames
 
-said : (w : Setup) (left : Left) (m : Meaning) → is_lose (heard_by (at_client w) left m) ≡ false
+said : (w : Setup) (left : SaveOutcome) (m : Meaning) → is_lose (heard_by (at_client w) left m) ≡ false
 unfolding is_lose
 said w left (Says p) = refl
 said w left Waits = refl
 said w left Spoils = refl
 said w left Strays = refl
 
-frame : (w : Setup) (past : List Change) (f : Frame) (left : Left) → StepKeeps w past (OfClient (Comes f left))
+frame : (w : Setup) (past : List Change) (f : Frame) (left : SaveOutcome) → StepKeeps w past (OfClient (Comes f left))
 unfolding StepKeeps
 frame w past f left = said w left (said_to_client w (steps past) f)
 
@@ -169,7 +169,7 @@ restarts w past (Server s) =
 restarts w past Client = other_of w past (w.mirror && is_blank (noted_in w (trace w past))) (OfClient (Happens (Restart w.mirror))) BadNote refl
 restarts w past Mirror = refl
 
-renews : (w : Setup) (past : List Change) (g : ℕ) (left : Left) (fault : Fault)
+renews : (w : Setup) (past : List Change) (g : ℕ) (left : SaveOutcome) (fault : Fault)
     → Keeps w past (outcome_of_step (if is_blank (noted_in w (trace w past)) then Ok (OfClient (Happens (Renew g left))) else Err fault))
 unfolding is_lose StepKeeps
 renews w past g left fault = one_of w past (is_blank (noted_in w (trace w past))) (OfClient (Happens (Renew g left))) fault refl

@@ -4,9 +4,9 @@ use Rattle.std.specs.Prelude.{slice_get}
 use Rattle.std.proofs.lemmas.Bool.{eqb-true}
 use Rattle.fc_base.specs.declared.fault.Fault.{Fault}
 use Rattle.fc_base.specs.declared.fault.Fault.TheVariants.{BadNote, NoSave}
-use Rattle.disk_model.specs.declared.left.Left.{Left}
-use Rattle.disk_model.specs.declared.left.Left.TheVariants as lefts
-use Rattle.disk_model.specs.Left.{saved_for, is_lost}
+use Rattle.disk_model.specs.declared.save_outcome.SaveOutcome.{SaveOutcome}
+use Rattle.disk_model.specs.declared.save_outcome.SaveOutcome.TheVariants as lefts
+use Rattle.disk_model.specs.SaveOutcome.{saved_for, is_lost}
 use Rattle.messages.specs.declared.frame.Frame.{Frame}
 use Rattle.messages.specs.declared.node.Node.{Node}
 use Rattle.messages.specs.declared.node.Node.TheVariants.{Server, Client, Mirror}
@@ -42,14 +42,14 @@ use Rattle.net_world.specs.Outcomes.{client_frame_cut, frame_cut, delivery_cut_i
 use Rattle.seen.proofs.EntryLemmas.{step_in, entry_in, entry_by, Makes, ByFrame, ByLoss, Adds, adds_none, free, saves, by_client, here, same_entry, by_worker, by_end, by_check, by_cut, by_restart, by_restart_cut, by_renewal}
 
 -- What a server hears of a frame that says this.
-heard_of : (s r : ℕ) (ps : List FrameStep) (f : Frame) (left : Left) (m : Meaning) (y : Entry) → said_to_server ps r f ≡ m
+heard_of : (s r : ℕ) (ps : List FrameStep) (f : Frame) (left : SaveOutcome) (m : Meaning) (y : Entry) → said_to_server ps r f ≡ m
     → entry_in s ps (OfServer r (Comes f left)) ≡ Some y → (r ≡ s) × (heard_by (at_server r) left m ≡ Some y)
 heard_of s r ps f left m y is h =
     let k = here r s (r == s) (eqb-true r s) (entry_of (at_server r) (heard (at_server r) (frames.of_server r ps)) (Comes f left)) y h in
     (k.0, subst (λ x. heard_by (at_server r) left x ≡ Some y) is k.1)
 
 -- A frame that comes to a server and isn't refused.
-brought : (w : Setup) (past : List Change) (s r i : ℕ) (f : Frame) (p : PacketParts) (x : Option Fault) (left : Left)
+brought : (w : Setup) (past : List Change) (s r i : ℕ) (f : Frame) (p : PacketParts) (x : Option Fault) (left : SaveOutcome)
     → slice_get (frames_sent w (steps past)) i ≡ Some f → to_of f ≡ Server r → said_to_server (steps past) r f ≡ Says p
     → refusal (opening_of r) (of_server r (trace w past)) (server_inputs.Deliver p) ≡ x
     → left ≡ saved_for (due (opening_of r) (of_server r (trace w past)) (server_inputs.Deliver p))

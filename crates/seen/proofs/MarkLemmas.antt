@@ -5,8 +5,8 @@ use Rattle.std.specs.List.{list_all}
 use Rattle.std.specs.Option.{option_map}
 use Rattle.std.proofs.lemmas.Bool.{and_parts, eqb-true, eq-eqb}
 use Rattle.fc_base.specs.Counted.{has, numbers_below}
-use Rattle.disk_model.specs.declared.left.Left.{Left}
-use Rattle.disk_model.specs.Left.{is_lost}
+use Rattle.disk_model.specs.declared.save_outcome.SaveOutcome.{SaveOutcome}
+use Rattle.disk_model.specs.SaveOutcome.{is_lost}
 use Rattle.messages.specs.declared.refusal.Act.{Act}
 use Rattle.messages.specs.declared.refusal.Act.TheVariants as acts
 use Rattle.messages.specs.Hearing.{Coming, entry_of, heard}
@@ -96,7 +96,7 @@ cut_is_mark (Some w) x h = (w, refl, completing w x (cut_if (completes w x) h))
 pub record AsksCut (w : Setup) (evs : List Happening) (e : Happening) : Type 0 where
   pub s : ℕ
   pub x : PacketInput
-  pub left : Left
+  pub left : SaveOutcome
   pub heard_it : entry_now w s evs e ≡ Some (server.Met x left)
   pub asks : servers.act (opening_of s) (list_at w s evs) x ≡ acts.Cut
 
@@ -112,7 +112,7 @@ own s x = by (s == s) (eq-eqb s s refl)
     by false e = absurd cc
 
 -- What a server asks in a step that it hears so.
-asked_at : (w : Setup) (evs : List Happening) (e : Happening) (s : ℕ) (c : Coming Entry Left) (y : Option Entry)
+asked_at : (w : Setup) (evs : List Happening) (e : Happening) (s : ℕ) (c : Coming Entry SaveOutcome) (y : Option Entry)
     → outcome w (world w evs) e ≡ Does (Met (OfServer s c)) → entry_of (at_server s) (heard (at_server s) (frames.of_server s (steps (world w evs)))) c ≡ y
     → worlds.act_of (trace w (world w evs)) (option_map (AtServer s) y) ≡ acts.Cut → AsksCut w evs e
 asked_at w evs e s c None does is h = absurd cc

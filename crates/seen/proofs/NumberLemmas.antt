@@ -5,9 +5,9 @@ use Rattle.std.specs.Prelude.{if◌then◌else◌, is_none, slice_get}
 use Rattle.std.specs.List.{AllByRecursion}
 use Rattle.fc_base.specs.declared.fault.Fault.{Fault}
 use Rattle.fc_base.specs.declared.fault.Fault.TheVariants.{BadNote, NoSave}
-use Rattle.disk_model.specs.declared.left.Left.{Left}
-use Rattle.disk_model.specs.declared.left.Left.TheVariants as lefts
-use Rattle.disk_model.specs.Left.{saved_for}
+use Rattle.disk_model.specs.declared.save_outcome.SaveOutcome.{SaveOutcome}
+use Rattle.disk_model.specs.declared.save_outcome.SaveOutcome.TheVariants as lefts
+use Rattle.disk_model.specs.SaveOutcome.{saved_for}
 use Rattle.messages.specs.declared.frame.Frame.{Frame}
 use Rattle.messages.specs.declared.node.Node.{Node}
 use Rattle.messages.specs.declared.node.Node.TheVariants.{Server, Client, Mirror}
@@ -127,7 +127,7 @@ call_does w past c h =
     all_when (is_answered o list c (saved_for (due o list c))) (deeds_of (words_noted o list) c) (answered_now o list c h)
 
 begins_if : (w : Setup) (past : List Change) (text : List ℕ) (x : Option Fault)
-    → refusal (client_opening w) (of_client w (trace w past)) (client_inputs.Begin text) ≡ x → (left : Left)
+    → refusal (client_opening w) (of_client w (trace w past)) (client_inputs.Begin text) ≡ x → (left : SaveOutcome)
     → left ≡ saved_for (due (client_opening w) (of_client w (trace w past)) (client_inputs.Begin text))
     → Shows w past (Begin text) (outcome_of_step (unless_fault x (Ok (OfClient (Happens (Met (client_inputs.Begin text) left))))))
 begins_if w past text None is left saved =
@@ -138,7 +138,7 @@ begins_if w past text None is left saved =
 begins_if w past text (Some fault) is left saved = ShowsNone (λ m. refl) (λ m. refl) tt
 
 verifies_if : (w : Setup) (past : List Change) (run : ℕ) (text : List ℕ) (x : Option Fault)
-    → refusal (client_opening w) (of_client w (trace w past)) (client_inputs.Verify run text) ≡ x → (left : Left)
+    → refusal (client_opening w) (of_client w (trace w past)) (client_inputs.Verify run text) ≡ x → (left : SaveOutcome)
     → left ≡ saved_for (due (client_opening w) (of_client w (trace w past)) (client_inputs.Verify run text))
     → Shows w past (Verify run text) (outcome_of_step (unless_fault x (Ok (OfClient (Happens (Met (client_inputs.Verify run text) left))))))
 verifies_if w past run text None is left saved =

@@ -5,9 +5,9 @@ use Rattle.std.specs.Option.{option_or}
 use Rattle.std.proofs.lemmas.Bool.{eqb-true}
 use Rattle.fc_base.specs.declared.limits.TheConstants.{MAX_SERVERS}
 use Rattle.fc_base.proofs.ListLemmas.{none_in, first_of, first_or_behind, behind_one}
-use Rattle.disk_model.specs.declared.left.Left.{Left}
-use Rattle.disk_model.specs.declared.left.Left.TheVariants.{NoSave, Saved, LostNew, LostOld}
-use Rattle.disk_model.specs.Left.{is_lost}
+use Rattle.disk_model.specs.declared.save_outcome.SaveOutcome.{SaveOutcome}
+use Rattle.disk_model.specs.declared.save_outcome.SaveOutcome.TheVariants.{NoSave, Saved, LostNew, LostOld}
+use Rattle.disk_model.specs.SaveOutcome.{is_lost}
 use Rattle.messages.specs.declared.refusal.Act.{Act}
 use Rattle.messages.specs.declared.refusal.Act.TheVariants as acts
 use Rattle.messages.specs.declared.body.Body.TheVariants as bodies
@@ -38,7 +38,7 @@ abbrev AllCame : Opening → List Entry → Option Work → Type 0
 AllCame o list None = Unit {0}
 AllCame o list (Some w) = (x : Request) → Contains w.since x → Came o list x
 
-on_came : (o : Opening) (e : PacketInput) (left : Left) (past : List Entry) (w : Option Work) → is_lost left ≡ false → AllCame o past w
+on_came : (o : Opening) (e : PacketInput) (left : SaveOutcome) (past : List Entry) (w : Option Work) → is_lost left ≡ false → AllCame o past w
     → AllCame o (Met e left ∷ past) (goes_on (request_of o.me e) w)
 on_came o e left past None kept f = tt
 on_came o e left past (Some w) kept f = λ x h. elim (first_or_behind (request_of o.me e) w.since x h) [
@@ -46,7 +46,7 @@ on_came o e left past (Some w) kept f = λ x h. elim (first_or_behind (request_o
   | inr there ↦ came_more o (Met e left) past x (f x there)
 ]
 
-after_came : (o : Opening) (b : ℕ) (e : PacketInput) (left : Left) (d : Option Staged) (past : List Entry) (w : Option Work) → AllCame o past w
+after_came : (o : Opening) (b : ℕ) (e : PacketInput) (left : SaveOutcome) (d : Option Staged) (past : List Entry) (w : Option Work) → AllCame o past w
     → AllCame o (Met e left ∷ past) (work_after left d o.me b (request_of o.me e) w)
 after_came o b e NoSave d past w f = on_came o e NoSave past w refl f
 after_came o b e Saved None past w f = on_came o e Saved past w refl f

@@ -1,7 +1,7 @@
 -- Which event an entry of a server's list came with, and which observation that is.
 use Rattle.std.proofs.Common.{◌≡◌, refl, sym, ◌∙◌, ap, ℕ, List, [], ◌∷◌, ◌++◌, Option, Some, None}
-use Rattle.disk_model.specs.declared.left.Left.{Left}
-use Rattle.disk_model.specs.declared.left.Left.TheVariants.{Saved}
+use Rattle.disk_model.specs.declared.save_outcome.SaveOutcome.{SaveOutcome}
+use Rattle.disk_model.specs.declared.save_outcome.SaveOutcome.TheVariants.{Saved}
 use Rattle.messages.specs.Hearing.{with_entry}
 use Rattle.server_core.specs.Inputs.{PacketInput}
 use Rattle.server_core.specs.History.{Entry, Met, Restart}
@@ -44,7 +44,7 @@ further : (w : Setup) (s : ℕ) (events : List Happening) (e : Happening) (y : E
 further w s events e y older f =
     record { later = e ∷ f.later; event = f.event; earlier = f.earlier; split = ap (λ l. e ∷ l) f.split; now = f.now; before = f.before }
 
-not_first : (newer : List Entry) (e : PacketInput) (left : Left) (older : List Entry) → Restart Saved ∷ [] ≡ newer ++ Met e left ∷ older → ⊥
+not_first : (newer : List Entry) (e : PacketInput) (left : SaveOutcome) (older : List Entry) → Restart Saved ∷ [] ≡ newer ++ Met e left ∷ older → ⊥
 not_first [] e left older h = cc
 not_first (x ∷ []) e left older h = cc
 not_first (x ∷ z ∷ newer) e left older h = cc
@@ -55,7 +55,7 @@ same_head x y xs ys h = cc
 same_tail : (x y : Entry) (xs ys : List Entry) → x ∷ xs ≡ y ∷ ys → xs ≡ ys
 same_tail x y xs ys h = cc
 
-pub found : (w : Setup) (s : ℕ) (events : List Happening) (newer : List Entry) (e : PacketInput) (left : Left) (older : List Entry)
+pub found : (w : Setup) (s : ℕ) (events : List Happening) (newer : List Entry) (e : PacketInput) (left : SaveOutcome) (older : List Entry)
     → list_at w s events ≡ newer ++ Met e left ∷ older → Found w s events (Met e left) older
 found w s [] newer e left older h = absurd (not_first newer e left older h)
 found w s (x ∷ events) newer e left older h =

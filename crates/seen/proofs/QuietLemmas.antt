@@ -9,8 +9,8 @@ use Rattle.verify_state.specs.State.{State}
 use Rattle.engine.specs.declared.issue.Issue.{Issue as Issued}
 use Rattle.engine.specs.declared.issue.Issue.TheVariants.{Write}
 use Rattle.engine.specs.declared.issue.Ticket.{Ticket}
-use Rattle.disk_model.specs.declared.left.Left.{Left}
-use Rattle.disk_model.specs.Left.{is_lost, saved_for}
+use Rattle.disk_model.specs.declared.save_outcome.SaveOutcome.{SaveOutcome}
+use Rattle.disk_model.specs.SaveOutcome.{is_lost, saved_for}
 use Rattle.messages.specs.declared.body.Body.TheVariants as bodies
 use Rattle.messages.specs.declared.packet.PacketParts.{PacketParts}
 use Rattle.messages.specs.Laws.{LengthsAreBounded}
@@ -65,7 +65,7 @@ pub record TakingLaws : Type 0 where
 -- ---- what an entry sends
 
 -- A packet of an entry that arrived is seen.
-pub seen_sent : FrameLaws → (w : Setup) (s : ℕ) (evs : List Happening) (e : Happening) (x : PacketInput) (left : Left) (p : PacketParts) → w.servers ≤ MAX_SERVERS
+pub seen_sent : FrameLaws → (w : Setup) (s : ℕ) (evs : List Happening) (e : Happening) (x : PacketInput) (left : SaveOutcome) (p : PacketParts) → w.servers ≤ MAX_SERVERS
     → Arrives w s evs e x left → Contains (packets (opening_of s) (list_at w s evs) (Met x left)) p
     → is_cut p.body ≡ false → IsAmong (observation w evs e).frames p
 seen_sent laws w s evs e x left p few a h short =
@@ -75,7 +75,7 @@ seen_sent laws w s evs e x left p few a h short =
     seen_here laws w s evs e (ComesFrame a.frame left) (Met x left) p few a.does hears short h
 
 -- A packet of an entry that arrived was sent.
-pub sent_in : (w : Setup) (s : ℕ) (evs : List Happening) (e : Happening) (c : Coming Entry Left) (y : Entry) (p : PacketParts)
+pub sent_in : (w : Setup) (s : ℕ) (evs : List Happening) (e : Happening) (c : Coming Entry SaveOutcome) (y : Entry) (p : PacketParts)
     → outcome w (world w evs) e ≡ Does (changes.Met (OfServer s c))
     → entry_of (at_server s) (heard (at_server s) (frames.of_server s (steps (world w evs)))) c ≡ Some y
     → Contains (packets (opening_of s) (list_at w s evs) y) p → Contains (sent_packets w (trace w (world w (e ∷ evs)))) p
@@ -87,12 +87,12 @@ sent_in w s evs e c y p does hears h =
     subst (λ l. Contains (sent_packets w l) p) (sym (is ∙ ap (λ z. with_entry (option_map (AtServer s) z) t) hears))
     (Contains-append_right (sent_packets w t) (packets (opening_of s) (list_at w s evs) y) p h)
 
-pub hears_it : (w : Setup) (s : ℕ) (evs : List Happening) (e : Happening) (x : PacketInput) (left : Left) → (a : Arrives w s evs e x left)
+pub hears_it : (w : Setup) (s : ℕ) (evs : List Happening) (e : Happening) (x : PacketInput) (left : SaveOutcome) → (a : Arrives w s evs e x left)
     → entry_of (at_server s) (heard (at_server s) (frames.of_server s (steps (world w evs)))) (ComesFrame a.frame left) ≡ Some (Met x left)
 hears_it w s evs e x left a = ap (heard_by (at_server s) left) a.says ∙ ap (λ (y : PacketInput). Some (Met y left)) (sym a.is)
 
 -- A packet that a server sends is never cut: only job files are long enough, and it sends none.
-pub short_packet : TakingLaws → (w : Setup) (s : ℕ) (evs : List Happening) (e : Happening) (c : Coming Entry Left) (y : Entry) (p : PacketParts)
+pub short_packet : TakingLaws → (w : Setup) (s : ℕ) (evs : List Happening) (e : Happening) (c : Coming Entry SaveOutcome) (y : Entry) (p : PacketParts)
     → w.servers ≤ MAX_SERVERS → outcome w (world w evs) e ≡ Does (changes.Met (OfServer s c))
     → entry_of (at_server s) (heard (at_server s) (frames.of_server s (steps (world w evs)))) c ≡ Some y
     → Contains (packets (opening_of s) (list_at w s evs) y) p → (Long p.body → ⊥) → is_cut p.body ≡ false
@@ -113,12 +113,12 @@ not_jobs jobs state (OfVerify run attempt text k) = cc
 
 -- ---- what is said of runs
 
-saved_so : (w : Setup) (s : ℕ) (evs : List Happening) (x y : PacketInput) (left l : Left) → Met x left ≡ Met y l
+saved_so : (w : Setup) (s : ℕ) (evs : List Happening) (x y : PacketInput) (left l : SaveOutcome) → Met x left ≡ Met y l
     → l ≡ saved_for (due (opening_of s) (list_at w s evs) y) → left ≡ saved_for (due (opening_of s) (list_at w s evs) x)
 saved_so w s evs x y left l is saved =
     same_left x y left l is ∙ saved ∙ ap (λ z. saved_for (due (opening_of s) (list_at w s evs) z)) (sym (same_event x y left l is))
 
-saved_or_lost : (w : Setup) (s : ℕ) (evs : List Happening) (e : Happening) (r : Outcome) (x : PacketInput) (left : Left) → Makes w (world w evs) s e r (Met x left)
+saved_or_lost : (w : Setup) (s : ℕ) (evs : List Happening) (e : Happening) (r : Outcome) (x : PacketInput) (left : SaveOutcome) → Makes w (world w evs) s e r (Met x left)
     → (is_lost left ≡ true) ⊎ (left ≡ saved_for (due (opening_of s) (list_at w s evs) x))
 saved_or_lost w s evs e r x left (ByFrame i f p l event there to says free saved is does) = inr (saved_so w s evs x (inputs.Deliver p) left l is saved)
 saved_or_lost w s evs e r x left (ByLoss y l is lost d due_is) = inl (ap is_lost (same_left x y left l is) ∙ lost)
@@ -180,7 +180,7 @@ write_of (Some a) ticket h = let same : a ≡ Write ticket = cc in ap (λ y. giv
 pub record TakenAt (w : Setup) (s run : ℕ) (base : List Happening) : Type 0 where
   pub older : List Entry
   pub trigger : PacketInput
-  pub was : Left
+  pub was : SaveOutcome
   pub list : list_at w s base ≡ Met trigger was ∷ older
   pub job : ℕ
   pub state : State

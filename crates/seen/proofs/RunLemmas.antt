@@ -14,11 +14,11 @@ use Rattle.verify_state.specs.State.{State}
 use Rattle.messages.specs.declared.body.Body.{Body}
 use Rattle.messages.specs.declared.body.Body.TheVariants as bodies
 use Rattle.messages.specs.declared.packet.PacketParts.{PacketParts}
-use Rattle.messages.specs.declared.refusal.Asked.{Asked}
-use Rattle.messages.specs.declared.refusal.Asked.TheVariants as asks
+use Rattle.messages.specs.declared.refusal.RefusedRequest.{RefusedRequest}
+use Rattle.messages.specs.declared.refusal.RefusedRequest.TheVariants as asks
 use Rattle.messages.specs.declared.refusal.Reason.TheVariants as reasons
-use Rattle.disk_model.specs.declared.left.Left.{Left}
-use Rattle.disk_model.specs.Left.{is_lost, saved_for}
+use Rattle.disk_model.specs.declared.save_outcome.SaveOutcome.{SaveOutcome}
+use Rattle.disk_model.specs.SaveOutcome.{is_lost, saved_for}
 use Rattle.server_core.specs.Inputs.{PacketInput}
 use Rattle.server_core.specs.History.{Opening, Entry, Met, Cut, Restart}
 use Rattle.server_core.specs.Request.{Request, ToStage, ToStart, ToTrigger, ToMark, ToStop, ToVerify, ToHold, ToPassFully, ToIssue, ToEnd, ToReport, ToNobody, request_of}
@@ -70,7 +70,7 @@ start_of n r u None f g =
     either_of n.last u (nat_le r n.last) (refuse asks.Start reasons.Old r 0 n.last) (reply_to_new_start r (for_run r n.staged) (is_open n.run)) (λ e. (tt, tt))
     (λ e. new_start_of n.last u r (for_run r n.staged) (is_open n.run) (g e))
 
-gone_of : (l u : ℕ) (asked : Asked) (r last : ℕ) (b : Bool)
+gone_of : (l u : ℕ) (asked : RefusedRequest) (r last : ℕ) (b : Bool)
     → AllOf l u (if b then refuse asked reasons.Gone r 0 last else refuse asked reasons.Unknown r 0 last)
 gone_of l u asked r last true = (tt, tt)
 gone_of l u asked r last false = (tt, tt)
@@ -189,7 +189,7 @@ run_found r (Some t) s h = by (t.run == r) refl h
     by true e k = let same : t ≡ s = cc in ap (λ (v : Staged). v.run) (sym same) ∙ eqb-true t.run r e
     by false e k = absurd cc
 
-started_of : ServerLaws → (o : Opening) (past : List Entry) (e : PacketInput) (left : Left) (r : ℕ) → is_on past ≡ true → left ≡ saved_for (due o past e)
+started_of : ServerLaws → (o : Opening) (past : List Entry) (e : PacketInput) (left : SaveOutcome) (r : ℕ) → is_on past ≡ true → left ≡ saved_for (due o past e)
     → request_of o.me e ≡ ToStart r
     → AllOf (last_run o past) (last_run o (Met e left ∷ past)) (reply_to_start (now o past) r (present r (work o past)))
 started_of laws o past e left r on saved asks =
@@ -208,7 +208,7 @@ started_of laws o past e left r on saved asks =
     higher : (x y : ℕ) → nat_le y x ≡ false → nat_lt x y ≡ true
     higher x y h = grind (arith, nat_tests)
 
-replies_of : ServerLaws → (o : Opening) (past : List Entry) (e : PacketInput) (left : Left) → is_on past ≡ true → left ≡ saved_for (due o past e)
+replies_of : ServerLaws → (o : Opening) (past : List Entry) (e : PacketInput) (left : SaveOutcome) → is_on past ≡ true → left ≡ saved_for (due o past e)
     → (x : Request) → request_of o.me e ≡ x → AllOf (last_run o past) (last_run o (Met e left ∷ past)) (replies (now o past) x)
 replies_of laws o past e left on saved (ToStage r text) is =
     either_of (last_run o past) (last_run o (Met e left ∷ past)) (nat_le r (now o past).last || nat_lt r (number_staged (now o past).staged)) _ _ (λ h. (tt, tt))
@@ -231,7 +231,7 @@ replies_of laws o past e left on saved (ToReport b a j report) is =
 replies_of laws o past e left on saved ToNobody is = tt
 
 -- A Started that is sent is of a run up to the last, and a Report of the last run.
-pub sent_is_of_run : ServerLaws → (o : Opening) (past : List Entry) (e : PacketInput) (left : Left) (p : PacketParts)
+pub sent_is_of_run : ServerLaws → (o : Opening) (past : List Entry) (e : PacketInput) (left : SaveOutcome) (p : PacketParts)
     → (is_lost left ≡ true) ⊎ (left ≡ saved_for (due o past e)) → Contains (packets o past (Met e left)) p
     → IsOfRun (last_run o past) (last_run o (Met e left ∷ past)) p.body
 sent_is_of_run laws o past e left p (inl lost) h =

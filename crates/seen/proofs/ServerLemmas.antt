@@ -14,8 +14,8 @@ use Rattle.messages.specs.declared.body.Body.{Body}
 use Rattle.messages.specs.declared.body.Body.TheVariants as bodies
 use Rattle.messages.specs.declared.packet.PacketParts.{PacketParts}
 use Rattle.messages.specs.declared.refusal.Act.{Act}
-use Rattle.disk_model.specs.declared.left.Left.{Left}
-use Rattle.disk_model.specs.Left.{is_lost}
+use Rattle.disk_model.specs.declared.save_outcome.SaveOutcome.{SaveOutcome}
+use Rattle.disk_model.specs.SaveOutcome.{is_lost}
 use Rattle.server_core.specs.Inputs.{PacketInput}
 use Rattle.server_core.specs.declared.input.Input.TheVariants as inputs
 use Rattle.server_core.specs.History.{Opening, Entry, Met}
@@ -128,7 +128,7 @@ asks_trigger me r act p h =
 -- ---- what is sent
 
 -- What is replied to an event that isn't refused, and whose save hasn't failed, is sent.
-pub sends : (o : Opening) (past : List Entry) (e : PacketInput) (left : Left) (b : Body) → refusal o past e ≡ None → is_lost left ≡ false
+pub sends : (o : Opening) (past : List Entry) (e : PacketInput) (left : SaveOutcome) (b : Body) → refusal o past e ≡ None → is_lost left ≡ false
     → Contains (replies (now o past) (request_of o.me e)) b → Contains (packets o past (Met e left)) (from_server o.me b)
 sends o past e left b free kept h =
     let all = replies (now o past) (request_of o.me e) in
@@ -145,7 +145,7 @@ sent_reply me true (Some fault) all p h = absurd (none_in p h)
 sent_reply me false (Some fault) all p h = absurd (none_in p h)
 
 -- What an event sends is replied to it, which isn't refused, and whose save hasn't failed.
-pub was_replied : (o : Opening) (past : List Entry) (e : PacketInput) (left : Left) (p : PacketParts) → Contains (packets o past (Met e left)) p
+pub was_replied : (o : Opening) (past : List Entry) (e : PacketInput) (left : SaveOutcome) (p : PacketParts) → Contains (packets o past (Met e left)) p
     → (is_lost left ≡ false) × (refusal o past e ≡ None) × Contains (replies (now o past) (request_of o.me e)) p.body
 was_replied o past e left p h = sent_reply o.me (is_lost left) (refusal o past e) (replies (now o past) (request_of o.me e)) p h
 

@@ -6,9 +6,9 @@ use Rattle.fc_base.specs.declared.limits.TheConstants.{MAX_SERVERS}
 use Rattle.job_file.specs.declared.job.Job.{Job}
 use Rattle.job_file.specs.declared.job.Phase.TheVariants.{Write}
 use Rattle.verify_state.specs.State.{State}
-use Rattle.window.specs.History.{issued}
+use Rattle.engine.specs.History.{issued}
 use Rattle.engine.specs.Running.{Origin}
-use Rattle.disk_model.specs.declared.left.Left.TheVariants.{Saved}
+use Rattle.disk_model.specs.declared.save_outcome.SaveOutcome.TheVariants.{Saved}
 use Rattle.server_core.specs.Inputs.{PacketInput}
 use Rattle.server_core.specs.History.{Opening, Entry, Met}
 use Rattle.server_core.specs.Request.{Request, request_of}

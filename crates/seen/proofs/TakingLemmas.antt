@@ -6,8 +6,8 @@ use Rattle.fc_base.specs.declared.limits.TheConstants.{MAX_SERVERS}
 use Rattle.fc_base.specs.Counted.{has}
 use Rattle.fc_base.proofs.ListLemmas.{first_of}
 use Rattle.verify_state.specs.State.{State}
-use Rattle.disk_model.specs.declared.left.Left.{Left}
-use Rattle.disk_model.specs.declared.left.Left.TheVariants.{Saved}
+use Rattle.disk_model.specs.declared.save_outcome.SaveOutcome.{SaveOutcome}
+use Rattle.disk_model.specs.declared.save_outcome.SaveOutcome.TheVariants.{Saved}
 use Rattle.messages.specs.declared.body.Body.TheVariants as bodies
 use Rattle.messages.specs.declared.refusal.Act.{Act}
 use Rattle.messages.specs.Hearing.{Comes as ComesFrame}
@@ -42,7 +42,7 @@ use Rattle.seen.proofs.SettingLemmas.{is_set, issued_are_given}
 record Places (w : Setup) (later : List Happening) (e : Happening) (mid : List Happening) (f : Happening) (earlier : List Happening) (state : State)
     : Type 0 where
   pub trigger : PacketInput
-  pub was : Left
+  pub was : SaveOutcome
   pub triggered : entry_now w state.key.server (mid ++ f ∷ earlier) e ≡ Some (Met trigger was)
   pub pulls :
       takes state.key.run state.key.job (request_of state.key.server trigger) (work (opening_of state.key.server) (list_at w state.key.server (mid ++ f ∷ earlier)))
@@ -92,7 +92,7 @@ two_are_too_many : (x y : State) → length (x ∷ y ∷ []) ≤ 1 → ⊥
 two_are_too_many x y h = absurd (omega (arith, h))
 
 -- Nothing of the key was seen before it was taken.
-none_before : TakingLaws → (w : Setup) (evs : List Happening) (trigger : PacketInput) (was : Left) (state other : State) → w.servers ≤ MAX_SERVERS
+none_before : TakingLaws → (w : Setup) (evs : List Happening) (trigger : PacketInput) (was : SaveOutcome) (state other : State) → w.servers ≤ MAX_SERVERS
     → takes state.key.run state.key.job (request_of state.key.server trigger) (work (opening_of state.key.server) (list_at w state.key.server evs)) ≡ Some state
     → other.key ≡ state.key → IsSeen (observations w evs) other → ⊥
 none_before laws w evs trigger was state other few pulls same seen =
@@ -117,7 +117,7 @@ no_start_due o list x run act d asks h =
     let no : None ≡ Some d = sym (ap (due_by (is_on list) (last_run o list) (staged_run o list) (work o list)) asks) ∙ h in
     absurd cc
 
-triggers_so : TakingLaws → (w : Setup) (e : Happening) (evs : List Happening) (state : State) (trigger : PacketInput) (was : Left) → w.servers ≤ MAX_SERVERS
+triggers_so : TakingLaws → (w : Setup) (e : Happening) (evs : List Happening) (state : State) (trigger : PacketInput) (was : SaveOutcome) → w.servers ≤ MAX_SERVERS
     → entry_now w state.key.server evs e ≡ Some (Met trigger was)
     → takes state.key.run state.key.job (request_of state.key.server trigger) (work (opening_of state.key.server) (list_at w state.key.server evs)) ≡ Some state
     → Triggers w e evs state

@@ -4,7 +4,7 @@ use Rattle.std.specs.Prelude.{◌≤◌}
 use Rattle.std.proofs.lemmas.List.Elements.{Contains-append_right}
 use Rattle.fc_base.specs.declared.limits.TheConstants.{MAX_SERVERS}
 use Rattle.fc_base.specs.declared.report.ReportParts.{ReportParts}
-use Rattle.disk_model.specs.declared.left.Left.{Left}
+use Rattle.disk_model.specs.declared.save_outcome.SaveOutcome.{SaveOutcome}
 use Rattle.messages.specs.declared.body.Body.TheVariants as bodies
 use Rattle.messages.specs.declared.node.Node.TheVariants.{Server}
 use Rattle.messages.specs.declared.frame.Frame.TheVariants.{Whole}
@@ -59,7 +59,7 @@ same_end : (b a i : ℕ) (q : ReportParts) (c d j : ℕ) (r : ReportParts) → �
     → (i ≡ j) × (q ≡ r)
 same_end b a i q c d j r h = (cc, cc)
 
-tells : (w : Setup) (past : List Change) (s : ℕ) (e : Happening) (boot a j : ℕ) (report : ReportParts) (left : Left)
+tells : (w : Setup) (past : List Change) (s : ℕ) (e : Happening) (boot a j : ℕ) (report : ReportParts) (left : SaveOutcome)
     → Makes w past s e (outcome w past e) (server.Met (inputs.CheckDone boot a j report) left) → Tells w past s j e report
 tells w past s e boot a j report left (ByFrame i f p l event there to says free saved is does) = absurd cc
 tells w past s e boot a j report left (ByLoss x l is lost d due_is) =

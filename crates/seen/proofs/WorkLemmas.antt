@@ -4,9 +4,9 @@ use Rattle.std.specs.Prelude.{if◌then◌else◌, not, nat_lt, Contains}
 use Rattle.fc_base.proofs.ListLemmas.{none_in, first_of, behind_one, first_or_behind}
 use Rattle.job_file.specs.declared.job.Job.{Job}
 use Rattle.job_file.specs.declared.job.Phase.TheVariants.{Write}
-use Rattle.disk_model.specs.declared.left.Left.{Left}
-use Rattle.disk_model.specs.declared.left.Left.TheVariants.{NoSave, Saved, LostNew, LostOld}
-use Rattle.disk_model.specs.Left.{is_lost}
+use Rattle.disk_model.specs.declared.save_outcome.SaveOutcome.{SaveOutcome}
+use Rattle.disk_model.specs.declared.save_outcome.SaveOutcome.TheVariants.{NoSave, Saved, LostNew, LostOld}
+use Rattle.disk_model.specs.SaveOutcome.{is_lost}
 use Rattle.server_core.specs.History.{Opening, Entry, Met, Cut, Restart}
 use Rattle.server_core.specs.Request.{Request, ToStage, ToStart, ToTrigger, ToMark, ToStop, ToVerify, ToHold, ToPassFully, ToIssue, ToEnd, ToReport, ToNobody, request_of}
 use Rattle.server_core.specs.Texts.{jobs_for}
@@ -56,7 +56,7 @@ stages_so on last w (ToEnd ticket end) s h = absurd cc
 stages_so on last w (ToReport b a j report) s h = absurd cc
 stages_so on last w ToNobody s h = absurd cc
 
-one_staged : (s : Staged) (new : Option Staged) (older : List Staged) (left : Left) → Contains (staged_after left new older) s
+one_staged : (s : Staged) (new : Option Staged) (older : List Staged) (left : SaveOutcome) → Contains (staged_after left new older) s
     → (is_lost left ≡ false) × ((new ≡ Some s) ⊎ Contains older s)
 one_staged s None older NoSave h = (refl, inr h)
 one_staged s (Some t) older NoSave h = (refl, elim (first_or_behind t older s h) [ inl e ↦ inl (ap Some e) | inr i ↦ inr i ])
@@ -107,7 +107,7 @@ on_is x (Some v) w h =
     let same : record v { since = x ∷ v.since } ≡ w = cc in
     (v, refl, ap (λ (u : Work). u.run) (sym same), ap (λ (u : Work). u.jobs) (sym same))
 
-works_by : (left : Left) (d : Option Staged) (me now_boot : ℕ) (x : Request) (older : Option Work) (w : Work) → work_after left d me now_boot x older ≡ Some w
+works_by : (left : SaveOutcome) (d : Option Staged) (me now_boot : ℕ) (x : Request) (older : Option Work) (w : Work) → work_after left d me now_boot x older ≡ Some w
     → WorksBy w x d older
 works_by NoSave d me now_boot x older w h = record { by = inr (on_is x older w h) }
 works_by Saved None me now_boot x older w h = record { by = inr (on_is x older w h) }

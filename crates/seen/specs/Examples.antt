@@ -76,7 +76,7 @@ pub record SeesItKept : Type 0 where
 abbrev pub after_want : List Happening
 after_want = Deliver 4 ∷ Verify 1 reading_text ∷ Restart (Server 0) ∷ Cut (Server 0) ∷ after_writes
 
--- It sends a NoSaved, and its note shows no state of the job.
+-- The client sends a NoSaved, and its note shows no state of the job.
 pub record SeesNoState : Type 0 where
   pub sent : IsAmong (observation one after_want (Deliver 5)).frames (to_server 0 (NoSaved 1 1 0))
   pub none : (observation one after_want (Deliver 5)).saved key ≡ None

@@ -12,12 +12,12 @@ use Rattle.net_world.specs.declared.told.WorldAnswer.TheVariants.{Run, Attempt}
 use Rattle.net_world.specs.Happenings.{Happening, Begin, Verify}
 use Rattle.seen.specs.Observations.{Observation}
 
--- It is told this number of a run.
+-- An answer tells this number of a run.
 abbrev pub is_run : ℕ → WorldAnswer → Bool
 is_run run (Run r) = r == run
 is_run run _ = false
 
--- It is told this number of an attempt.
+-- An answer tells this number of an attempt.
 abbrev pub is_attempt : ℕ → WorldAnswer → Bool
 is_attempt attempt (Attempt a) = a == attempt
 is_attempt attempt _ = false

@@ -8,7 +8,7 @@ use crate::law::{
     refusals_change_nothing, unknown_is_refused, what_comes_is_kept,
 };
 use net_world::sent_frames_are_read;
-use state_table::found_states;
+use verify_state::found_states;
 
 /// In worlds that can be followed by hand there is something of which each claim is.
 pub fn examples()

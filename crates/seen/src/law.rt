@@ -17,7 +17,7 @@ use server_core::{
     open_check_is_last, packets_go_to_client, quiet, starts, the_taken, the_untaken,
     with_was_heard,
 };
-use state_table::{found_after_a_push, found_states};
+use verify_state::{found_after_a_push, found_states};
 
 /// Two states of one key that are seen are the same.
 pub fn one_state()

@@ -2,11 +2,11 @@
 use Rattle.std.proofs.Common.{◌≡◌, refl, sym, ◌∙◌, ap, subst, ◌⊎◌, inl, inr, ℕ, true, List, [], ◌∷◌, ◌++◌, Option, None, Some}
 use Rattle.std.specs.Prelude.{is_some, slice_get}
 use Rattle.job_file.specs.declared.job.Job.{Job}
-use Rattle.window.specs.History as window
+use Rattle.engine.specs.History as window
 use Rattle.engine.specs.Running.{Origin}
 use Rattle.server_core.specs.Inputs.{PacketInput}
-use Rattle.disk_model.specs.declared.left.Left.{Left}
-use Rattle.disk_model.specs.declared.left.Left.TheVariants.{NoSave, Saved, LostNew, LostOld}
+use Rattle.disk_model.specs.declared.save_outcome.SaveOutcome.{SaveOutcome}
+use Rattle.disk_model.specs.declared.save_outcome.SaveOutcome.TheVariants.{NoSave, Saved, LostNew, LostOld}
 use Rattle.server_core.specs.History.{Opening, Entry, Met, Cut, Restart}
 use Rattle.server_core.specs.Request.{Request, request_of}
 use Rattle.server_core.specs.Run.{Work, halt_of, origin_of, history, goes_on}
@@ -81,7 +81,7 @@ pub record Began (o : Opening) (past : List Entry) (w : Work) : Type 0 where
 same_work : (x y : Work) → Some x ≡ Some y → x ≡ y
 same_work x y h = cc
 
-went_on : (o : Opening) (past : List Entry) (e : PacketInput) (left : Left) (x : Option Work) (w : Work) → ((v : Work) → x ≡ Some v → Began o past v)
+went_on : (o : Opening) (past : List Entry) (e : PacketInput) (left : SaveOutcome) (x : Option Work) (w : Work) → ((v : Work) → x ≡ Some v → Began o past v)
     → work o (Met e left ∷ past) ≡ Some w → goes_on (request_of o.me e) x ≡ Some w → Began o (Met e left ∷ past) w
 went_on o past e left None w f all h = cc
 went_on o past e left (Some v) w f all h =
@@ -114,7 +114,7 @@ began_now o past e s w is all h =
       since = (all, sym (ap (λ (x : Work). x.since) here));
     }
 
-began_at : (o : Opening) (past : List Entry) (e : PacketInput) (left : Left) (d : Option Staged) (w : Work) → due o past e ≡ d
+began_at : (o : Opening) (past : List Entry) (e : PacketInput) (left : SaveOutcome) (d : Option Staged) (w : Work) → due o past e ≡ d
     → ((v : Work) → work o past ≡ Some v → Began o past v)
     → work o (Met e left ∷ past) ≡ Some w → work_after left d o.me (boot o past) (request_of o.me e) (work o past) ≡ Some w → Began o (Met e left ∷ past) w
 began_at o past e NoSave d w is f all h = went_on o past e NoSave (work o past) w f all h

@@ -6,14 +6,14 @@ use Rattle.std.proofs.lemmas.Bool.{and_from, le-leb, lt-ltb}
 use Rattle.fc_base.specs.declared.limits.TheConstants.{MAX_JOBS, MAX_SERVERS}
 use Rattle.job_file.specs.declared.job.Job.{Job}
 use Rattle.messages.specs.declared.body.Body.{Body}
-use Rattle.messages.specs.declared.refusal.Asked.{Asked}
+use Rattle.messages.specs.declared.refusal.RefusedRequest.{RefusedRequest}
 use Rattle.messages.specs.declared.refusal.Reason.{Reason}
 use Rattle.messages.specs.declared.refusal.Reason.TheVariants as reasons
 use Rattle.messages.specs.Ranges.{is_word, is_run, is_jobs, is_job_of, is_body, is_job_refused, is_attempt_refused, KeepsState}
 use Rattle.server_core.specs.Run.{Work}
 use Rattle.server_core.specs.Check.{Check}
 use Rattle.server_core.specs.Replies.{refuse, gone_or_unknown}
-use Rattle.window.specs.Counting.{ComesToPossible}
+use Rattle.engine.specs.Counting.{ComesToPossible}
 use Rattle.server_core.specs.Laws.{IsSet, TextsGiveSets, HistoriesAreLegal}
 use Rattle.server_core.proofs.WorkLemmas as works
 use Rattle.server_core.proofs.StateLemmas.{run_below}
@@ -76,11 +76,11 @@ job_number js j s l = let m = s.within.few in omega arith
 
 -- ---- refusals
 
-pub refuse_fits : (asked : Asked) (reason : Reason) (r a value : ℕ) → is_run r ≡ true → is_word value ≡ true → is_job_refused reason 0 0 ≡ true
+pub refuse_fits : (asked : RefusedRequest) (reason : Reason) (r a value : ℕ) → is_run r ≡ true → is_word value ≡ true → is_job_refused reason 0 0 ≡ true
     → is_attempt_refused asked a ≡ true → Fit (refuse asked reason r a value)
 refuse_fits asked reason r a value h v j k = ((and_from _ _ (and_from _ _ (and_from _ _ h v) j) k, tt), tt)
 
-pub gone_fits : (asked : Asked) (r last : ℕ) → is_run r ≡ true → last < 2 ^ 64 → is_attempt_refused asked 0 ≡ true → Fit (gone_or_unknown asked r last)
+pub gone_fits : (asked : RefusedRequest) (r last : ℕ) → is_run r ≡ true → last < 2 ^ 64 → is_attempt_refused asked 0 ≡ true → Fit (gone_or_unknown asked r last)
 gone_fits asked r last h l a =
     fit_if (nat_le r last) _ _ (refuse_fits asked reasons.Gone r 0 last h (word last l) refl a)
     (refuse_fits asked reasons.Unknown r 0 last h (word last l) refl a)

@@ -10,7 +10,7 @@ use Rattle.fc_base.specs.Report.{is_report}
 use Rattle.job_file.specs.declared.job.Job.{Job}
 use Rattle.job_file.specs.declared.job.Phase.TheVariants.{Read}
 use Rattle.verify_state.specs.State.{State as SavedState}
-use Rattle.messages.specs.declared.refusal.Asked.TheVariants as asks
+use Rattle.messages.specs.declared.refusal.RefusedRequest.TheVariants as asks
 use Rattle.messages.specs.declared.refusal.Reason.TheVariants as reasons
 use Rattle.messages.specs.Ranges.{is_word, is_run, is_attempt}
 use Rattle.server_core.specs.Request.{Request, ToStage, ToStart, ToTrigger, ToMark, ToStop, ToVerify, ToHold, ToPassFully, ToIssue, ToEnd, ToReport, ToNobody}

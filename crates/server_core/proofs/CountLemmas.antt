@@ -7,13 +7,13 @@ use Rattle.fc_base.specs.Counted.{has}
 use Rattle.fc_base.specs.declared.numbers.Key.{Key}
 use Rattle.job_file.specs.declared.job.Job.{Job}
 use Rattle.verify_state.specs.State.{State}
-use Rattle.window.specs.History as window
+use Rattle.engine.specs.History as window
 use Rattle.engine.specs.Running.{Origin}
 use Rattle.engine.specs.Laws.{StatesCountTheDone}
 use Rattle.fc_base.specs.JobParts.{is_within_limits}
 use Rattle.server_core.specs.Inputs.{PacketInput}
-use Rattle.disk_model.specs.declared.left.Left.{Left}
-use Rattle.disk_model.specs.declared.left.Left.TheVariants.{Saved}
+use Rattle.disk_model.specs.declared.save_outcome.SaveOutcome.{SaveOutcome}
+use Rattle.disk_model.specs.declared.save_outcome.SaveOutcome.TheVariants.{Saved}
 use Rattle.server_core.specs.History.{Opening, Entry, Met, Cut, Restart}
 use Rattle.server_core.specs.Request.{Request, request_of}
 use Rattle.server_core.specs.Run.{Work, Halt, halt_of, origin_of, history}
@@ -66,7 +66,7 @@ state_counts : Below → (origin : Origin) (since : List Request) (k : ℕ) → 
 unfolding job_state
 state_counts below origin since k within = below.counted origin (history origin since) (below.legal origin since within) k
 
-taking_now : Below → (o : Opening) (run j : ℕ) (past : List Entry) (e : PacketInput) (left : Left) (x : Option Work) (state : State) → work o past ≡ x
+taking_now : Below → (o : Opening) (run j : ℕ) (past : List Entry) (e : PacketInput) (left : SaveOutcome) (x : Option Work) (state : State) → work o past ≡ x
     → takes run j (request_of o.me e) x ≡ Some state → IsTaking o run j (Met e left ∷ past) state
 taking_now below o run j past e left None state is h = cc
 taking_now below o run j past e left (Some w) state is h =
@@ -116,7 +116,7 @@ later o run j past e state t = record {
   counts_all = t.counts_all;
 }
 
-now_or_before : Below → (o : Opening) (run j : ℕ) (past : List Entry) (e : PacketInput) (left : Left) (x : Option State) (state : State)
+now_or_before : Below → (o : Opening) (run j : ℕ) (past : List Entry) (e : PacketInput) (left : SaveOutcome) (x : Option State) (state : State)
     → takes run j (request_of o.me e) (work o past) ≡ x
     → ((s : State) → Contains (takings o run j past) s → IsTaking o run j past s) → Contains (and_those x (takings o run j past)) state
     → IsTaking o run j (Met e left ∷ past) state

@@ -9,7 +9,7 @@ use Rattle.fc_base.specs.declared.fault.Fault.TheVariants.{OldBoot, NotInFlight}
 use Rattle.fc_base.specs.declared.numbers.Key.{Key}
 use Rattle.fc_base.specs.Counted.{has}
 use Rattle.job_file.specs.declared.job.Job.{Job}
-use Rattle.window.specs.History as window
+use Rattle.engine.specs.History as window
 use Rattle.write_order.specs.Blocks.{block_of}
 use Rattle.engine.specs.declared.issue.Ticket.{Ticket}
 use Rattle.engine.specs.declared.issue.Issue.{Issue as Answer}
@@ -23,9 +23,9 @@ use Rattle.server_core.specs.Inputs.{PacketInput}
 use Rattle.server_core.specs.declared.input.Input.TheVariants.{Deliver, Issue, WriteDone, CheckDone}
 use Rattle.server_core.specs.declared.input.WriteEnd.{WriteEnd}
 use Rattle.server_core.specs.declared.input.WriteEnd.TheVariants.{Done, Failed}
-use Rattle.disk_model.specs.declared.left.Left.{Left}
-use Rattle.disk_model.specs.declared.left.Left.TheVariants.{NoSave, Saved, LostNew, LostOld}
-use Rattle.disk_model.specs.Left.{is_lost}
+use Rattle.disk_model.specs.declared.save_outcome.SaveOutcome.{SaveOutcome}
+use Rattle.disk_model.specs.declared.save_outcome.SaveOutcome.TheVariants.{NoSave, Saved, LostNew, LostOld}
+use Rattle.disk_model.specs.SaveOutcome.{is_lost}
 use Rattle.server_core.specs.History.{Opening, Entry, Met, Cut, Restart}
 use Rattle.messages.specs.Nodes.{is_client, is_server}
 use Rattle.server_core.specs.Request.{Request, ToStage, ToStart, ToTrigger, ToMark, ToStop, ToVerify, ToHold}
@@ -43,7 +43,7 @@ abbrev OnWith : Bool → Option Work → Type 0
 OnWith on None = Unit {0}
 OnWith on (Some w) = on ≡ true
 
-on_after : (on : Bool) (left : Left) (d : Option Staged) (me b : ℕ) (x : Request) (w : Option Work) → (d ≡ None ⊎ (on ≡ true)) → OnWith on w
+on_after : (on : Bool) (left : SaveOutcome) (d : Option Staged) (me b : ℕ) (x : Request) (w : Option Work) → (d ≡ None ⊎ (on ≡ true)) → OnWith on w
     → OnWith (on && not (is_lost left)) (work_after left d me b x w)
 on_after on NoSave d me b x None f h = tt
 on_after on NoSave d me b x (Some w) f h = rw h refl

@@ -2,8 +2,8 @@
 use Rattle.std.proofs.Common.{◌≡◌, refl, sym, ap, subst, ℕ, ◌<◌, ◌≤◌, arith, Bool, true, false, ◌&&◌, ◌==◌, List, ◌∷◌, Option, None, Some}
 use Rattle.std.specs.Prelude.{not, nat_lt, if◌then◌else◌}
 use Rattle.std.proofs.lemmas.Bool.{eqb-true, ltb-true}
-use Rattle.disk_model.specs.declared.left.Left.{Left}
-use Rattle.disk_model.specs.Left.{has_new}
+use Rattle.disk_model.specs.declared.save_outcome.SaveOutcome.{SaveOutcome}
+use Rattle.disk_model.specs.SaveOutcome.{has_new}
 use Rattle.server_core.specs.DueStart.{IsDueStart}
 use Rattle.server_core.specs.History.{Opening, Entry, Met, Cut, Restart}
 use Rattle.server_core.specs.Request.{Request, ToStage, ToStart, ToTrigger, ToMark, ToStop, ToVerify}
@@ -71,7 +71,7 @@ raises : (b : Bool) (n last : ℕ) → last ≤ n → last ≤ (if b then n else
 raises true n last h = h
 raises false n last h = omega arith
 
-recorded_grows : (left : Left) (d : Option Staged) (last : ℕ) (x : Request) → ((s : Staged) → d ≡ Some s → IsStart last x s) → last ≤ last_run_after left d last
+recorded_grows : (left : SaveOutcome) (d : Option Staged) (last : ℕ) (x : Request) → ((s : Staged) → d ≡ Some s → IsStart last x s) → last ≤ last_run_after left d last
 recorded_grows left None last x f = omega arith
 recorded_grows left (Some s) last x f = let above = (f s refl).above in raises (has_new left) s.run last (omega arith)
 

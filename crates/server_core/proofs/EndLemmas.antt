@@ -6,7 +6,7 @@ use Rattle.fc_base.specs.Counted.{has}
 use Rattle.fc_base.specs.declared.fault.Fault.{Fault}
 use Rattle.fc_base.specs.declared.fault.Fault.TheVariants.{OldBoot, NotInFlight}
 use Rattle.job_file.specs.declared.job.Job.{Job}
-use Rattle.window.specs.History as window
+use Rattle.engine.specs.History as window
 use Rattle.engine.specs.declared.issue.Ticket.{Ticket}
 use Rattle.engine.specs.Running.{Origin, Running, running_of, StandsFor, EachHistory, after_done, after_fail}
 use Rattle.engine.specs.Answers.{ticket_answer, names_one_of}

@@ -7,9 +7,9 @@ use Rattle.job_file.specs.declared.job.Job.{Job}
 use Rattle.job_file.specs.declared.job.Phase.TheVariants.{Read, Write}
 use Rattle.verify_state.specs.State.{State as SavedState}
 use Rattle.messages.specs.declared.body.Body.{Body}
-use Rattle.messages.specs.declared.refusal.Asked.{Asked}
-use Rattle.messages.specs.declared.refusal.Asked.TheVariants as asks
-use Rattle.disk_model.specs.Left.{is_lost}
+use Rattle.messages.specs.declared.refusal.RefusedRequest.{RefusedRequest}
+use Rattle.messages.specs.declared.refusal.RefusedRequest.TheVariants as asks
+use Rattle.disk_model.specs.SaveOutcome.{is_lost}
 use Rattle.server_core.specs.History.{Opening, Entry, Met, Cut, Restart}
 use Rattle.server_core.specs.Request.{Request, ToStage, ToStart, ToTrigger, ToMark, ToStop, ToVerify}
 use Rattle.server_core.specs.Request.{ToHold, ToPassFully, ToIssue, ToEnd, ToReport, ToNobody, request_of}
@@ -76,7 +76,7 @@ start_few : (n : Now) (r : ℕ) (w : Option Work) → Few (reply_to_start n r w)
 start_few n r (Some w) = one
 start_few n r None = few_if (nat_le r n.last) _ _ one (new_start_few r (for_run r n.staged) (is_open n.run))
 
-gone_few : (a : Asked) (r last : ℕ) → Few (gone_or_unknown a r last)
+gone_few : (a : RefusedRequest) (r last : ℕ) → Few (gone_or_unknown a r last)
 gone_few a r last = few_if (nat_le r last) _ _ one one
 
 stop_few : (n : Now) (r : ℕ) (w : Option Work) → Few (reply_to_stop n r w)

@@ -16,11 +16,11 @@ use Rattle.messages.specs.declared.body.Body.TheVariants as bodies
 use Rattle.messages.specs.declared.node.Node.TheVariants.{Server, Client}
 use Rattle.messages.specs.declared.packet.PacketParts.{PacketParts}
 use Rattle.messages.specs.declared.refusal.Act.{Act}
-use Rattle.messages.specs.declared.refusal.Asked.{Asked}
-use Rattle.messages.specs.declared.refusal.Asked.TheVariants as asks
-use Rattle.disk_model.specs.declared.left.Left.{Left}
-use Rattle.disk_model.specs.declared.left.Left.TheVariants.{NoSave, Saved, LostNew, LostOld}
-use Rattle.disk_model.specs.Left.{is_lost}
+use Rattle.messages.specs.declared.refusal.RefusedRequest.{RefusedRequest}
+use Rattle.messages.specs.declared.refusal.RefusedRequest.TheVariants as asks
+use Rattle.disk_model.specs.declared.save_outcome.SaveOutcome.{SaveOutcome}
+use Rattle.disk_model.specs.declared.save_outcome.SaveOutcome.TheVariants.{NoSave, Saved, LostNew, LostOld}
+use Rattle.disk_model.specs.SaveOutcome.{is_lost}
 use Rattle.server_core.specs.Inputs.{PacketInput}
 use Rattle.server_core.specs.History.{Opening, Entry, Met, Cut, Restart}
 use Rattle.server_core.specs.Request.{Request, ToStage, ToStart, ToTrigger, ToMark, ToStop, ToVerify}
@@ -74,7 +74,7 @@ start_frames : (P : Body → Type 0) (n : Now) (r : ℕ) (w : Option Work) → E
 start_frames P n r (Some w) = (tt, tt)
 start_frames P n r None = each_if P (nat_le r n.last) _ _ (tt, tt) (new_start P r (for_run r n.staged) (is_open n.run))
 
-gone_frames : (P : Body → Type 0) (a : Asked) (r last : ℕ) → Each P (gone_or_unknown a r last)
+gone_frames : (P : Body → Type 0) (a : RefusedRequest) (r last : ℕ) → Each P (gone_or_unknown a r last)
 gone_frames P a r last = each_if P (nat_le r last) _ _ (tt, tt) (tt, tt)
 
 stop_frames : (P : Body → Type 0) (n : Now) (r : ℕ) (w : Option Work) → Each P (reply_to_stop n r w)
@@ -228,7 +228,7 @@ sent_frames P true None bs h = tt
 sent_frames P false None bs h = h refl
 sent_frames P lost (Some f) bs h = tt
 
-unsent : (left : Left) (d : Option Staged) (me now_boot : ℕ) (x : Request) (w : Option Work) → is_lost left ≡ false → (left ≡ Saved → d ≡ None)
+unsent : (left : SaveOutcome) (d : Option Staged) (me now_boot : ℕ) (x : Request) (w : Option Work) → is_lost left ≡ false → (left ≡ Saved → d ≡ None)
     → goes_on x w ≡ work_after left d me now_boot x w
 unsent NoSave d me now_boot x w h f = refl
 unsent Saved None me now_boot x w h f = refl
@@ -236,7 +236,7 @@ unsent Saved (Some t) me now_boot x w h f = let none = f refl in cc
 unsent LostNew d me now_boot x w h f = cc
 unsent LostOld d me now_boot x w h f = cc
 
-entry_frames : (o : Opening) (past : List Entry) (e : PacketInput) (left : Left) (d : Option Staged) → due o past e ≡ d → is_lost left ≡ false
+entry_frames : (o : Opening) (past : List Entry) (e : PacketInput) (left : SaveOutcome) (d : Option Staged) → due o past e ≡ d → is_lost left ≡ false
     → Each (IsSaid (work o (Met e left ∷ past))) (replies (now o past) (request_of o.me e))
 entry_frames o past e left None is h =
     subst (λ v. Each (IsSaid v) (replies (now o past) (request_of o.me e)))

@@ -14,8 +14,8 @@ use Rattle.messages.specs.declared.body.Body.TheVariants as bodies
 use Rattle.messages.specs.declared.node.Node.{Node}
 use Rattle.messages.specs.declared.node.Node.TheVariants as nodes
 use Rattle.messages.specs.declared.packet.PacketParts.{PacketParts}
-use Rattle.disk_model.specs.declared.left.Left.{Left}
-use Rattle.disk_model.specs.declared.left.Left.TheVariants.{NoSave, Saved, LostNew, LostOld}
+use Rattle.disk_model.specs.declared.save_outcome.SaveOutcome.{SaveOutcome}
+use Rattle.disk_model.specs.declared.save_outcome.SaveOutcome.TheVariants.{NoSave, Saved, LostNew, LostOld}
 use Rattle.server_core.specs.Inputs.{PacketInput}
 use Rattle.server_core.specs.declared.input.Input.TheVariants.{Deliver, Issue, WriteDone, CheckDone}
 use Rattle.server_core.specs.History.{Opening, Entry, Met, Cut, Restart}
@@ -120,7 +120,7 @@ work_on : (me : ℕ) (e : PacketInput) (older : List PacketParts) (w : Option Wo
 work_on me e older None h = tt
 work_on me e older (Some w) h = one_heard me e older w.since h
 
-work_after_heard : (me b : ℕ) (e : PacketInput) (older : List PacketParts) (left : Left) (d : Option Staged) (w : Option Work) → WorkHeard me older w
+work_after_heard : (me b : ℕ) (e : PacketInput) (older : List PacketParts) (left : SaveOutcome) (d : Option Staged) (w : Option Work) → WorkHeard me older w
     → WorkHeard me (heard_with e older) (work_after left d me b (request_of me e) w)
 work_after_heard me b e older NoSave d w h = work_on me e older w h
 work_after_heard me b e older Saved None w h = work_on me e older w h
@@ -175,7 +175,7 @@ check_on me e older (Some c) old f h = none_heard me (heard_with e older) c.sinc
 check_on me e older None None f h = tt
 check_on me e older None (Some c) f h = one_heard me e older c.since h
 
-check_after_heard : (me : ℕ) (e : PacketInput) (older : List PacketParts) (left : Left) (d : Option Staged) (new old : Option Check) → Fresh new
+check_after_heard : (me : ℕ) (e : PacketInput) (older : List PacketParts) (left : SaveOutcome) (d : Option Staged) (new old : Option Check) → Fresh new
     → CheckHeard me older old → CheckHeard me (heard_with e older) (check_after left d new (request_of me e) old)
 check_after_heard me e older NoSave d new old f h = check_on me e older new old f h
 check_after_heard me e older Saved None new old f h = check_on me e older new old f h

@@ -12,8 +12,8 @@ use Rattle.job_file.specs.declared.job.Phase.TheVariants.{Read}
 use Rattle.write_order.specs.Places.{place}
 use Rattle.verify_state.specs.State.{State}
 use Rattle.fc_base.specs.Keys.{is_same_key}
-use Rattle.disk_model.specs.declared.left.Left.{Left}
-use Rattle.disk_model.specs.declared.left.Left.TheVariants.{NoSave, Saved, LostNew, LostOld}
+use Rattle.disk_model.specs.declared.save_outcome.SaveOutcome.{SaveOutcome}
+use Rattle.disk_model.specs.declared.save_outcome.SaveOutcome.TheVariants.{NoSave, Saved, LostNew, LostOld}
 use Rattle.server_core.specs.History.{Opening, Entry, Met, Cut, Restart}
 use Rattle.server_core.specs.Request.{Request, ToStage, ToStart, ToTrigger, ToMark, ToStop, ToVerify}
 use Rattle.server_core.specs.Request.{ToHold, ToPassFully, ToIssue, ToEnd, ToReport, ToNobody, request_of}
@@ -71,7 +71,7 @@ goes_on_of me now_boot last x (Some c) old n h = n
 goes_on_of me now_boot last x None None n h = tt
 goes_on_of me now_boot last x None (Some c) n h = record { server = h.server; boot_is = h.boot_is; run = h.run }
 
-after_of : (me now_boot last : ℕ) (left : Left) (d : Option Staged) (x : Request) (new old : Option Check) → Of me now_boot last new → Of me now_boot last old
+after_of : (me now_boot last : ℕ) (left : SaveOutcome) (d : Option Staged) (x : Request) (new old : Option Check) → Of me now_boot last new → Of me now_boot last old
     → Of me now_boot (last_run_after left d last) (check_after left d new x old)
 after_of me now_boot last NoSave d x new old n h =
     subst (λ l. Of me now_boot l (or_opened new (check_goes_on x old))) (sym (unsaved d last)) (goes_on_of me now_boot last x new old n h)

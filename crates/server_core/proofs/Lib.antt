@@ -15,6 +15,7 @@ pub mod ReportedLemmas
 pub mod KeyLemmas
 pub mod LegalLemmas
 pub mod Looked
+pub mod NodeLemmas
 pub mod NoteLemmas
 pub mod QuietLemmas
 pub mod RangeLemmas

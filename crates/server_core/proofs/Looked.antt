@@ -1,6 +1,6 @@
 -- A server that is on shows all that came to it.
 use Rattle.std.proofs.Common.{◌≡◌, refl, true, List, [], ◌∷◌}
-use Rattle.disk_model.specs.Left.{is_lost}
+use Rattle.disk_model.specs.SaveOutcome.{is_lost}
 use Rattle.node.proofs.StepLemmas.{shows_all}
 use Rattle.server_core.specs.History.{Entry, Met, Cut, Restart}
 use Rattle.server_core.specs.Words.{is_on}

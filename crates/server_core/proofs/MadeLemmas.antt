@@ -9,9 +9,9 @@ use Rattle.verify_state.specs.State.{State as SavedState}
 use Rattle.messages.specs.declared.body.Body.{Body}
 use Rattle.messages.specs.declared.body.Body.TheVariants as bodies
 use Rattle.messages.specs.Nodes.{is_client, is_server}
-use Rattle.disk_model.specs.Left.{is_lost}
-use Rattle.disk_model.specs.declared.left.Left.{Left}
-use Rattle.disk_model.specs.declared.left.Left.TheVariants.{NoSave, Saved, LostNew, LostOld}
+use Rattle.disk_model.specs.SaveOutcome.{is_lost}
+use Rattle.disk_model.specs.declared.save_outcome.SaveOutcome.{SaveOutcome}
+use Rattle.disk_model.specs.declared.save_outcome.SaveOutcome.TheVariants.{NoSave, Saved, LostNew, LostOld}
 use Rattle.server_core.specs.Inputs.{PacketInput}
 use Rattle.server_core.specs.declared.input.Input.TheVariants.{Deliver, Issue, WriteDone, CheckDone}
 use Rattle.server_core.specs.History.{Opening, Entry, Met, Cut, Restart}
@@ -172,7 +172,7 @@ goes_on_with on x (Some c) old n h = rw n refl
 goes_on_with on x None None n h = tt
 goes_on_with on x None (Some c) n h = rw h refl
 
-on_after : (on : Bool) (left : Left) (d : Option Staged) (new old : Option Check) (x : Request) → OnWith on new → OnWith on old
+on_after : (on : Bool) (left : SaveOutcome) (d : Option Staged) (new old : Option Check) (x : Request) → OnWith on new → OnWith on old
     → OnWith (on && not (is_lost left)) (check_after left d new x old)
 on_after on NoSave d new old x n h = goes_on_with on x new old n h
 on_after on Saved None new old x n h = goes_on_with on x new old n h
@@ -214,7 +214,7 @@ accepts o past c j job r is at ready =
 
 -- ---- so each job that is done was done by one
 
-pub made_now : (o : Opening) (e : PacketInput) (left : Left) (past : List Entry) (c : Check) (b a j : ℕ) (r : ReportParts) → e ≡ CheckDone b a j r
+pub made_now : (o : Opening) (e : PacketInput) (left : SaveOutcome) (past : List Entry) (c : Check) (b a j : ℕ) (r : ReportParts) → e ≡ CheckDone b a j r
     → check o past ≡ Some c → c.attempt ≡ a → refusal o past (CheckDone b a j r) ≡ None → WasMade o (Met e left ∷ past) c.run a j r
 made_now o e left past c b a j r is opened tried fine =
     record { newer = []; boot = b; left = left; older = past; split = ap (λ f. Met f left ∷ past) is; now = c; is_open = opened; run_is = refl; attempt_is = tried; accepted = fine }
@@ -242,7 +242,7 @@ MadeIn o list (Some c) =
 pub fresh_made : (o : Opening) (list : List Entry) (c : Check) → c.since ≡ [] → MadeIn o list (Some c)
 fresh_made o list c none = λ j job r at h. absurd (not_done_at_first job.load r (sym (ap (progress_after c j job) none) ∙ h))
 
-one_more : (o : Opening) (e : PacketInput) (left : Left) (past : List Entry) (c : Check) → check o past ≡ Some c → MadeIn o past (Some c)
+one_more : (o : Opening) (e : PacketInput) (left : SaveOutcome) (past : List Entry) (c : Check) → check o past ≡ Some c → MadeIn o past (Some c)
     → MadeIn o (Met e left ∷ past) (Some (and_then c (request_of o.me e)))
 one_more o e left past c is m = λ j job r at h.
     let x = request_of o.me e in
@@ -255,13 +255,13 @@ one_more o e left past c is m = λ j job r at h.
           (accepts o past c j job r is at k.ready)
     ]
 
-on_made : (o : Opening) (e : PacketInput) (left : Left) (past : List Entry) (new old : Option Check) → Fresh new → check o past ≡ old → MadeIn o past old
+on_made : (o : Opening) (e : PacketInput) (left : SaveOutcome) (past : List Entry) (new old : Option Check) → Fresh new → check o past ≡ old → MadeIn o past old
     → MadeIn o (Met e left ∷ past) (or_opened new (check_goes_on (request_of o.me e) old))
 on_made o e left past (Some c) old f is m = fresh_made o (Met e left ∷ past) c f
 on_made o e left past None None f is m = tt
 on_made o e left past None (Some c) f is m = one_more o e left past c is m
 
-after_made : (o : Opening) (e : PacketInput) (left was : Left) (d : Option Staged) (past : List Entry) (new old : Option Check) → Fresh new
+after_made : (o : Opening) (e : PacketInput) (left was : SaveOutcome) (d : Option Staged) (past : List Entry) (new old : Option Check) → Fresh new
     → check o past ≡ old → MadeIn o past old → MadeIn o (Met e was ∷ past) (check_after left d new (request_of o.me e) old)
 after_made o e NoSave was d past new old f is m = on_made o e was past new old f is m
 after_made o e Saved was None past new old f is m = on_made o e was past new old f is m

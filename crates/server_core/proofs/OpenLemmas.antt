@@ -4,7 +4,7 @@ use Rattle.std.specs.Prelude.{slice_get, if◌then◌else◌}
 use Rattle.std.specs.Option.{option_map}
 use Rattle.fc_base.specs.Counted.{has}
 use Rattle.job_file.specs.declared.job.Job.{Job}
-use Rattle.window.specs.History.{open_writes}
+use Rattle.engine.specs.History.{open_writes}
 use Rattle.engine.specs.Running.{Origin}
 use Rattle.engine.specs.Answers as engine
 use Rattle.engine.specs.Answers.{ticket_of}

@@ -7,8 +7,8 @@ use Rattle.job_file.specs.declared.job.Job.{Job}
 use Rattle.verify_state.specs.State.{State}
 use Rattle.engine.specs.Answers.{is_write}
 use Rattle.server_core.specs.Inputs.{PacketInput}
-use Rattle.disk_model.specs.declared.left.Left.{Left}
-use Rattle.disk_model.specs.declared.left.Left.TheVariants.{NoSave, Saved, LostNew, LostOld}
+use Rattle.disk_model.specs.declared.save_outcome.SaveOutcome.{SaveOutcome}
+use Rattle.disk_model.specs.declared.save_outcome.SaveOutcome.TheVariants.{NoSave, Saved, LostNew, LostOld}
 use Rattle.server_core.specs.History.{Opening, Entry, Met, Cut, Restart}
 use Rattle.server_core.specs.Request.{Request, ToStage, ToStart, ToTrigger, ToMark, ToStop, ToVerify}
 use Rattle.server_core.specs.Request.{ToHold, ToPassFully, ToIssue, ToEnd, ToReport, ToNobody, request_of}
@@ -33,7 +33,7 @@ calm_on : (run : ℕ) (x : Request) (w : Option Work) → Calm run w → Calm ru
 calm_on run x None c = c
 calm_on run x (Some w) c = (c.0, still (halt_of w.run w.since) (halt_by w.run x w.since) c.1)
 
-calm_after : (run last : ℕ) (left : Left) (d : Option Staged) (me now_boot : ℕ) (x : Request) (w : Option Work) → ((s : Staged) → d ≡ Some s → IsStart last x s)
+calm_after : (run last : ℕ) (left : SaveOutcome) (d : Option Staged) (me now_boot : ℕ) (x : Request) (w : Option Work) → ((s : Staged) → d ≡ Some s → IsStart last x s)
     → last_run_after left d last ≡ last → Calm run w → Calm run (work_after left d me now_boot x w)
 calm_after run last NoSave d me now_boot x w f e c = calm_on run x w c
 calm_after run last Saved None me now_boot x w f e c = calm_on run x w c
@@ -84,7 +84,7 @@ halt_now run ToNobody None since h = cc
 no_start : (run q : ℕ) → triggers run (ToStart q) ≡ true → ⊥
 no_start run q h = cc
 
-calm_taking : (run : ℕ) (x : Request) (w : Work) (left : Left) (d : Option Staged) (last me now_boot : ℕ) → ((s : Staged) → d ≡ Some s → IsStart last x s)
+calm_taking : (run : ℕ) (x : Request) (w : Work) (left : SaveOutcome) (d : Option Staged) (last me now_boot : ℕ) → ((s : Staged) → d ≡ Some s → IsStart last x s)
     → triggers run x ≡ true → w.run ≡ run → Calm run (work_after left d me now_boot x (Some w))
 calm_taking run x w NoSave d last me now_boot f h e = (e, halt_now w.run x (halt_of w.run w.since) w.since (subst (λ n. triggers n x ≡ true) (sym e) h))
 calm_taking run x w Saved None last me now_boot f h e = (e, halt_now w.run x (halt_of w.run w.since) w.since (subst (λ n. triggers n x ≡ true) (sym e) h))
@@ -101,7 +101,7 @@ record IsBehind (o : Opening) (run : ℕ) (list : List Entry) : Type 0 where
   pub least : run ≤ last_run o list
   pub calm : Calm run (work o list)
 
-behind_at : (o : Opening) (run j : ℕ) (e : PacketInput) (left : Left) (past : List Entry) (x : Option Work) (state : State) → work o past ≡ x
+behind_at : (o : Opening) (run j : ℕ) (e : PacketInput) (left : SaveOutcome) (past : List Entry) (x : Option Work) (state : State) → work o past ≡ x
     → takes run j (request_of o.me e) x ≡ Some state → IsBehind o run (Met e left ∷ past)
 behind_at o run j e left past None state is h = cc
 behind_at o run j e left past (Some w) state is h =
@@ -153,14 +153,14 @@ no_write run (ToEnd ticket end) w c = refl
 no_write run (ToReport b a i report) w c = refl
 no_write run ToNobody w c = refl
 
-pub quiet_while_last : (o : Opening) (older between : List Entry) (trigger e : PacketInput) (was : Left) (run j : ℕ) (state : State)
+pub quiet_while_last : (o : Opening) (older between : List Entry) (trigger e : PacketInput) (was : SaveOutcome) (run j : ℕ) (state : State)
     → takes run j (request_of o.me trigger) (work o older) ≡ Some state
     → last_run o (between ++ Met trigger was ∷ older) ≡ run → gives_write (issue o (between ++ Met trigger was ∷ older) e) ≡ false
 quiet_while_last o older between trigger e was run j state h last =
     no_write run (request_of o.me e) (work o (between ++ Met trigger was ∷ older))
     (calm_behind o run between (Met trigger was ∷ older) (behind_at o run j trigger was older (work o older) state refl h) last)
 
-pub quiet_until_check : (o : Opening) (older between newer : List Entry) (trigger e : PacketInput) (was left : Left) (run j i : ℕ) (state with_it : State)
+pub quiet_until_check : (o : Opening) (older between newer : List Entry) (trigger e : PacketInput) (was left : SaveOutcome) (run j i : ℕ) (state with_it : State)
     → takes run j (request_of o.me trigger) (work o older) ≡ Some state
     → progress o (newer ++ Met e left ∷ (between ++ Met trigger was ∷ older)) i ≡ Some (With with_it) → with_it.key.run ≡ run
     → gives_write (issue o (between ++ Met trigger was ∷ older) e) ≡ false

@@ -15,8 +15,8 @@ use Rattle.messages.specs.declared.body.Body.{Body}
 use Rattle.messages.specs.declared.body.Body.TheVariants as bodies
 use Rattle.messages.specs.Nodes.{is_node}
 use Rattle.messages.specs.Ranges.{is_word, is_run, is_attempt, is_text, is_body}
-use Rattle.disk_model.specs.declared.left.Left.{Left}
-use Rattle.disk_model.specs.Left.{has_new}
+use Rattle.disk_model.specs.declared.save_outcome.SaveOutcome.{SaveOutcome}
+use Rattle.disk_model.specs.SaveOutcome.{has_new}
 use Rattle.server_core.specs.Inputs.{PacketInput}
 use Rattle.server_core.specs.declared.input.Input.TheVariants.{Deliver, Issue, WriteDone, CheckDone}
 use Rattle.server_core.specs.History.{Opening, Entry, Met, Cut, Restart}
@@ -185,7 +185,7 @@ either_below : (b : Bool) (x y : ℕ) → x < 2 ^ 64 → y < 2 ^ 64 → (if b th
 either_below true x y h k = h
 either_below false x y h k = k
 
-recorded_below : (left : Left) (d : Option Staged) (last : ℕ) → SomeStaged InRun d → last < 2 ^ 64 → last_run_after left d last < 2 ^ 64
+recorded_below : (left : SaveOutcome) (d : Option Staged) (last : ℕ) → SomeStaged InRun d → last < 2 ^ 64 → last_run_after left d last < 2 ^ 64
 recorded_below left None last h k = k
 recorded_below left (Some s) last h k = either_below (has_new left) s.run last (run_below s.run h.run) k
 

@@ -6,7 +6,7 @@ use Rattle.fc_base.specs.declared.fault.Fault.{Fault}
 use Rattle.fc_base.specs.declared.fault.Fault.TheVariants.{OldBoot, NotInFlight}
 use Rattle.fc_base.specs.declared.report.ReportParts.{ReportParts}
 use Rattle.job_file.specs.declared.job.Job.{Job}
-use Rattle.window.specs.History as window
+use Rattle.engine.specs.History as window
 use Rattle.engine.specs.declared.issue.Ticket.{Ticket}
 use Rattle.engine.specs.Answers.{names_one_of}
 use Rattle.server_core.specs.declared.input.WriteEnd.{WriteEnd}

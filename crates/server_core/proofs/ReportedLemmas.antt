@@ -13,10 +13,10 @@ use Rattle.verify_state.specs.State.{State as SavedState}
 use Rattle.messages.specs.declared.body.Body.{Body}
 use Rattle.messages.specs.declared.body.Body.TheVariants as bodies
 use Rattle.messages.specs.declared.packet.PacketParts.{PacketParts}
-use Rattle.messages.specs.declared.refusal.Asked.{Asked}
-use Rattle.messages.specs.declared.refusal.Asked.TheVariants as asks
-use Rattle.disk_model.specs.Left.{is_lost}
-use Rattle.disk_model.specs.declared.left.Left.{Left}
+use Rattle.messages.specs.declared.refusal.RefusedRequest.{RefusedRequest}
+use Rattle.messages.specs.declared.refusal.RefusedRequest.TheVariants as asks
+use Rattle.disk_model.specs.SaveOutcome.{is_lost}
+use Rattle.disk_model.specs.declared.save_outcome.SaveOutcome.{SaveOutcome}
 use Rattle.server_core.specs.Inputs.{PacketInput}
 use Rattle.server_core.specs.declared.input.Input.TheVariants.{CheckDone}
 use Rattle.server_core.specs.History.{Opening, Entry, Met, Cut, Restart}
@@ -66,7 +66,7 @@ start_frames : (o : Opening) (list : List Entry) (n : Now) (r : ℕ) (w : Option
 start_frames o list n r (Some w) = (tt, tt)
 start_frames o list n r None = each_if o list (nat_le r n.last) _ _ (tt, tt) (new_start o list r (for_run r n.staged) (is_open n.run))
 
-gone_frames : (o : Opening) (list : List Entry) (a : Asked) (r last : ℕ) → Each o list (gone_or_unknown a r last)
+gone_frames : (o : Opening) (list : List Entry) (a : RefusedRequest) (r last : ℕ) → Each o list (gone_or_unknown a r last)
 gone_frames o list a r last = each_if o list (nat_le r last) _ _ (tt, tt) (tt, tt)
 
 stop_frames : (o : Opening) (list : List Entry) (n : Now) (r : ℕ) (w : Option Work) → Each o list (reply_to_stop n r w)
@@ -183,7 +183,7 @@ both_hold true false t fault h = cc
 both_hold false s t fault h = cc
 
 -- An end of a check that is accepted is one of the open check, in its attempt.
-ended_by : (o : Opening) (e : PacketInput) (left : Left) (past : List Entry) (c : Option Check) (x : Request) → check o past ≡ c → request_of o.me e ≡ x
+ended_by : (o : Opening) (e : PacketInput) (left : SaveOutcome) (past : List Entry) (c : Option Check) (x : Request) → check o past ≡ c → request_of o.me e ≡ x
     → refusal o past e ≡ None → Ended o (Met e left ∷ past) c x
 ended_by o e left past (Some c) (ToReport b a j r) is asks fine =
     let end : e ≡ CheckDone b a j r = is_check_done o.me e b a j r asks in

@@ -1,7 +1,7 @@
 -- A server stands for its list with a restart.
 use Rattle.std.proofs.Common.{◌≡◌, sym, subst, inl, ℕ, ◌+◌, ◌-◌, ◌<◌, ◌^◌, arith, false, List, ◌∷◌}
 use Rattle.node.specs.declared.durable.Durable.{Durable}
-use Rattle.disk_model.specs.declared.left.Left.TheVariants.{Saved}
+use Rattle.disk_model.specs.declared.save_outcome.SaveOutcome.TheVariants.{Saved}
 use Rattle.disk_model.specs.Notes.{Note}
 use Rattle.server_core.specs.declared.machine.Machine.{Machine}
 use Rattle.server_core.specs.declared.note.ServerNote.{ServerNote}

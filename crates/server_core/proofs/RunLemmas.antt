@@ -13,7 +13,7 @@ use Rattle.server_core.proofs.NumberedLemmas.{length-numbered}
 use Rattle.std.proofs.lemmas.Option.{slice_get_past}
 use Rattle.fc_base.specs.Counted.{has}
 use Rattle.job_file.specs.declared.job.Job.{Job}
-use Rattle.window.specs.History as window
+use Rattle.engine.specs.History as window
 use Rattle.engine.specs.declared.issue.Issue.{Issue}
 use Rattle.engine.specs.declared.issue.Issue.TheVariants as issues
 use Rattle.engine.specs.Legal.{IsLegal}

@@ -8,7 +8,7 @@ use Rattle.job_file.specs.declared.job.Job.{Job}
 use Rattle.job_file.specs.Laws.{FitsItsWidths}
 use Rattle.verify_state.specs.State.{State as SavedState}
 use Rattle.messages.specs.declared.body.Body.TheVariants as bodies
-use Rattle.messages.specs.declared.refusal.Asked.TheVariants as asks
+use Rattle.messages.specs.declared.refusal.RefusedRequest.TheVariants as asks
 use Rattle.messages.specs.declared.refusal.Reason.TheVariants as reasons
 use Rattle.messages.specs.Ranges.{is_run, is_job_of}
 use Rattle.server_core.specs.Request.{Request}

@@ -10,9 +10,9 @@ use Rattle.job_file.specs.declared.job.Phase.TheVariants.{Read, Write}
 use Rattle.verify_state.specs.State.{State as SavedState}
 use Rattle.messages.specs.declared.body.Body.{Body}
 use Rattle.messages.specs.declared.body.Body.TheVariants as bodies
-use Rattle.messages.specs.declared.refusal.Asked.{Asked}
-use Rattle.messages.specs.declared.refusal.Asked.TheVariants as asks
-use Rattle.disk_model.specs.Left.{is_lost}
+use Rattle.messages.specs.declared.refusal.RefusedRequest.{RefusedRequest}
+use Rattle.messages.specs.declared.refusal.RefusedRequest.TheVariants as asks
+use Rattle.disk_model.specs.SaveOutcome.{is_lost}
 use Rattle.server_core.specs.History.{Opening, Entry, Met, Cut, Restart}
 use Rattle.server_core.specs.Request.{Request, ToStage, ToStart, ToTrigger, ToMark, ToStop, ToVerify}
 use Rattle.server_core.specs.Request.{ToHold, ToPassFully, ToIssue, ToEnd, ToReport, ToNobody, request_of}
@@ -57,7 +57,7 @@ start_frames : (n : Now) (r : ℕ) (w : Option Work) → Each (reply_to_start n 
 start_frames n r (Some w) = (refl, tt)
 start_frames n r None = each_if (nat_le r n.last) _ _ (refl, tt) (new_start r (for_run r n.staged) (is_open n.run))
 
-gone_frames : (a : Asked) (r last : ℕ) → Each (gone_or_unknown a r last)
+gone_frames : (a : RefusedRequest) (r last : ℕ) → Each (gone_or_unknown a r last)
 gone_frames a r last = each_if (nat_le r last) _ _ (refl, tt) (refl, tt)
 
 stop_frames : (n : Now) (r : ℕ) (w : Option Work) → Each (reply_to_stop n r w)

@@ -6,8 +6,8 @@ use Rattle.fc_base.specs.declared.fault.Fault.{Fault}
 use Rattle.fc_base.specs.declared.fault.Fault.TheVariants.{NoMemory, Down}
 use Rattle.fc_base.specs.declared.fault.FaultSort.TheVariants as sorts
 use Rattle.fc_base.specs.Fault.{sort_of}
-use Rattle.disk_model.specs.declared.left.Left.TheVariants.{NoSave}
-use Rattle.disk_model.specs.Left.{saved_for}
+use Rattle.disk_model.specs.declared.save_outcome.SaveOutcome.TheVariants.{NoSave}
+use Rattle.disk_model.specs.SaveOutcome.{saved_for}
 use Rattle.disk_model.specs.Notes.{Note}
 use Rattle.node.specs.Steps.{LeavesNote, Faults, Ends}
 use Rattle.messages.specs.FramesOf.{spelled_frames}

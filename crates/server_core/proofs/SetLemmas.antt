@@ -9,8 +9,8 @@ use Rattle.job_file.specs.declared.job.Phase.{Phase}
 use Rattle.job_file.specs.declared.job.Phase.TheVariants.{Read, Write}
 use Rattle.job_file.specs.JobSet.{jobs_of, phase_in, refusal_of}
 use Rattle.job_file.specs.Laws.{JobsAreWithinLimits, JobsFit}
-use Rattle.disk_model.specs.declared.left.Left.{Left}
-use Rattle.disk_model.specs.declared.left.Left.TheVariants.{NoSave, Saved, LostNew, LostOld}
+use Rattle.disk_model.specs.declared.save_outcome.SaveOutcome.{SaveOutcome}
+use Rattle.disk_model.specs.declared.save_outcome.SaveOutcome.TheVariants.{NoSave, Saved, LostNew, LostOld}
 use Rattle.server_core.specs.Inputs.{PacketInput}
 use Rattle.server_core.specs.History.{Opening, Entry, Met, Cut, Restart}
 use Rattle.server_core.specs.Request.{Request, ToStage, ToStart, ToTrigger, ToMark, ToStop, ToVerify}
@@ -99,7 +99,7 @@ stages_fit Q R A k on last now (ToEnd ticket end) q = tt
 stages_fit Q R A k on last now (ToReport b a j report) q = tt
 stages_fit Q R A k on last now ToNobody q = tt
 
-after_fits : (R : ℕ → Type 0) (left : Left) (new : Option Staged) (older : List Staged) → SomeStaged R new → AllByRecursion (StagedFits R) older
+after_fits : (R : ℕ → Type 0) (left : SaveOutcome) (new : Option Staged) (older : List Staged) → SomeStaged R new → AllByRecursion (StagedFits R) older
     → AllByRecursion (StagedFits R) (staged_after left new older)
 after_fits R NoSave None older h k = k
 after_fits R NoSave (Some s) older h k = (h, k)
@@ -145,7 +145,7 @@ on_fits : (R : ℕ → Type 0) (x : Request) (w : Option Work) → SomeWork R w 
 on_fits R x None h = tt
 on_fits R x (Some w) h = record { run = h.run; jobs = h.jobs }
 
-work_fits : (R : ℕ → Type 0) (left : Left) (d : Option Staged) (me b : ℕ) (x : Request) (w : Option Work) → SomeStaged R d → SomeWork R w
+work_fits : (R : ℕ → Type 0) (left : SaveOutcome) (d : Option Staged) (me b : ℕ) (x : Request) (w : Option Work) → SomeStaged R d → SomeWork R w
     → SomeWork R (work_after left d me b x w)
 work_fits R NoSave d me b x w h k = on_fits R x w k
 work_fits R Saved None me b x w h k = on_fits R x w k
@@ -188,7 +188,7 @@ goes_fit Q R A x (Some c) old q h k = h
 goes_fit Q R A x None None q h k = tt
 goes_fit Q R A x None (Some c) q h k = record { run = k.run; attempt = k.attempt; jobs = k.jobs; since = (q, k.since) }
 
-check_fits : (Q : Request → Type 0) (R A : ℕ → Type 0) (left : Left) (d : Option Staged) (x : Request) (new old : Option Check) → Q x → SomeCheck Q R A new
+check_fits : (Q : Request → Type 0) (R A : ℕ → Type 0) (left : SaveOutcome) (d : Option Staged) (x : Request) (new old : Option Check) → Q x → SomeCheck Q R A new
     → SomeCheck Q R A old → SomeCheck Q R A (check_after left d new x old)
 check_fits Q R A NoSave d x new old q h k = goes_fit Q R A x new old q h k
 check_fits Q R A Saved None x new old q h k = goes_fit Q R A x new old q h k

@@ -8,9 +8,9 @@ use Rattle.fc_base.specs.declared.fault.Fault.TheVariants.{Down}
 use Rattle.fc_base.specs.declared.fault.FaultSort.{FaultSort}
 use Rattle.fc_base.specs.declared.fault.FaultSort.TheVariants as sorts
 use Rattle.fc_base.specs.Fault.{sort_of}
-use Rattle.disk_model.specs.declared.left.Left.{Left}
-use Rattle.disk_model.specs.declared.left.Left.TheVariants.{NoSave, Saved, LostNew, LostOld}
-use Rattle.disk_model.specs.Left.{saved_for, has_new}
+use Rattle.disk_model.specs.declared.save_outcome.SaveOutcome.{SaveOutcome}
+use Rattle.disk_model.specs.declared.save_outcome.SaveOutcome.TheVariants.{NoSave, Saved, LostNew, LostOld}
+use Rattle.disk_model.specs.SaveOutcome.{saved_for, has_new}
 use Rattle.disk_model.specs.Notes.{Note}
 use Rattle.node.specs.Steps.{LeavesNote, Answers, Fails, Faults, Ends}
 use Rattle.messages.specs.FramesOf.{spelled_frames}
@@ -65,14 +65,14 @@ new_says bytes b mine last run s same fits new is =
     record { boot_range = s.boot_range; last_range = fits; spelled = inl (is ∙ ap (λ n. spelling (record { boot = n; last_run = run })) same) }
 
 -- A boot and a run that was recorded are what is noted then.
-to_note : (o : Opening) (past : List Entry) (e : PacketInput) (run : ℕ) (s : Staged) (mine : ℕ) (left : Left) → has_new left ≡ true → mine ≡ boot o past
+to_note : (o : Opening) (past : List Entry) (e : PacketInput) (run : ℕ) (s : Staged) (mine : ℕ) (left : SaveOutcome) → has_new left ≡ true → mine ≡ boot o past
     → IsStart o past e run s
     → noted_as mine run ≡ words_noted o (Met e left ∷ past)
 to_note o past e run s mine left new same d =
     ap (λ b. noted_as b run) same
     ∙ ap (noted_as (boot o past)) (sym (ap (λ x. last_run_after left x (last_run o past)) d.is ∙ by_left left new))
   where
-    by_left : (left : Left) → has_new left ≡ true → last_run_after left (Some s) (last_run o past) ≡ run
+    by_left : (left : SaveOutcome) → has_new left ≡ true → last_run_after left (Some s) (last_run o past) ≡ run
     by_left Saved h = d.run_is
     by_left LostNew h = d.run_is
     by_left LostOld h = cc

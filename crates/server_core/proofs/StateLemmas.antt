@@ -11,9 +11,9 @@ use Rattle.fc_base.specs.CountLaws.{counted_as_listed, possible_as_listed}
 use Rattle.job_file.specs.declared.job.Job.{Job}
 use Rattle.job_file.specs.Laws.{FitsItsWidths}
 use Rattle.write_order.specs.Words.{word}
-use Rattle.window.specs.Counting.{ComesToPossible}
-use Rattle.window.specs.History as window
-use Rattle.window.specs.Legal as rules
+use Rattle.engine.specs.Counting.{ComesToPossible}
+use Rattle.engine.specs.History as window
+use Rattle.engine.specs.WindowRules as rules
 use Rattle.messages.specs.Ranges.{is_run, is_word}
 use Rattle.verify_state.specs.State.{IsState, has_come_by}
 use Rattle.engine.specs.Legal.{KeepsToItsJob}

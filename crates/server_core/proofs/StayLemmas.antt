@@ -3,8 +3,8 @@ use Rattle.std.proofs.Common.{◌≡◌, refl, ◌∙◌, ap, ℕ, ◌≤◌, ar
 use Rattle.std.specs.Prelude.{is_some}
 use Rattle.std.specs.Option.{option_or}
 use Rattle.std.proofs.lemmas.Bool.{eqb-true}
-use Rattle.disk_model.specs.declared.left.Left.{Left}
-use Rattle.disk_model.specs.declared.left.Left.TheVariants.{NoSave, Saved, LostNew, LostOld}
+use Rattle.disk_model.specs.declared.save_outcome.SaveOutcome.{SaveOutcome}
+use Rattle.disk_model.specs.declared.save_outcome.SaveOutcome.TheVariants.{NoSave, Saved, LostNew, LostOld}
 use Rattle.server_core.specs.History.{Opening, Entry, Met, Cut, Restart}
 use Rattle.server_core.specs.Request.{Request, request_of}
 use Rattle.server_core.specs.Run.{Work, Halt, halt_by, halt_of, goes_on}
@@ -23,7 +23,7 @@ over_on : (r : ℕ) (x : Request) (w : Option Work) → IsOver r w → IsOver r 
 over_on r x None h = tt
 over_on r x (Some w) h = λ e. still (halt_of w.run w.since) (halt_by w.run x w.since) (h e)
 
-over_after : (r last : ℕ) (left : Left) (d : Option Staged) (me b : ℕ) (x : Request) (w : Option Work) → r ≤ last
+over_after : (r last : ℕ) (left : SaveOutcome) (d : Option Staged) (me b : ℕ) (x : Request) (w : Option Work) → r ≤ last
     → ((s : Staged) → d ≡ Some s → IsStart last x s) → IsOver r w → IsOver r (work_after left d me b x w)
 over_after r last NoSave d me b x w l f h = over_on r x w h
 over_after r last Saved None me b x w l f h = over_on r x w h

@@ -4,8 +4,8 @@ use Rattle.std.specs.Prelude.{if◌then◌else◌}
 use Rattle.std.specs.Option.{option_or}
 use Rattle.std.proofs.lemmas.Bool.{eqb-true}
 use Rattle.verify_state.specs.State.{State}
-use Rattle.disk_model.specs.declared.left.Left.{Left}
-use Rattle.disk_model.specs.declared.left.Left.TheVariants.{NoSave, Saved, LostNew, LostOld}
+use Rattle.disk_model.specs.declared.save_outcome.SaveOutcome.{SaveOutcome}
+use Rattle.disk_model.specs.declared.save_outcome.SaveOutcome.TheVariants.{NoSave, Saved, LostNew, LostOld}
 use Rattle.node.proofs.StepLemmas.{and_true}
 use Rattle.server_core.specs.History.{Opening, Entry, Met, Cut, Restart}
 use Rattle.server_core.specs.Request.{Request, ToStage, ToStart, ToTrigger, ToMark, ToStop, ToVerify}
@@ -118,7 +118,7 @@ no_taking r j q None = refl
 no_taking r j q (Some w) = no_taking_at (w.run == r) w j (halt_of w.run w.since)
 
 -- An input with nothing due.
-not_begun : (r j last : ℕ) (states : List State) (left : Left) (me now_boot : ℕ) (x : Request) (w : Option Work) → Known r j last states w
+not_begun : (r j last : ℕ) (states : List State) (left : SaveOutcome) (me now_boot : ℕ) (x : Request) (w : Option Work) → Known r j last states w
     → Known r j last (and_those (takes r j x w) states) (work_after left None me now_boot x w)
 not_begun r j last states NoSave me now_boot x w k = kept_on r j last states x w k
 not_begun r j last states Saved me now_boot x w k = kept_on r j last states x w k
@@ -126,7 +126,7 @@ not_begun r j last states LostNew me now_boot x w k = few r j last _ (goes_on x 
 not_begun r j last states LostOld me now_boot x w k = few r j last _ (goes_on x w) (kept_on r j last states x w k)
 
 -- A Start that is due.
-to_begin : (r j last : ℕ) (states : List State) (left : Left) (s : Staged) (me now_boot : ℕ) (w : Option Work) → last < s.run → Known r j last states w
+to_begin : (r j last : ℕ) (states : List State) (left : SaveOutcome) (s : Staged) (me now_boot : ℕ) (w : Option Work) → last < s.run → Known r j last states w
     → Known r j (last_run_after left (Some s) last) states (work_after left (Some s) me now_boot (ToStart s.run) w)
 to_begin r j last states NoSave s me now_boot w h k =
     subst (λ o. Known r j last (and_those o states) (goes_on (ToStart s.run) w)) (no_taking r j s.run w) (kept_on r j last states (ToStart s.run) w k)
@@ -137,7 +137,7 @@ to_begin r j last states Saved s me now_boot w h k = record {
 to_begin r j last states LostNew s me now_boot w h k = raised r last s.run states (omega arith) (few r j last states w k)
 to_begin r j last states LostOld s me now_boot w h k = few r j last states w k
 
-met : (r j last : ℕ) (states : List State) (left : Left) (d : Option Staged) (me now_boot : ℕ) (x : Request) (w : Option Work)
+met : (r j last : ℕ) (states : List State) (left : SaveOutcome) (d : Option Staged) (me now_boot : ℕ) (x : Request) (w : Option Work)
     → ((s : Staged) → d ≡ Some s → IsStart last x s) → Known r j last states w
     → Known r j (last_run_after left d last) (and_those (takes r j x w) states) (work_after left d me now_boot x w)
 met r j last states left None me now_boot x w f k = not_begun r j last states left me now_boot x w k

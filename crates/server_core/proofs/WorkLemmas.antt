@@ -1,8 +1,8 @@
 -- The present run is the last run, of this server and boot.
 use Rattle.server_core.specs.Laws.{IsPresent}
 use Rattle.std.proofs.Common.{◌≡◌, refl, sym, subst, ℕ, List, [], ◌∷◌, Option, None, Some}
-use Rattle.disk_model.specs.declared.left.Left.{Left}
-use Rattle.disk_model.specs.declared.left.Left.TheVariants.{NoSave, Saved, LostNew, LostOld}
+use Rattle.disk_model.specs.declared.save_outcome.SaveOutcome.{SaveOutcome}
+use Rattle.disk_model.specs.declared.save_outcome.SaveOutcome.TheVariants.{NoSave, Saved, LostNew, LostOld}
 use Rattle.server_core.specs.History.{Opening, Entry, Met, Cut, Restart}
 use Rattle.server_core.specs.Request.{Request, request_of}
 use Rattle.server_core.specs.Run.{Work, goes_on}
@@ -20,7 +20,7 @@ pub unsaved : (d : Option Staged) (last : ℕ) → last_run_after NoSave d last 
 unsaved None last = refl
 unsaved (Some s) last = refl
 
-after_of : (me now_boot last : ℕ) (left : Left) (d : Option Staged) (x : Request) (w : Option Work) → Of me now_boot last w
+after_of : (me now_boot last : ℕ) (left : SaveOutcome) (d : Option Staged) (x : Request) (w : Option Work) → Of me now_boot last w
     → Of me now_boot (last_run_after left d last) (work_after left d me now_boot x w)
 after_of me now_boot last NoSave d x w h = subst (λ l. Of me now_boot l (goes_on x w)) (sym (unsaved d last)) (goes_on_of me now_boot last x w h)
 after_of me now_boot last Saved None x w h = goes_on_of me now_boot last x w h

@@ -7,8 +7,8 @@ use Rattle.verify_state.specs.State.{State}
 use Rattle.server_core.specs.Inputs.{PacketInput}
 use Rattle.server_core.specs.declared.input.Input.TheVariants.{Deliver, Issue, WriteDone, CheckDone}
 use Rattle.server_core.specs.declared.input.WriteEnd.TheVariants.{Done, Failed}
-use Rattle.disk_model.specs.declared.left.Left.{Left}
-use Rattle.disk_model.specs.declared.left.Left.TheVariants.{Saved}
+use Rattle.disk_model.specs.declared.save_outcome.SaveOutcome.{SaveOutcome}
+use Rattle.disk_model.specs.declared.save_outcome.SaveOutcome.TheVariants.{Saved}
 use Rattle.server_core.specs.History.{Opening, Entry, Met, Cut, Restart}
 use Rattle.server_core.specs.Request.{request_of}
 use Rattle.server_core.specs.Words.{Staged, due, work}
@@ -38,7 +38,7 @@ pub record IsTaking (opening : Opening) (run j : ℕ) (list : List Entry)
     (state : State) : Type 0 where
   pub newer : List Entry
   pub trigger : PacketInput
-  pub left : Left
+  pub left : SaveOutcome
   pub between : List Entry
   pub start : PacketInput
   pub older : List Entry

@@ -5,7 +5,7 @@ use Rattle.fc_base.specs.declared.fault.Fault.{Fault}
 use Rattle.fc_base.specs.declared.fault.Fault.TheVariants.{Down, Misdirected, OldBoot, NotInFlight}
 use Rattle.fc_base.specs.Counted.{has, numbers_below}
 use Rattle.job_file.specs.declared.job.Job.{Job}
-use Rattle.window.specs.History as window
+use Rattle.engine.specs.History as window
 use Rattle.engine.specs.declared.issue.Ticket.{Ticket}
 use Rattle.engine.specs.declared.issue.Issue.{Issue}
 use Rattle.engine.specs.declared.issue.Issue.TheVariants as issues
@@ -19,7 +19,7 @@ use Rattle.server_core.specs.Inputs.{PacketInput}
 use Rattle.server_core.specs.declared.status.Stage.{Stage}
 use Rattle.server_core.specs.declared.status.Stage.TheVariants as stages
 use Rattle.server_core.specs.declared.status.Status.{Status}
-use Rattle.disk_model.specs.Left.{is_lost}
+use Rattle.disk_model.specs.SaveOutcome.{is_lost}
 use Rattle.server_core.specs.History.{Opening, Entry, Met, Cut, Restart}
 use Rattle.server_core.specs.Request.{Request, ToMark, ToIssue, ToEnd, ToReport, ToNobody, request_of}
 use Rattle.server_core.specs.Run.{Work, Halt, Triggered, Stopped, halt_of, is_halted, origin_of, history}

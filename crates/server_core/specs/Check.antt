@@ -6,8 +6,8 @@ use Rattle.fc_base.specs.Fault.{number_of}
 use Rattle.job_file.specs.declared.job.Job.{Job}
 use Rattle.job_file.specs.declared.job.Phase.TheVariants.{Read}
 use Rattle.verify_state.specs.State.{State}
-use Rattle.disk_model.specs.declared.left.Left.{Left}
-use Rattle.disk_model.specs.declared.left.Left.TheVariants.{NoSave, Saved, LostNew, LostOld}
+use Rattle.disk_model.specs.declared.save_outcome.SaveOutcome.{SaveOutcome}
+use Rattle.disk_model.specs.declared.save_outcome.SaveOutcome.TheVariants.{NoSave, Saved, LostNew, LostOld}
 use Rattle.server_core.specs.History.{Opening, Entry, Met, Cut, Restart}
 use Rattle.server_core.specs.Request.{Request, ToVerify, ToHold, ToPassFully, ToReport, request_of}
 use Rattle.server_core.specs.Texts.{jobs_for}
@@ -119,7 +119,7 @@ or_opened None older = older
 or_opened (Some new) older = Some new
 
 -- The open check behind a request: a Start that is accepted closes it; a failed save ends the life.
-abbrev pub check_after : Left → Option Staged → Option Check → Request → Option Check → Option Check
+abbrev pub check_after : SaveOutcome → Option Staged → Option Check → Request → Option Check → Option Check
 check_after NoSave due new x older = or_opened new (check_goes_on x older)
 check_after Saved None new x older = or_opened new (check_goes_on x older)
 check_after Saved (Some s) new x older = None

@@ -16,7 +16,8 @@ pub record IsDueStart (on : Bool) (last : ℕ) (found : Option Staged) (now : Op
   pub above : last < s.run
   pub none_open : is_open now ≡ false
 
--- So it is where an input is due to record a run.
+-- Where an input is due to record a run, it is a Start of the staged run, of a number above the
+-- last one, at a server that is on and has no open write.
 abbrev pub DueIsStart : Type 0
 DueIsStart =
     (opening : Opening) (past : List Entry) (e : PacketInput) (s : Staged) →

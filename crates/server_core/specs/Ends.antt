@@ -7,8 +7,8 @@ use Rattle.fc_base.specs.declared.fault.Fault.TheVariants.{NoMemory, LoadFault, 
 use Rattle.fc_base.specs.declared.fault.FaultSort.{FaultSort}
 use Rattle.fc_base.specs.declared.fault.FaultSort.TheVariants as sorts
 use Rattle.fc_base.specs.Fault.{sort_of}
-use Rattle.disk_model.specs.declared.left.Left.TheVariants.{Saved}
-use Rattle.disk_model.specs.Left.{saved_for}
+use Rattle.disk_model.specs.declared.save_outcome.SaveOutcome.TheVariants.{Saved}
+use Rattle.disk_model.specs.SaveOutcome.{saved_for}
 use Rattle.disk_model.specs.Notes.{Note}
 use Rattle.node.specs.Steps.{Steps}
 use Rattle.messages.specs.FramesOf.{spelled_frames}

@@ -9,10 +9,10 @@ use Rattle.messages.specs.declared.body.Body.{Body}
 use Rattle.messages.specs.declared.body.Body.TheVariants as bodies
 use Rattle.messages.specs.declared.node.Node.TheVariants.{Server, Client}
 use Rattle.messages.specs.declared.refusal.Act.TheVariants as acts
-use Rattle.messages.specs.declared.refusal.Asked.TheVariants as asks
+use Rattle.messages.specs.declared.refusal.RefusedRequest.TheVariants as asks
 use Rattle.messages.specs.declared.refusal.Reason.TheVariants as reasons
-use Rattle.disk_model.specs.declared.left.Left.{Left}
-use Rattle.disk_model.specs.declared.left.Left.TheVariants.{NoSave, Saved, LostNew, LostOld}
+use Rattle.disk_model.specs.declared.save_outcome.SaveOutcome.{SaveOutcome}
+use Rattle.disk_model.specs.declared.save_outcome.SaveOutcome.TheVariants.{NoSave, Saved, LostNew, LostOld}
 use Rattle.server_core.specs.Inputs.{PacketInput}
 use Rattle.server_core.specs.declared.input.Input.TheVariants.{Deliver, Issue, WriteDone}
 use Rattle.server_core.specs.declared.input.WriteEnd.TheVariants.{Done, Failed}
@@ -30,7 +30,7 @@ blank = record { me = 0; boot = 0; last = 0 }
 abbrev pub writing_text : List ℕ
 writing_text = codes "[a]\nrw=write\nbs=512\nsize=1k\niodepth=2\n"
 
--- The job that checks it.
+-- A job that checks two blocks of 512 bytes by its state.
 abbrev pub reading_text : List ℕ
 reading_text = codes "[a]\nrw=read\nbs=512\nsize=1k\niodepth=2\nverify_state_load=1\n"
 
@@ -55,11 +55,11 @@ sent_bodies past e = map (λ p. p.body) (packets blank past (answered_entry past
 abbrev pub stage : PacketInput
 stage = client_says (bodies.Jobs 1 writing_text)
 
--- It asks to start it.
+-- The client asks to start run 1.
 abbrev pub start : PacketInput
 start = client_says (bodies.Start 1)
 
--- It asks to check it, in attempt 1.
+-- The client asks to check run 1, in attempt 1.
 abbrev pub verify : PacketInput
 verify = client_says (bodies.Verify 1 1 reading_text)
 
@@ -68,10 +68,10 @@ abbrev pub after_stage : List Entry
 after_stage = with_inputs (Restart Saved ∷ []) (stage ∷ [])
 
 -- The save of its Start failed, and the server was restarted.
-abbrev pub after_lost_start : Left → List Entry
+abbrev pub after_lost_start : SaveOutcome → List Entry
 after_lost_start left = Restart Saved ∷ (Met start left ∷ after_stage)
 
--- Or it was started.
+-- The server was restarted, and run 1 was staged and started.
 abbrev pub after_start : List Entry
 after_start = with_inputs after_stage (start ∷ [])
 

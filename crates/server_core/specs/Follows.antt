@@ -1,6 +1,6 @@
 -- The words behind one more input are read from the words before it.
 use Rattle.std.specs.Prelude.{◌≡◌, true, List, ◌∷◌, Some, None}
-use Rattle.disk_model.specs.declared.left.Left.TheVariants.{NoSave, Saved}
+use Rattle.disk_model.specs.declared.save_outcome.SaveOutcome.TheVariants.{NoSave, Saved}
 use Rattle.server_core.specs.Inputs.{PacketInput}
 use Rattle.server_core.specs.History.{Opening, Entry, Met}
 use Rattle.server_core.specs.Request.{request_of}
@@ -15,7 +15,7 @@ WordsFollow =
     is_on past ≡ true → due opening past e ≡ None
     → now opening (Met e NoSave ∷ past) ≡ words_after (now opening past) (request_of opening.me e)
 
--- So are the words behind a Start whose run was saved.
+-- The words behind a Start whose run was saved are read from the words before it.
 abbrev pub StartsFollow : Type 0
 StartsFollow =
     (opening : Opening) (past : List Entry) (e : PacketInput) (s : Staged) →

@@ -1,7 +1,7 @@
 -- What a server answers to what comes over a network of frames: as to the packets that it hears.
 use Rattle.std.specs.Prelude.{Bool, List, Option, None, is_some}
 use Rattle.fc_base.specs.declared.fault.Fault.{Fault}
-use Rattle.disk_model.specs.Left.{saved_for}
+use Rattle.disk_model.specs.SaveOutcome.{saved_for}
 use Rattle.engine.specs.declared.issue.Issue.{Issue as Answer}
 use Rattle.messages.specs.declared.refusal.Act.{Act}
 use Rattle.messages.specs.declared.refusal.Act.TheVariants as acts
@@ -54,7 +54,7 @@ answered_entry opening past e = Met e (saved_for (due opening past e))
 abbrev pub entry_heard : Opening → List FrameEntry → FrameEntry → Option history.Entry
 entry_heard opening past e = entry_of (rules opening) (heard_at opening past) (coming_of e)
 
--- The frames that are sent.
+-- The frames that a server sends with one more entry of its list.
 abbrev pub frames : Opening → List FrameEntry → FrameEntry → List Frame
 frames opening past e =
     frames_by (answers.packets opening) (packets_heard opening past) (entry_heard opening past e)

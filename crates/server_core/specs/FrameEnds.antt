@@ -1,7 +1,7 @@
 -- Which lists of frames a server stands for, and how its step ends.
 use Rattle.std.specs.Prelude.{◌≡◌, ℕ, ◌+◌, List, ◌∷◌, map, Result, Ok, Err}
 use Rattle.fc_base.specs.declared.fault.Fault.{Fault}
-use Rattle.disk_model.specs.declared.left.Left.TheVariants.{Saved}
+use Rattle.disk_model.specs.declared.save_outcome.SaveOutcome.TheVariants.{Saved}
 use Rattle.disk_model.specs.Notes.{Note}
 use Rattle.node.specs.Steps.{Words, Steps}
 use Rattle.messages.specs.FrameBytes.{frame_spelling}

@@ -6,7 +6,7 @@ use Rattle.messages.specs.declared.piece.PieceParts.{PieceParts}
 use Rattle.messages.specs.Assemblies.{Row}
 use Rattle.messages.specs.Hearing.{Rules, Heard, Coming, Happens, heard}
 use Rattle.messages.specs.Senses.{Arrival, Framed, Unframed, coming}
-use Rattle.disk_model.specs.declared.left.Left.{Left}
+use Rattle.disk_model.specs.declared.save_outcome.SaveOutcome.{SaveOutcome}
 use Rattle.server_core.specs.Inputs.{PacketInput, FrameInput}
 use Rattle.server_core.specs.declared.input.Input.TheVariants as inputs
 use Rattle.server_core.specs.declared.input.Input.TheVariants.{Deliver, Issue, WriteDone, CheckDone}
@@ -17,9 +17,9 @@ use Rattle.server_core.specs.Answers.{refusal}
 
 -- What came to a server, with what its save left; a cut; a restart with what its save left.
 pub data FrameEntry : Type 0 where
-  Met : FrameInput → Left → FrameEntry
+  Met : FrameInput → SaveOutcome → FrameEntry
   Cut : FrameEntry
-  Restart : Left → FrameEntry
+  Restart : SaveOutcome → FrameEntry
 
 -- A piece is for this server: it is from the client to it, of a kind that the client sends.
 abbrev pub is_piece_for : ℕ → PieceParts → Bool
@@ -32,7 +32,7 @@ is_end history.Cut = true
 is_end (history.Restart left) = true
 
 -- How a server hears.
-abbrev pub rules : Opening → Rules PacketInput history.Entry Left
+abbrev pub rules : Opening → Rules PacketInput history.Entry SaveOutcome
 rules opening = record {
   delivers = inputs.Deliver;
   met = history.Met;
@@ -50,7 +50,7 @@ arrival (WriteDone ticket end) = Unframed (inputs.WriteDone ticket end)
 arrival (CheckDone boot a j report) = Unframed (inputs.CheckDone boot a j report)
 
 -- What happens to a server, in the terms of hearing.
-abbrev pub coming_of : FrameEntry → Coming history.Entry Left
+abbrev pub coming_of : FrameEntry → Coming history.Entry SaveOutcome
 coming_of (Met e left) = coming history.Met (arrival e) left
 coming_of Cut = Happens history.Cut
 coming_of (Restart left) = Happens (history.Restart left)
@@ -63,7 +63,7 @@ heard_at opening past = heard (rules opening) (map coming_of past)
 abbrev pub packets_heard : Opening → List FrameEntry → List history.Entry
 packets_heard opening past = (heard_at opening past).entries
 
--- It is on, by the list.
+-- The server is on, by its list of frames.
 abbrev pub is_up : Opening → List FrameEntry → Bool
 is_up opening past = is_on (packets_heard opening past)
 

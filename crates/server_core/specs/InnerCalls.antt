@@ -4,12 +4,12 @@ use Rattle.std.specs.declared.alloc.AllocError.{AllocError}
 use Rattle.fc_base.specs.declared.fault.Fault.{Fault}
 use Rattle.fc_base.specs.declared.fault.Fault.TheVariants.{NoMemory}
 use Rattle.messages.specs.declared.body.Body.{Body}
-use Rattle.messages.specs.declared.refusal.Asked.{Asked}
-use Rattle.messages.specs.declared.refusal.Asked.TheVariants as asks
+use Rattle.messages.specs.declared.refusal.RefusedRequest.{RefusedRequest}
+use Rattle.messages.specs.declared.refusal.RefusedRequest.TheVariants as asks
 use Rattle.messages.specs.declared.refusal.Reason.{Reason}
 use Rattle.messages.specs.declared.refusal.Reason.TheVariants as reasons
-use Rattle.server_core.specs.declared.machine.stage.Staging.{Staging}
-use Rattle.server_core.specs.declared.machine.verify.Verifying.{Verifying}
+use Rattle.server_core.specs.declared.machine.stage.StagePlan.{StagePlan}
+use Rattle.server_core.specs.declared.machine.verify.VerifyPlan.{VerifyPlan}
 use Rattle.server_core.specs.Framed.{frames_to_client}
 use Rattle.fc_base.specs.Fault.{number_of}
 use Rattle.job_file.specs.declared.fault.JobFault.{JobFault}
@@ -35,7 +35,7 @@ IsAnswer now x (Ok _) = refusal_of now x ≡ None
 IsAnswer now x (Err fault) = (fault ≡ NoMemory) ⊎ (refusal_of now x ≡ Some fault)
 
 -- The request is of a run, and names no attempt.
-abbrev pub IsOfRun : Asked → Type 0
+abbrev pub IsOfRun : RefusedRequest → Type 0
 IsOfRun asks.Verify = ⊥
 IsOfRun _ = Unit {0}
 
@@ -51,7 +51,7 @@ LacksJobs phase text (Err fault) =
     (fault ≡ NoMemory) ⊎ (jobs_for phase text ≡ Err (number_of fault))
 
 -- These frames are sent, and nothing is staged.
-abbrev pub frames_without_staging : Result (List (List ℕ)) AllocError → Result Staging Fault
+abbrev pub frames_without_staging : Result (List (List ℕ)) AllocError → Result StagePlan Fault
 frames_without_staging (Ok frames) = Ok (record { frames = frames; new = None })
 frames_without_staging (Err _) = Err NoMemory
 
@@ -66,7 +66,7 @@ frame_now j p None = []
 frame_now j p (Some c) = progress_frame c j p
 
 -- These frames are sent, and no check is opened.
-abbrev pub frames_without_check : Result (List (List ℕ)) AllocError → Result Verifying Fault
+abbrev pub frames_without_check : Result (List (List ℕ)) AllocError → Result VerifyPlan Fault
 frames_without_check (Ok frames) = Ok (record { frames = frames; new = None })
 frames_without_check (Err _) = Err NoMemory
 
@@ -76,7 +76,7 @@ checked_again None = []
 checked_again (Some c) = check_frames c
 
 -- A check of these jobs is opened, and told.
-pub record Opened (me now_boot r a : ℕ) (jobs : List Job) (v : Verifying) : Type 0 where
+pub record Opened (me now_boot r a : ℕ) (jobs : List Job) (v : VerifyPlan) : Type 0 where
   pub check_is : OpenIs me now_boot v.new (new_check me now_boot r a (Ok jobs))
   pub frames_are : v.frames ≡ frames_to_client me
       (checked_again (new_check me now_boot r a (Ok jobs)))

@@ -3,7 +3,7 @@ use Rattle.server_core.specs.declared.run.Run.TheInside.{Inside}
 use Rattle.server_core.specs.Run.{Work}
 use Rattle.server_core.specs.Kept.{Kept, RunIs}
 
--- What the fields show.
+-- What the fields of a run show.
 abbrev pub kept_in : Inside → Kept
 kept_in run = record { number = run.number; end = run.end; jobs = run.jobs; kept = run.kept.items }
 

@@ -5,7 +5,7 @@ use Rattle.messages.specs.Ranges.{is_run, is_attempt}
 use Rattle.server_core.specs.declared.open_check.OpenCheck.TheInside.{Inside}
 use Rattle.server_core.specs.KeptCheck.{CheckKept, progress_of}
 
--- What the fields show.
+-- What the fields of an open check show.
 abbrev pub check_in : Inside → CheckKept
 check_in check = record {
   run = check.run;

@@ -82,11 +82,11 @@ state_or None save now = if save then Some now else None
 abbrev pub state_kept : JobRun → Option State
 state_kept k = state_or k.taken k.save (state_now k.engine)
 
--- The same job, which issues no more writes.
+-- What is kept of a job, once it issues no more writes.
 abbrev pub stopped_kept : JobRun → JobRun
 stopped_kept k = record k { engine = record k.engine { stopped = true } }
 
--- The same job, whose state is taken, and which issues no more writes.
+-- What is kept of a job, once its state is taken and it issues no more writes.
 abbrev pub taken_kept : JobRun → JobRun
 taken_kept k = stopped_kept (record k { taken = state_kept k })
 

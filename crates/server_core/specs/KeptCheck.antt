@@ -3,7 +3,7 @@ use Rattle.std.specs.Prelude.{◌≡◌, ℕ, ◌==◌, ◌&&◌, Bool, true, fa
 use Rattle.fc_base.specs.Fault.{number_of}
 use Rattle.job_file.specs.declared.job.Job.{Job}
 use Rattle.messages.specs.declared.refusal.Refusal.{Refusal}
-use Rattle.messages.specs.declared.refusal.Asked.TheVariants.{Verify}
+use Rattle.messages.specs.declared.refusal.RefusedRequest.TheVariants.{Verify}
 use Rattle.messages.specs.declared.refusal.Reason.TheVariants.{Misfit}
 use Rattle.verify_state.specs.State.{State}
 use Rattle.verify_state.specs.Misfit.{misfit}
@@ -67,7 +67,7 @@ wants_in kept attempt job = (attempt == kept.attempt) && is_wanting (slice_get k
 abbrev pub ready_in : CheckKept → ℕ → ℕ → Bool
 ready_in kept attempt job = (kept.attempt == attempt) && is_ready (slice_get kept.progress job)
 
--- The same of the open check, if there is one.
+-- There is an open check by which the check of the job may be made, in this attempt.
 abbrev pub ready_now : Option CheckKept → ℕ → ℕ → Bool
 ready_now None attempt job = false
 ready_now (Some kept) attempt job = ready_in kept attempt job
@@ -97,7 +97,7 @@ misfit_of kept j value = record {
   value = value;
 }
 
--- The same of the open check, if there is one.
+-- What a state that comes in an attempt makes of its job, where the open check waits for one.
 abbrev pub judgement_now : ℕ → Option CheckKept → ℕ → State → Option Progress
 judgement_now me None attempt state = None
 judgement_now me (Some kept) attempt state = judgement me kept attempt state

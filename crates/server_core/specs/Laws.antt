@@ -6,8 +6,8 @@ use Rattle.fc_base.specs.JobParts.{is_within_limits}
 use Rattle.job_file.specs.declared.job.Job.{Job}
 use Rattle.job_file.specs.declared.job.Phase.{Phase}
 use Rattle.job_file.specs.Laws.{AreWithinLimits, FitsItsWidths}
-use Rattle.disk_model.specs.declared.left.Left.{Left}
-use Rattle.disk_model.specs.Left.{has_new}
+use Rattle.disk_model.specs.declared.save_outcome.SaveOutcome.{SaveOutcome}
+use Rattle.disk_model.specs.SaveOutcome.{has_new}
 use Rattle.verify_state.specs.State.{State}
 use Rattle.engine.specs.declared.issue.Issue.{Issue}
 use Rattle.engine.specs.Answers.{is_write}
@@ -41,7 +41,7 @@ NumbersGrow =
 -- once.
 abbrev pub StartsOnce : Type 0
 StartsOnce =
-    (opening : Opening) (older between : List Entry) (e f : PacketInput) (left : Left) (s t : Staged) →
+    (opening : Opening) (older between : List Entry) (e f : PacketInput) (left : SaveOutcome) (s t : Staged) →
     has_new left ≡ true → due opening older e ≡ Some s
     → due opening (between ++ Met e left ∷ older) f ≡ Some t → s.run < t.run
 
@@ -51,7 +51,7 @@ pub record IsPresent (me now_boot last : ℕ) (w : Work) : Type 0 where
   pub boot_is : w.boot ≡ now_boot
   pub run : w.run ≡ last
 
--- So it is with the present run.
+-- The present run is the last run, of this server and boot.
 abbrev pub PresentIsLast : Type 0
 PresentIsLast =
     (opening : Opening) (past : List Entry) (w : Work) →
@@ -138,18 +138,18 @@ abbrev pub TextsGiveSets : Type 0
 TextsGiveSets =
     (phase : Phase) (text : List ℕ) (jobs : List Job) → jobs_for phase text ≡ Ok jobs → IsSet jobs
 
--- So are the jobs that are staged.
+-- The jobs that are staged are a set.
 abbrev pub StagingsHaveSets : Type 0
 StagingsHaveSets =
     (opening : Opening) (past : List Entry) (s : Staged) → staged_run opening past ≡ Some s →
     IsSet s.jobs
 
--- So are the jobs of the present run.
+-- The jobs of the present run are a set.
 abbrev pub RunsHaveSets : Type 0
 RunsHaveSets = (opening : Opening) (past : List Entry) (w : Work) → work opening past ≡ Some w →
     IsSet w.jobs
 
--- And so are those of the open check.
+-- The jobs of the open check are a set.
 abbrev pub ChecksHaveSets : Type 0
 ChecksHaveSets =
     (opening : Opening) (past : List Entry) (c : Check) → check opening past ≡ Some c → IsSet c.jobs
@@ -176,7 +176,7 @@ gives_write (Some answer) = is_write answer
 -- that one.
 abbrev pub QuietWhileLast : Type 0
 QuietWhileLast =
-    (opening : Opening) (older between : List Entry) (trigger e : PacketInput) (was : Left) (run j : ℕ)
+    (opening : Opening) (older between : List Entry) (trigger e : PacketInput) (was : SaveOutcome) (run j : ℕ)
     (state : State) →
     takes run j (request_of opening.me trigger) (work opening older) ≡ Some state
     → last_run opening (between ++ Met trigger was ∷ older) ≡ run
@@ -186,7 +186,7 @@ QuietWhileLast =
 -- write is issued, of any job or run.
 abbrev pub QuietUntilChecked : Type 0
 QuietUntilChecked =
-    (opening : Opening) (older between newer : List Entry) (trigger e : PacketInput) (was left : Left)
+    (opening : Opening) (older between newer : List Entry) (trigger e : PacketInput) (was left : SaveOutcome)
     (run j i : ℕ) (state with_it : State) →
     takes run j (request_of opening.me trigger) (work opening older) ≡ Some state
     → progress opening (newer ++ Met e left ∷ (between ++ Met trigger was ∷ older)) i

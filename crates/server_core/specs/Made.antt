@@ -3,7 +3,7 @@ use Rattle.std.specs.Prelude.{◌≡◌, ℕ, List, ◌∷◌, ◌++◌, Contain
 use Rattle.fc_base.specs.declared.report.ReportParts.{ReportParts}
 use Rattle.messages.specs.declared.packet.PacketParts.{PacketParts}
 use Rattle.messages.specs.declared.body.Body.TheVariants as bodies
-use Rattle.disk_model.specs.declared.left.Left.{Left}
+use Rattle.disk_model.specs.declared.save_outcome.SaveOutcome.{SaveOutcome}
 use Rattle.server_core.specs.declared.input.Input.TheVariants.{CheckDone}
 use Rattle.server_core.specs.History.{Opening, Entry, Met}
 use Rattle.server_core.specs.Check.{Check, check}
@@ -15,7 +15,7 @@ pub record WasMade (opening : Opening) (list : List Entry) (run attempt j : ℕ)
     (report : ReportParts) : Type 0 where
   pub newer : List Entry
   pub boot : ℕ
-  pub left : Left
+  pub left : SaveOutcome
   pub older : List Entry
   pub split : list ≡ newer ++ Met (CheckDone boot attempt j report) left ∷ older
   pub now : Check

@@ -6,7 +6,7 @@ use Rattle.server_core.specs.declared.server.Server.{Server}
 use Rattle.server_core.specs.History.{Opening}
 use Rattle.server_core.specs.Note.{Says}
 use Rattle.server_core.specs.Words.{Staged, words_noted}
-use Rattle.server_core.specs.Hearing.{FrameEntry, packets_heard}
+use Rattle.server_core.specs.Hearing.{FrameEntry, Cut, packets_heard}
 use Rattle.server_core.specs.FrameEnds.{steps}
 use Rattle.node.specs.Kinds.{Kind}
 
@@ -17,4 +17,5 @@ server_kind note opening = record {
   core = steps note opening;
   note = note;
   Says = λ past notes. Says (note notes).bytes (words_noted opening (packets_heard opening past));
+  cut = Cut;
 }

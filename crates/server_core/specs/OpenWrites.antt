@@ -3,7 +3,7 @@ use Rattle.std.specs.Prelude.{◌≡◌, ℕ, List, Option, Some, None, slice_ge
 use Rattle.std.specs.Option.{option_map}
 use Rattle.fc_base.specs.Counted.{has}
 use Rattle.job_file.specs.declared.job.Job.{Job}
-use Rattle.window.specs.History.{open_writes}
+use Rattle.engine.specs.History.{open_writes}
 use Rattle.engine.specs.declared.issue.Ticket.{Ticket}
 use Rattle.engine.specs.Running.{Origin}
 use Rattle.engine.specs.Answers.{ticket_of}
@@ -28,7 +28,7 @@ open_origin (Some w) j k = open_origin_of w j k (slice_get w.jobs j)
 abbrev pub open_ticket : Option Work → ℕ → ℕ → Option Ticket
 open_ticket now j k = option_map (λ origin. ticket_of origin k) (open_origin now j k)
 
--- The same of the present run.
+-- The ticket of write k of job j of the present run, if it is open.
 abbrev pub open_write : Opening → List Entry → ℕ → ℕ → Option Ticket
 open_write opening past j k = open_ticket (work opening past) j k
 

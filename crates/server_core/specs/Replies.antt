@@ -7,8 +7,8 @@ use Rattle.job_file.specs.declared.job.Phase.TheVariants.{Read, Write}
 use Rattle.verify_state.specs.State.{State as SavedState}
 use Rattle.messages.specs.declared.body.Body.{Body}
 use Rattle.messages.specs.declared.body.Body.TheVariants.{JobsOk, Started, State, NoState, Stopped, WantState, Report, Refused}
-use Rattle.messages.specs.declared.refusal.Asked.{Asked}
-use Rattle.messages.specs.declared.refusal.Asked.TheVariants.{Jobs, Start, Trigger, Stop, Verify}
+use Rattle.messages.specs.declared.refusal.RefusedRequest.{RefusedRequest}
+use Rattle.messages.specs.declared.refusal.RefusedRequest.TheVariants.{Jobs, Start, Trigger, Stop, Verify}
 use Rattle.messages.specs.declared.refusal.Reason.{Reason}
 use Rattle.messages.specs.declared.refusal.Reason.TheVariants.{Old, Busy, NoJobs, Gone, Overwritten, Unknown, BadJobs, Misfit}
 use Rattle.server_core.specs.Request.{Request, ToStage, ToStart, ToTrigger, ToMark, ToStop, ToVerify, ToHold, ToPassFully, ToIssue, ToEnd, ToReport, ToNobody}
@@ -30,7 +30,7 @@ pub record Now : Type 0 where
   pub check : Option Check
 
 -- A refusal of a request for a run, and an attempt where there is one, with a value.
-abbrev pub refuse : Asked → Reason → ℕ → ℕ → ℕ → List Body
+abbrev pub refuse : RefusedRequest → Reason → ℕ → ℕ → ℕ → List Body
 refuse asked reason r a value =
     Refused (record {
       asked = asked;
@@ -84,7 +84,7 @@ reply_to_start now r None =
     else reply_to_new_start r (for_run r now.staged) (is_open now.run)
 
 -- A run that isn't the present one is gone, or unknown.
-abbrev pub gone_or_unknown : Asked → ℕ → ℕ → List Body
+abbrev pub gone_or_unknown : RefusedRequest → ℕ → ℕ → List Body
 gone_or_unknown asked r last =
     if nat_le r last then refuse asked Gone r 0 last else refuse asked Unknown r 0 last
 
@@ -94,7 +94,7 @@ state_frame w j job before =
     if job.save then State (length w.jobs) (job_state (origin_of w j job) before)
     else NoState w.run j (length w.jobs)
 
--- Those of jobs, numbered on from j.
+-- The packets of jobs that were taken behind these requests, numbered on from j.
 abbrev pub state_frames : Work → List Request → ℕ → List Job → List Body
 state_frames w before j [] = []
 state_frames w before j (job ∷ jobs) =
@@ -135,7 +135,7 @@ progress_frame c j (checks.Refused value) =
     ∷ []
 progress_frame c j (checks.Done report) = Report c.run c.attempt j (length c.jobs) report ∷ []
 
--- Those of jobs, numbered on from j.
+-- The packets of the jobs of a check, numbered on from j.
 abbrev pub check_frames_from : Check → ℕ → List Job → List Body
 check_frames_from c j [] = []
 check_frames_from c j (job ∷ jobs) =

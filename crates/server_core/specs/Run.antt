@@ -5,7 +5,7 @@ use Rattle.std.specs.Option.{option_or}
 use Rattle.fc_base.specs.declared.fault.Fault.{Fault}
 use Rattle.job_file.specs.declared.job.Job.{Job}
 use Rattle.messages.specs.declared.refusal.Act.{Act}
-use Rattle.window.specs.History as window
+use Rattle.engine.specs.History as window
 use Rattle.engine.specs.declared.issue.Issue.{Issue}
 use Rattle.engine.specs.declared.issue.Issue.TheVariants as issues
 use Rattle.engine.specs.Running.{Origin}
@@ -58,7 +58,7 @@ abbrev pub with_end : WriteEnd → ℕ → List window.Event → List window.Eve
 with_end Done k h = window.done k ∷ h
 with_end Failed k h = window.fail k ∷ h
 
--- The same, where the ticket was accepted.
+-- How a write ended is an event of its job's history, where the ticket was accepted.
 abbrev pub with_ticket : Result (Unit {0}) Fault → WriteEnd → ℕ → List window.Event
     → List window.Event
 with_ticket (Ok _) end k h = with_end end k h

@@ -13,7 +13,7 @@ use Rattle.server_core.specs.Words.{work}
 unfoldable pub job_state : Origin → List Request → State
 job_state origin before = state_after origin (history origin before)
 
--- The same of job j of a run, where there is such a job and it saves its state.
+-- The state of a job behind these requests, where the run has such a job j and it saves its state.
 abbrev pub saved_state : Work → ℕ → Option Job → List Request → Option State
 saved_state w j None before = None
 saved_state w j (Some job) before =

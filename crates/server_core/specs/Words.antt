@@ -5,9 +5,9 @@ use Rattle.job_file.specs.declared.job.Job.{Job}
 use Rattle.job_file.specs.declared.job.Phase.TheVariants.{Write}
 use Rattle.server_core.specs.Inputs.{PacketInput}
 use Rattle.server_core.specs.declared.note.ServerNote.{ServerNote}
-use Rattle.disk_model.specs.declared.left.Left.{Left}
-use Rattle.disk_model.specs.declared.left.Left.TheVariants.{NoSave, Saved, LostNew, LostOld}
-use Rattle.disk_model.specs.Left.{has_new, is_lost, is_saved}
+use Rattle.disk_model.specs.declared.save_outcome.SaveOutcome.{SaveOutcome}
+use Rattle.disk_model.specs.declared.save_outcome.SaveOutcome.TheVariants.{NoSave, Saved, LostNew, LostOld}
+use Rattle.disk_model.specs.SaveOutcome.{has_new, is_lost, is_saved}
 use Rattle.server_core.specs.History.{Opening, Entry, Met, Cut, Restart}
 use Rattle.server_core.specs.Request.{Request, ToStage, ToStart, request_of}
 use Rattle.server_core.specs.Texts.{jobs_for}
@@ -50,7 +50,7 @@ stages on last now (ToStage r text) =
 stages on last now _ = None
 
 -- What could be staged in this life, with one more. A failed save ends the life.
-abbrev pub staged_after : Left → Option Staged → List Staged → List Staged
+abbrev pub staged_after : SaveOutcome → Option Staged → List Staged → List Staged
 staged_after NoSave None older = older
 staged_after NoSave (Some s) older = s ∷ older
 staged_after Saved None older = older
@@ -81,13 +81,13 @@ due_by on last staged now (ToStart r) =
 due_by on last staged now _ = None
 
 -- The last run, where what was due is recorded once the save left the new bytes.
-abbrev pub last_run_after : Left → Option Staged → ℕ → ℕ
+abbrev pub last_run_after : SaveOutcome → Option Staged → ℕ → ℕ
 last_run_after left None last = last
 last_run_after left (Some s) last = if has_new left then s.run else last
 
 -- The present run behind a request: one begins where what was due was saved; a failed save ends the
 -- life; else the run goes on.
-abbrev pub work_after : Left → Option Staged → ℕ → ℕ → Request → Option Work → Option Work
+abbrev pub work_after : SaveOutcome → Option Staged → ℕ → ℕ → Request → Option Work → Option Work
 work_after NoSave due me now_boot x w = goes_on x w
 work_after Saved None me now_boot x w = goes_on x w
 work_after Saved (Some s) me now_boot x w =

@@ -8,9 +8,8 @@ ghost use Rattle.server_core.specs.Handles.{RefusedStays};
 ghost use Rattle.server_core.specs.Examples.{StartsAndIssues, TakesOnce, ForgetsByACut, SavesBeforeItStarts, StopsForGood, ChecksTheLastRun, RefusesAMisfit};
 
 use crate::sent_law::packets_go_to_client;
-use engine::{legal_law, taken_law};
+use engine::{counting_law, legal_law, taken_law};
 use job_file::{jobs_are_within_limits, jobs_fit};
-use window::counting_law;
 
 /// The last run and the boot never fall.
 pub fn numbers_grow()

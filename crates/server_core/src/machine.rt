@@ -20,7 +20,7 @@ use crate::run::Run;
 use crate::staged::StagedSet;
 use engine::{Issue, Ticket};
 use fc_base::{Attempt, Fault, JobNo, RunNo, ServerNo};
-use messages::{Act, Asked, Body, Frames, Reason, Refusal};
+use messages::{Act, Body, Frames, Reason, Refusal, RefusedRequest};
 use std::alloc::{AllocError, Global};
 
 /// What a server keeps of its words in memory.
@@ -157,14 +157,14 @@ impl Machine {
         match &self.run {
             Some(now) if now.is(run) => match now.end() {
                 Some(End::Stopped) => self.refuse(
-                    Asked::Trigger,
+                    RefusedRequest::Trigger,
                     Reason::Gone,
                     run,
                     self.last_run.0,
                 ),
                 Some(End::Taken(_)) | None => now.state_frames(self.alloc, self.me),
             },
-            _ => self.gone_or_unknown(Asked::Trigger, run),
+            _ => self.gone_or_unknown(RefusedRequest::Trigger, run),
         }
     }
 
@@ -176,7 +176,7 @@ impl Machine {
     {
         match &self.run {
             Some(now) if now.is(run) => only(self.alloc, self.me, Body::Stopped { run }),
-            _ => self.gone_or_unknown(Asked::Stop, run),
+            _ => self.gone_or_unknown(RefusedRequest::Stop, run),
         }
     }
 
@@ -201,7 +201,7 @@ impl Machine {
     }
 
     /// A request for a run that isn't the present one: it is gone, or was never there.
-    fn gone_or_unknown(&self, asked: Asked, run: RunNo) -> Result<Frames, AllocError>
+    fn gone_or_unknown(&self, asked: RefusedRequest, run: RunNo) -> Result<Frames, AllocError>
         requires run { IsTrue (is_run run) }
         requires asked { IsOfRun asked }
         ensures { IfOk result
@@ -219,7 +219,7 @@ impl Machine {
     /// A refusal of a request for a run, with a value.
     fn refuse(
         &self,
-        asked: Asked,
+        asked: RefusedRequest,
         reason: Reason,
         run: RunNo,
         value: u64,

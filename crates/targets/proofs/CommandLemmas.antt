@@ -2,8 +2,7 @@
 use Rattle.std.proofs.Common.{◌≡◌, ◌∙◌, ap, subst, refl, ℕ, arith, List, [], ◌∷◌, length, get_or, map, codes, take, drop, sym, Option, Some}
 use Rattle.std.proofs.lemmas.List.{drop-map, take-map}
 use Rattle.program_io.specs.Words.{IsNumber}
-use Rattle.targets.specs.declared.command.Since.{Since}
-use Rattle.targets.specs.Command.{AreLedgerWords, AreMapWords, AreOptions, AreWords, IsOption, ledger_word, option_words}
+use Rattle.targets.specs.Command.{AreLedgerWords, AreMapWords, AreOptions, AreTourWords, AreWords, IsOption, option_words}
 
 -- a word that is known by its text
 at_place : {S : Type 0} (text : S → List ℕ) (P : List ℕ → Type 0) (x a : S) (word : List ℕ) → a ≡ x → word ≡ text a → P word → P (text x)
@@ -22,6 +21,18 @@ four_words text (w ∷ x ∷ y ∷ z ∷ []) a b d word first second command n m
   at_place text (λ said. IsNumber said job) z d second r u (h.0, h.1 ∙ i),
 )
 four_words text (w ∷ x ∷ y ∷ z ∷ v ∷ vs) a b d word first second command n m run job l p q r s t u e f g h i = absurd (omega arith)
+
+pub three_words : {S : Type 0} (text : S → List ℕ) (ws : List S) (a b : S) (word second : List ℕ) (m job : ℕ) → length ws ≡ 3
+    → a ≡ get_or ws 1 a → b ≡ get_or ws 2 b → word ≡ text a → second ≡ text b → word ≡ codes "tour" → IsNumber second m → m ≡ job
+    → AreTourWords (map text ws) job
+three_words text [] a b word second m job l p q r s e f g = absurd (omega arith)
+three_words text (w ∷ []) a b word second m job l p q r s e f g = absurd (omega arith)
+three_words text (w ∷ x ∷ []) a b word second m job l p q r s e f g = absurd (omega arith)
+three_words text (w ∷ x ∷ y ∷ []) a b word second m job l p q r s e f g = (
+  at_place text (λ said. said ≡ codes "tour") x a word p r e,
+  at_place text (λ said. IsNumber said job) y b second q s (f.0, f.1 ∙ g),
+)
+three_words text (w ∷ x ∷ y ∷ z ∷ zs) a b word second m job l p q r s e f g = absurd (omega arith)
 
 pub two_words : {S : Type 0} (text : S → List ℕ) (ws : List S) (a b : S) (word number name : List ℕ) (n value : ℕ) → length ws ≡ 2
     → a ≡ get_or ws 0 a → b ≡ get_or ws 1 b → word ≡ text a → number ≡ text b → word ≡ name → IsNumber number n → n ≡ value
@@ -57,12 +68,11 @@ map_words text ws front back run job server unit first second are is = (
   subst (λ l. AreOptions l server unit) (ap (map text) second ∙ sym (drop-map text 4 ws)) is,
 )
 
--- The words of a check by a ledger, and behind them those of a server.
-pub ledger_words : {S : Type 0} (text : S → List ℕ) (ws front back : List S) (word : List ℕ) (since : Since) (run job : ℕ) (server : Option ℕ) → front ≡ take 4 ws
-    → back ≡ drop 4 ws → word ≡ ledger_word since → AreWords (map text front) word run job → IsOption (codes "--server") server (map text back)
-    → AreLedgerWords (map text ws) since run job server
-ledger_words text ws front back word since run job server first second said are is = (
-  subst (λ l. AreWords l (ledger_word since) run job) (ap (map text) first ∙ sym (take-map text 4 ws))
-      (subst (λ w. AreWords (map text front) w run job) said are),
+-- The words of a command by a ledger, and behind them those of a server.
+pub ledger_words : {S : Type 0} (text : S → List ℕ) (ws front back : List S) (word : List ℕ) (run job : ℕ) (server : Option ℕ) → front ≡ take 4 ws
+    → back ≡ drop 4 ws → AreWords (map text front) word run job → IsOption (codes "--server") server (map text back)
+    → AreLedgerWords (map text ws) word run job server
+ledger_words text ws front back word run job server first second are is = (
+  subst (λ l. AreWords l word run job) (ap (map text) first ∙ sym (take-map text 4 ws)) are,
   subst (λ l. IsOption (codes "--server") server l) (ap (map text) second ∙ sym (drop-map text 4 ws)) is,
 )

@@ -11,8 +11,8 @@ use Rattle.fc_base.specs.declared.record.JobParts.{JobParts}
 use Rattle.fc_base.specs.JobParts.{is_within_limits, has_block_size, has_region, has_queue, has_pattern}
 use Rattle.fc_base.specs.Counted.{has}
 use Rattle.fc_base.specs.Layouts.{bytes_of}
-use Rattle.window.specs.History.{Event, issue, done, fail, issues, failures, issued, is_done, in_flight, open_writes}
-use Rattle.window.specs.Sets.{InFlightIsNotDone, OpenIsNotFailed}
+use Rattle.engine.specs.History.{Event, issue, done, fail, issues, failures, issued, is_done, in_flight, open_writes}
+use Rattle.engine.specs.Sets.{InFlightIsNotDone, OpenIsNotFailed}
 use Rattle.engine.specs.Legal.{IsLegal}
 use Rattle.engine.specs.Running.{Origin}
 use Rattle.targets.specs.declared.notice.Notice.{Notice}

@@ -8,9 +8,9 @@ use Rattle.std.proofs.lemmas.List.{length_push}
 use Rattle.fc_base.specs.Counted.{has}
 use Rattle.fc_base.specs.declared.record.JobParts.{JobParts}
 use Rattle.write_order.specs.Blocks.{block_of}
-use Rattle.window.specs.History.{Event, issue, done, fail, issues, completions, failures, issued, is_done, in_flight}
-use Rattle.window.specs.Kept.{is_held}
-use Rattle.window.specs.Sets.{InFlightIsNotDone, OpenIsNotFailed}
+use Rattle.engine.specs.History.{Event, issue, done, fail, issues, completions, failures, issued, is_done, in_flight}
+use Rattle.engine.specs.Kept.{is_held}
+use Rattle.engine.specs.Sets.{InFlightIsNotDone, OpenIsNotFailed}
 use Rattle.engine.specs.Legal.{IsLegal, any_goes_to}
 use Rattle.engine.specs.Laws.{StatesCountTheDone}
 use Rattle.engine.specs.Running.{Origin}
@@ -230,13 +230,21 @@ one_has_ended : (j : ℕ) → j + 1 ≤ 1 → is_done (done 0 ∷ issue 0 ∷ []
 one_has_ended zero less = refl
 one_has_ended (suc j) less = absurd (omega (arith, less))
 
+pub one_is_begun : IsHistory three_writes [] (issue 0 ∷ [])
+one_is_begun = record {
+  writes = 0 ∷ [];
+  events = refl;
+  legal = record {
+    by_window = (tt, refl, omega arith, λ j less. absurd (omega (arith, less)));
+    by_job = (tt, omega arith, refl, refl);
+  };
+  all = refl;
+}
+
 pub one_is_behind : IsBehind three_writes (Done 0 ∷ []) (Done 1 ∷ Done 0 ∷ []) one_told two_told
 one_is_behind =
     let job = three_writes.job in
-    let first : IsLegal job (issue 0 ∷ []) = record {
-      by_window = (tt, refl, omega arith, λ j less. absurd (omega (arith, less)));
-      by_job = (tt, omega arith, refl, refl);
-    } in
+    let first : IsLegal job (issue 0 ∷ []) = one_is_begun.legal in
     let second : IsLegal job one_told = record {
       by_window = ((first.by_window, refl), refl, omega arith, one_has_ended);
       by_job = (first.by_job, omega arith, refl, refl);
@@ -245,9 +253,8 @@ one_is_behind =
       by_window = ((second.by_window, refl), refl, omega arith, two_have_ended);
       by_job = (second.by_job, omega arith, refl, refl);
     } in
-    let start : IsHistory three_writes [] (issue 0 ∷ []) = record { writes = 0 ∷ []; events = refl; legal = first; all = refl } in
     let once : IsHistory three_writes (Done 0 ∷ []) one_told =
-    (issue 0 ∷ [], start, record { writes = 1 ∷ []; events = refl; legal = second; all = refl }) in
+    (issue 0 ∷ [], one_is_begun, record { writes = 1 ∷ []; events = refl; legal = second; all = refl }) in
     let twice : IsHistory three_writes (Done 1 ∷ Done 0 ∷ []) two_told =
     (one_told, once, record { writes = 2 ∷ []; events = refl; legal = third; all = refl }) in
     record { more = Done 1 ∷ []; front = refl; first_history = once; history = twice }

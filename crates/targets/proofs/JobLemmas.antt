@@ -13,7 +13,7 @@ use Rattle.verify_state.specs.State.{State}
 use Rattle.engine.specs.Running.{Origin}
 use Rattle.program_io.specs.declared.refusal.PrintedRefusal.{PrintedRefusal}
 use Rattle.program_io.specs.Refusals.{plain}
-use Rattle.targets.specs.declared.asked.Asked.{Asked}
+use Rattle.targets.specs.declared.job_setup.JobSetup.{JobSetup}
 use Rattle.targets.specs.declared.writing.RunEnd.{RunEnd}
 use Rattle.targets.specs.declared.drive_check.TheConstants.{MAX_STATE}
 use Rattle.targets.specs.Checks.{Checks}
@@ -35,7 +35,7 @@ finished origin (Err e) (Some rest) old mid new end runs ends = tt
 finished origin (Ok status) (Some rest) old mid new end runs ends = inl (end, mid, runs, ends)
 
 -- The job that is asked for stands in front of known bytes.
-pub record Begins (number : ℕ) (input : List ℕ) (rest : Option (List ℕ)) (asked : Asked) : Type 0 where
+pub record Begins (number : ℕ) (input : List ℕ) (rest : Option (List ℕ)) (asked : JobSetup) : Type 0 where
   pub job : Job
   pub behind : List ℕ
   pub leaves : rest ≡ Some behind
@@ -44,7 +44,7 @@ pub record Begins (number : ℕ) (input : List ℕ) (rest : Option (List ℕ)) (
   pub fatal : asked.fatal ≡ job.fatal
   pub phase : asked.phase ≡ phase_in begins.text
 
-pub begins_with : (number : ℕ) (input : List ℕ) (rest : Option (List ℕ)) (asked : Asked) → ReadsJob number (Some input) rest asked → Begins number input rest asked
+pub begins_with : (number : ℕ) (input : List ℕ) (rest : Option (List ℕ)) (asked : JobSetup) → ReadsJob number (Some input) rest asked → Begins number input rest asked
 begins_with number input rest asked reads =
     let left = text_leaves MAX_TEXT input rest reads.text reads.is_text in
     record {
@@ -62,7 +62,7 @@ begins_with number input rest asked reads =
     }
 
 -- A job that writes is run.
-pub ran : {E : Type 0} (run number : ℕ) (first rest : Option (List ℕ)) (asked : Asked) (r : Result ℕ E) (key : Key) (old new : Option (List ℕ))
+pub ran : {E : Type 0} (run number : ℕ) (first rest : Option (List ℕ)) (asked : JobSetup) (r : Result ℕ E) (key : Key) (old new : Option (List ℕ))
     → ReadsJob number first rest asked → asked.phase ≡ Write → key ≡ key_of run number
     → IfSome rest (λ bytes. IfOk r (RunsRest (record { boot = 0; key = key; job = asked.rec }) bytes old new))
     → IfSome first (λ input. IfOk r (WritesJob run number input old new))
@@ -86,7 +86,7 @@ pub reads_only : (phase : Phase) → phase ≡ Read → phase ≡ Write → ⊥
 reads_only phase reads writes = let both : Read ≡ Write = sym reads ∙ writes in absurd cc
 
 -- A job that doesn't write isn't.
-pub wrong_phase : {E : Type 0} (run number : ℕ) (first rest : Option (List ℕ)) (asked : Asked) (r : Result ℕ E) (old new : Option (List ℕ))
+pub wrong_phase : {E : Type 0} (run number : ℕ) (first rest : Option (List ℕ)) (asked : JobSetup) (r : Result ℕ E) (old new : Option (List ℕ))
     → ReadsJob number first rest asked → (asked.phase ≡ Write → ⊥)
     → IfOk r (Refuses (plain WrongPhase) old new) → IfSome first (λ input. IfOk r (WritesJob run number input old new))
 wrong_phase run number None rest asked r old new reads other refuses = tt
@@ -110,7 +110,7 @@ state_leaves input new None is = text_leaves MAX_STATE input new [] is
 state_leaves input new (Some state) (bytes, is, few, answers) = text_leaves MAX_STATE input new bytes is
 
 -- What is checked is the input's.
-pub checked : (key : Key) (first rest target : Option (List ℕ)) (asked : Asked) (state : Option State) (answer : Result ReportParts Fault)
+pub checked : (key : Key) (first rest target : Option (List ℕ)) (asked : JobSetup) (state : Option State) (answer : Result ReportParts Fault)
     → ReadsJob key.job first rest asked → IsStateIn rest target state
     → IfSome target (λ bytes. Checks key asked.rec state asked.fatal bytes answer)
     → IfSome first (λ input. ChecksInput key input answer)
@@ -133,7 +133,7 @@ checked key (Some input) rest target asked state answer reads is checks =
     }
 
 -- A state that isn't there.
-pub no_state : (key : Key) (first rest : Option (List ℕ)) (asked : Asked) (fault : Fault) (refusal : PrintedRefusal) → ReadsJob key.job first rest asked
+pub no_state : (key : Key) (first rest : Option (List ℕ)) (asked : JobSetup) (fault : Fault) (refusal : PrintedRefusal) → ReadsJob key.job first rest asked
     → HasNoState rest fault → refusal ≡ plain fault
     → IfSome first (λ input. CannotCheck key input refusal)
 no_state key None rest asked fault refusal reads none is = tt

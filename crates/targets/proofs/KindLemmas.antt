@@ -6,8 +6,8 @@ use Rattle.std.proofs.lemmas.List.{length-append}
 use Rattle.std.proofs.lemmas.List.Elements.{filter-append}
 use Rattle.diagnosis.specs.declared.holds.Holds.TheVariants as holds
 use Rattle.recheck.specs.Expected.{Expected}
-use Rattle.targets.specs.declared.told.Told.{Told}
-use Rattle.targets.specs.declared.told.Told.TheVariants as tolds
+use Rattle.targets.specs.declared.block_verdict.BlockVerdict.{BlockVerdict}
+use Rattle.targets.specs.declared.block_verdict.BlockVerdict.TheVariants as tolds
 use Rattle.targets.specs.Units.{is_sound_by}
 use Rattle.targets.specs.MapKinds.{kinds_by, with_line}
 use Rattle.targets.specs.MapLines.{kind_word}
@@ -16,17 +16,17 @@ use Rattle.targets.specs.Maps.{Cell, Tells, has_line, is_sound, kinds_of, lines_
 -- ---- which blocks have a line
 
 -- What is told of a block that has one.
-unfoldable pub is_line : Told → Bool
+unfoldable pub is_line : BlockVerdict → Bool
 is_line tolds.Unchecked = false
 is_line tolds.Unread = true
 is_line tolds.Sound = false
 is_line (tolds.Fault kind) = true
 
-sound_is : (unit : Option ℕ) (e : Expected) (block : ℕ) (bytes : Option (List ℕ)) (told : Told) (held : List ℕ) → bytes ≡ Some held
+sound_is : (unit : Option ℕ) (e : Expected) (block : ℕ) (bytes : Option (List ℕ)) (told : BlockVerdict) (held : List ℕ) → bytes ≡ Some held
     → is_sound unit e (record { block = block; bytes = bytes; told = told }) ≡ is_sound_by unit e block held
 sound_is unit e block bytes told held is = ap (λ (bs : Option (List ℕ)). is_sound unit e (record { block = block; bytes = bs; told = told })) is
 
-pub line_is : (unit : Option ℕ) (e : Expected) (block : ℕ) (bytes : Option (List ℕ)) (told : Told) → Tells unit e block bytes told
+pub line_is : (unit : Option ℕ) (e : Expected) (block : ℕ) (bytes : Option (List ℕ)) (told : BlockVerdict) → Tells unit e block bytes told
     → has_line unit e (record { block = block; bytes = bytes; told = told }) ≡ is_line told
 unfolding is_line
 line_is unit e block bytes tolds.Unchecked tells =
@@ -69,7 +69,7 @@ kinds_alike f g same =
     (rw (same (codes "misdirected")) (rw (same (codes "torn")) (rw (same (codes "corrupt")) (rw (same (codes "unread")) refl))))))))
 
 -- One block more adds to the sum of its word.
-told_more : (f : List ℕ → ℕ) (told : Told) → kinds_by (λ word. one_if (is_line told && bytes_eq (kind_word told) word) (f word)) ≡ with_line (kinds_by f) told
+told_more : (f : List ℕ → ℕ) (told : BlockVerdict) → kinds_by (λ word. one_if (is_line told && bytes_eq (kind_word told) word) (f word)) ≡ with_line (kinds_by f) told
 unfolding one_if is_line
 told_more f tolds.Unchecked = refl
 told_more f tolds.Unread = refl
@@ -84,7 +84,7 @@ told_more f (tolds.Fault (holds.Misdirected write)) = refl
 told_more f (tolds.Fault holds.Torn) = refl
 told_more f (tolds.Fault (holds.Corrupt sectors)) = refl
 
-pub kinds_more : (unit : Option ℕ) (e : Expected) (cells : List Cell) (block : ℕ) (bytes : Option (List ℕ)) (told : Told) → Tells unit e block bytes told
+pub kinds_more : (unit : Option ℕ) (e : Expected) (cells : List Cell) (block : ℕ) (bytes : Option (List ℕ)) (told : BlockVerdict) → Tells unit e block bytes told
     → kinds_of unit e (cells ++ record { block = block; bytes = bytes; told = told } ∷ []) ≡ with_line (kinds_of unit e cells) told
 kinds_more unit e cells block bytes told tells =
     let cell : Cell = record { block = block; bytes = bytes; told = told } in

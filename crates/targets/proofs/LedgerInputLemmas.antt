@@ -13,9 +13,10 @@ use Rattle.ledger.specs.Places.{Place, entry_of}
 use Rattle.program_io.specs.Refusals.{plain}
 use Rattle.recheck.specs.Expected.{Expected, expected_by}
 use Rattle.recheck.specs.Check.{Check, FitsIfAny, Starts}
-use Rattle.targets.specs.declared.asked.Asked.{Asked}
+use Rattle.targets.specs.declared.job_setup.JobSetup.{JobSetup}
 use Rattle.targets.specs.declared.command.Since.{Since}
 use Rattle.targets.specs.declared.command.Since.TheVariants as sinces
+use Rattle.targets.specs.declared.ledger_input.Basis.{Basis}
 use Rattle.targets.specs.declared.ledger_input.TheConstants.{MAX_LEDGER}
 use Rattle.targets.specs.declared.ledger_refusal.LedgerRefusal.{LedgerRefusal}
 use Rattle.targets.specs.declared.ledger_refusal.LedgerRefusal.TheVariants as refusals
@@ -24,7 +25,7 @@ use Rattle.targets.specs.Jobs.{ReadsJob}
 use Rattle.targets.specs.LedgerInput.{BeginsNoLedger, BeginsSince, HasNoLedger, HasNoStateSince, IsLedgerIn, IsStateSince, Tells, place_since}
 use Rattle.targets.specs.Ledgers.{ChecksTarget, RefusesBy}
 use Rattle.targets.specs.LedgerJobs.{ChecksByLedger}
-use Rattle.targets.specs.LedgerSteps.{StartsLedger}
+use Rattle.targets.specs.LedgerSteps.{ReadsBasis, StartsLedger}
 use Rattle.targets.specs.Texts.{IsText}
 use Rattle.targets.proofs.JobLemmas.{Begins, begins_with, state_leaves, text_leaves}
 
@@ -39,14 +40,14 @@ since_leaves sinces.Rest input new state is = (input, is.0)
 ledger_leaves : (job : JobParts) (input : List ℕ) (new : Option (List ℕ)) (place : Place) → IsLedgerIn job (Some input) new place → (rest : List ℕ) × (new ≡ Some rest)
 ledger_leaves job input new place (bytes, is, tells) = text_leaves MAX_LEDGER input new bytes is
 
--- ---- a check is started
+-- ---- what a check goes by
 
-pub started_ledger : (key : Key) (since : Since) (first rest mid target : Option (List ℕ)) (asked : Asked) (state : Option State) (check : Check) (known : Place) (made : LedgerMap)
+pub basis_read : (key : Key) (since : Since) (first rest mid target : Option (List ℕ)) (asked : JobSetup) (state : Option State) (check : Check) (known : Place) (made : Basis)
     → ReadsJob key.job first rest asked → IsStateSince since rest mid state → Starts (Ok check) key asked.rec state false → IsLedgerIn asked.rec mid target known
-    → made.since ≡ since → made.recheck ≡ check → made.asked ≡ place_since since check.expected known
-    → IfSome first (λ input. StartsLedger key since input target made)
-started_ledger key since None rest mid target asked state check known made reads is starts has same holds is_asked = tt
-started_ledger key since (Some input) rest mid target asked state check known made reads is starts has same holds is_asked =
+    → made.recheck ≡ check → made.asked ≡ place_since since check.expected known
+    → IfSome first (λ input. ReadsBasis key since input target made)
+basis_read key since None rest mid target asked state check known made reads is starts has holds is_asked = tt
+basis_read key since (Some input) rest mid target asked state check known made reads is starts has holds is_asked =
     let at = begins_with key.job input rest asked reads in
     let of_it : IsStateSince since (Some at.behind) mid state = subst (λ r. IsStateSince since r mid state) at.leaves is in
     let left = since_leaves since at.behind mid state of_it in
@@ -70,10 +71,17 @@ started_ledger key since (Some input) rest mid target asked state check known ma
         fits = mine.0;
         is_ledger = subst (λ t. IsLedgerIn at.job.rec (Some left.0) t known) behind.1 led;
       };
-      since_is = same;
       expected = ap (λ (k : Check). k.expected) (holds ∙ mine.1);
       asked = is_asked ∙ ap (λ (k : Check). place_since since k.expected known) mine.1;
     }
+
+-- A check is started by that.
+pub started_by : (key : Key) (since : Since) (first left : Option (List ℕ)) (basis : Basis) (made : LedgerMap) → made.since ≡ since
+    → basis ≡ record { recheck = made.recheck; asked = made.asked } → IfSome first (λ input. ReadsBasis key since input left basis)
+    → IfSome first (λ input. StartsLedger key since input left made)
+started_by key since None left basis made same is reads = tt
+started_by key since (Some input) left basis made same is reads =
+    record { since_is = same; basis = subst (λ b. ReadsBasis key since input left b) is reads }
 
 -- A place has as many blocks behind what has happened as before.
 blocks_since : (since : Since) (e : Expected) (known : Place) → length (place_since since e known).entries ≡ length known.entries
@@ -94,7 +102,7 @@ blocks_ready key since rest target job state check known place starts (bytes, is
 
 -- ---- why it isn't
 
-pub no_state_since : (key : Key) (since : Since) (first rest : Option (List ℕ)) (asked : Asked) (fault : Fault) (refusal : LedgerRefusal) → ReadsJob key.job first rest asked
+pub no_state_since : (key : Key) (since : Since) (first rest : Option (List ℕ)) (asked : JobSetup) (fault : Fault) (refusal : LedgerRefusal) → ReadsJob key.job first rest asked
     → HasNoStateSince since rest fault → refusal ≡ refusals.Printed (plain fault) → IfSome first (λ input. BeginsNoLedger key since input refusal)
 no_state_since key since None rest asked fault refusal reads none is = tt
 no_state_since key since (Some input) rest asked fault refusal reads none is =
@@ -102,7 +110,7 @@ no_state_since key since (Some input) rest asked fault refusal reads none is =
     inr (inl (at.job, at.behind, fault, at.begins, subst (λ r. HasNoStateSince since r fault) at.leaves none, is))
 
 -- A job and a state begin known bytes.
-begun : (key : Key) (since : Since) (input : List ℕ) (rest mid : Option (List ℕ)) (asked : Asked) (state : Option State) → (reads : ReadsJob key.job (Some input) rest asked)
+begun : (key : Key) (since : Since) (input : List ℕ) (rest mid : Option (List ℕ)) (asked : JobSetup) (state : Option State) → (reads : ReadsJob key.job (Some input) rest asked)
     → IsStateSince since rest mid state → (left : List ℕ) × (mid ≡ Some left) × BeginsSince key since input left (begins_with key.job input rest asked reads).job state
 begun key since input rest mid asked state reads is =
     let at = begins_with key.job input rest asked reads in
@@ -118,7 +126,7 @@ begun key since input rest mid asked state reads is =
     )
 
 -- What refuses a start is a state that doesn't fit, or want of memory.
-misfit_or_memory : (key : Key) (since : Since) (input left : List ℕ) (asked : Asked) (state : Option State) (fault : Fault) (refusal : LedgerRefusal)
+misfit_or_memory : (key : Key) (since : Since) (input left : List ℕ) (asked : JobSetup) (state : Option State) (fault : Fault) (refusal : LedgerRefusal)
     (rest : Option (List ℕ)) (reads : ReadsJob key.job (Some input) rest asked)
     → BeginsSince key since input left (begins_with key.job input rest asked reads).job state → Starts (Err fault) key asked.rec state false
     → refusal ≡ refusals.Printed (plain fault) → BeginsNoLedger key since input refusal
@@ -138,7 +146,7 @@ misfit_or_memory key since input left asked state fault refusal rest reads begin
     by faults.NoMemory none told = inr (inr (inr (inr told)))
     by _ none told = absurd none
 
-pub no_start_since : (key : Key) (since : Since) (first rest mid : Option (List ℕ)) (asked : Asked) (state : Option State) (fault : Fault) (refusal : LedgerRefusal)
+pub no_start_since : (key : Key) (since : Since) (first rest mid : Option (List ℕ)) (asked : JobSetup) (state : Option State) (fault : Fault) (refusal : LedgerRefusal)
     → ReadsJob key.job first rest asked → IsStateSince since rest mid state → Starts (Err fault) key asked.rec state false
     → refusal ≡ refusals.Printed (plain fault) → IfSome first (λ input. BeginsNoLedger key since input refusal)
 no_start_since key since None rest mid asked state fault refusal reads is starts told = tt
@@ -146,7 +154,7 @@ no_start_since key since (Some input) rest mid asked state fault refusal reads i
     let left = begun key since input rest mid asked state reads is in
     misfit_or_memory key since input left.0 asked state fault refusal rest reads left.2 starts told
 
-pub no_ledger : (key : Key) (since : Since) (first rest mid : Option (List ℕ)) (asked : Asked) (state : Option State) (refusal : LedgerRefusal)
+pub no_ledger : (key : Key) (since : Since) (first rest mid : Option (List ℕ)) (asked : JobSetup) (state : Option State) (refusal : LedgerRefusal)
     → ReadsJob key.job first rest asked → IsStateSince since rest mid state → HasNoLedger asked.rec mid refusal
     → IfSome first (λ input. BeginsNoLedger key since input refusal)
 no_ledger key since None rest mid asked state refusal reads is none = tt
@@ -170,18 +178,18 @@ pub answered_by_ledger : {E : Type 0} (key : Key) (since : Since) (first left : 
 answered_by_ledger key since None left made status old new starts checks = tt
 answered_by_ledger key since (Some input) left made (Err e) old new starts checks = tt
 answered_by_ledger key since (Some input) left made (Ok s) old new starts checks =
-    let known : ChecksTarget made.since made.recheck.expected made.asked starts.target old new s =
-    subst (λ l. IfSome l (λ target. ChecksTarget made.since made.recheck.expected made.asked target old new s)) starts.leaves checks in
+    let known : ChecksTarget made.since made.recheck.expected made.asked starts.basis.target old new s =
+    subst (λ l. IfSome l (λ target. ChecksTarget made.since made.recheck.expected made.asked target old new s)) starts.basis.leaves checks in
     inl (record {
-      job = starts.job;
-      state = starts.state;
-      target = starts.target;
-      known = starts.known;
-      begins = starts.begins;
-      checks = subst (λ k. ChecksTarget k (expected_by key starts.job.rec starts.state)
-          (place_since since (expected_by key starts.job.rec starts.state) starts.known) starts.target old new s) starts.since_is
-          (subst (λ p. ChecksTarget made.since (expected_by key starts.job.rec starts.state) p starts.target old new s) starts.asked
-          (subst (λ e. ChecksTarget made.since e made.asked starts.target old new s) starts.expected known));
+      job = starts.basis.job;
+      state = starts.basis.state;
+      target = starts.basis.target;
+      known = starts.basis.known;
+      begins = starts.basis.begins;
+      checks = subst (λ k. ChecksTarget k (expected_by key starts.basis.job.rec starts.basis.state)
+          (place_since since (expected_by key starts.basis.job.rec starts.basis.state) starts.basis.known) starts.basis.target old new s) starts.since_is
+          (subst (λ p. ChecksTarget made.since (expected_by key starts.basis.job.rec starts.basis.state) p starts.basis.target old new s) starts.basis.asked
+          (subst (λ e. ChecksTarget made.since e made.asked starts.basis.target old new s) starts.basis.expected known));
     })
 
 pub refused_by_ledger : {E : Type 0} (key : Key) (since : Since) (first : Option (List ℕ)) (refusal : LedgerRefusal) (status : Result ℕ E) (old new : Option (List ℕ))

@@ -29,7 +29,7 @@ use Rattle.targets.specs.declared.ledger_found.Found.{Found}
 use Rattle.targets.specs.declared.ledger_found.Found.TheVariants as founds
 use Rattle.targets.specs.declared.ledger_steps.LedgerMap.{LedgerMap}
 use Rattle.targets.specs.declared.ledger_sums.Sums.{Sums}
-use Rattle.targets.specs.declared.told.Told.TheVariants as tolds
+use Rattle.targets.specs.declared.block_verdict.BlockVerdict.TheVariants as tolds
 use Rattle.targets.specs.Jobs.{Refuses}
 use Rattle.targets.specs.Reports.{report_status}
 use Rattle.targets.specs.MapInput.{block_code, EndsInBlock, IsPart, NoBlock}

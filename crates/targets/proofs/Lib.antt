@@ -4,6 +4,16 @@ pub mod NoticeLemmas
 pub mod CheckLemmas
 mod CommandLemmas
 pub mod TextLemmas
+pub mod TourWordLemmas
+pub mod TourFacts
+pub mod TourLemmas
+pub mod PlaceLemmas
+pub mod TellLemmas
+pub mod TakeLemmas
+pub mod TourSteps
+pub mod TourJobLemmas
+pub mod TourLawLemmas
+pub mod TourExample
 pub mod JobLemmas
 pub mod FrontLemmas
 pub mod FrontBytes
@@ -12,6 +22,9 @@ pub mod LedgerInputLemmas
 pub mod LedgerLawLemmas
 pub mod LedgerLemmas
 pub mod LedgerLineLemmas
+pub mod WantedLemmas
+pub mod WantedLawLemmas
+pub mod WantedMapLemmas
 pub mod LossLemmas
 pub mod UnitLemmas
 pub mod KindLemmas

@@ -5,8 +5,8 @@ use Rattle.std.proofs.lemmas.Bool.{cases_Bool, cases_lt, cases_eq, false≢true,
 use Rattle.fc_base.specs.Counted.{has}
 use Rattle.write_order.specs.Blocks.{block_of}
 use Rattle.write_order.specs.Laws.{WritesStayInTheRegion}
-use Rattle.window.specs.History.{Event, issued, is_done}
-use Rattle.window.specs.Sets.{DoneWasIssued}
+use Rattle.engine.specs.History.{Event, issued, is_done}
+use Rattle.engine.specs.Sets.{DoneWasIssued}
 use Rattle.engine.specs.Laws.{StatesCountTheDone, LaterWaits}
 use Rattle.engine.specs.Running.{Origin}
 use Rattle.engine.specs.Taken.{state_after}

@@ -11,10 +11,10 @@ use Rattle.program_io.specs.declared.refusal.PrintedRefusal.{PrintedRefusal}
 use Rattle.program_io.specs.Refusals.{plain}
 use Rattle.recheck.specs.Expected.{expected_by}
 use Rattle.recheck.specs.Check.{Check, Starts, start}
-use Rattle.targets.specs.declared.asked.Asked.{Asked}
+use Rattle.targets.specs.declared.job_setup.JobSetup.{JobSetup}
 use Rattle.targets.specs.declared.map.Map.{Map}
-use Rattle.targets.specs.declared.map_input.Came.{Came}
-use Rattle.targets.specs.declared.map_input.Came.TheVariants as cames
+use Rattle.targets.specs.declared.map_input.BlockRead.{BlockRead}
+use Rattle.targets.specs.declared.map_input.BlockRead.TheVariants as cames
 use Rattle.targets.specs.Checks.{Checks}
 use Rattle.targets.specs.Jobs.{ReadsJob, Refuses}
 use Rattle.targets.specs.Reports.{CannotCheck, IsStateIn}
@@ -32,7 +32,7 @@ one_byte [] len is = absurd cc
 one_byte (x ∷ []) len is = ap (λ k. k ∷ []) is
 one_byte (x ∷ y ∷ l) len is = absurd (omega (arith, len))
 
-pub comes : (old mid new : Option (List ℕ)) (flag buffer : List ℕ) (r : Result Came Fault) → Consumes old mid (1 ∷ []) → BlockComes mid new buffer r
+pub comes : (old mid new : Option (List ℕ)) (flag buffer : List ℕ) (r : Result BlockRead Fault) → Consumes old mid (1 ∷ []) → BlockComes mid new buffer r
     → Comes old new buffer r
 comes old mid new flag buffer (Ok cames.Bytes) first behind = Consumes-trans old mid new (1 ∷ []) buffer first behind
 comes old mid new flag buffer (Ok cames.Unread) first behind = absurd behind
@@ -40,7 +40,7 @@ comes old mid new flag buffer (Ok cames.End) first (part, read, short, end) =
     (1 ∷ part, Consumes-trans old mid new (1 ∷ []) part first read, inr (part, refl, short), end)
 comes old mid new flag buffer (Err fault) first is = subst (λ f. Comes old new buffer (Err f)) (sym is) tt
 
-pub comes_behind : (old mid new : Option (List ℕ)) (flag buffer : List ℕ) (b : Bool) (r : Result Came Fault) → b ≡ true → FillsOrEnds old mid flag (Ok b)
+pub comes_behind : (old mid new : Option (List ℕ)) (flag buffer : List ℕ) (b : Bool) (r : Result BlockRead Fault) → b ≡ true → FillsOrEnds old mid flag (Ok b)
     → length flag ≡ 1 → slice_index_or flag 0 0 ≡ 1 → BlockComes mid new buffer r → Comes old new buffer r
 comes_behind old mid new flag buffer false r is first len one behind = absurd cc
 comes_behind old mid new flag buffer true r is first len one behind =
@@ -61,7 +61,7 @@ if_known : (input : Option (List ℕ)) (P : List ℕ → Type 0) → ((bytes : L
 if_known None P f = tt
 if_known (Some bytes) P f = f bytes
 
-pub no_start : (key : Key) (first rest target : Option (List ℕ)) (asked : Asked) (state : Option State) (fault : Fault)
+pub no_start : (key : Key) (first rest target : Option (List ℕ)) (asked : JobSetup) (state : Option State) (fault : Fault)
     (refusal : PrintedRefusal) → ReadsJob key.job first rest asked → IsStateIn rest target state
     → Starts (Err fault) key asked.rec state false → refusal ≡ plain fault → IfSome first (λ input. CannotCheck key input refusal)
 no_start key first rest target asked state fault refusal reads is none refused =
@@ -69,7 +69,7 @@ no_start key first rest target asked state fault refusal reads is none refused =
     (checked key first rest target asked state (Err fault) reads is
     (if_known target _ (λ bytes. starts_no_check key asked.rec state asked.fatal bytes fault none))) refused
 
-pub started : (key : Key) (first rest target : Option (List ℕ)) (asked : Asked) (state : Option State) (check : Check) (made : Map)
+pub started : (key : Key) (first rest target : Option (List ℕ)) (asked : JobSetup) (state : Option State) (check : Check) (made : Map)
     → ReadsJob key.job first rest asked → IsStateIn rest target state
     → Starts (Ok check) key asked.rec state false → made.check ≡ check → length made.bytes.items ≡ asked.rec.bs → length made.wanted.items ≡ asked.rec.bs → made.unread ≡ false
     → IfSome first (λ input. StartsMap key input target made)

@@ -18,10 +18,10 @@ use Rattle.program_io.specs.Refusals.{plain, refusal_line}
 use Rattle.recheck.specs.Expected.{Expected}
 use Rattle.recheck.specs.Report.{report_of, report_with, tally}
 use Rattle.recheck.specs.Check.{Check, HasSeen, start}
-use Rattle.targets.specs.declared.kinds.Kinds.{Kinds}
+use Rattle.targets.specs.declared.kind_counts.KindCounts.{KindCounts}
 use Rattle.targets.specs.declared.map.Map.{Map}
-use Rattle.targets.specs.declared.told.Told.{Told}
-use Rattle.targets.specs.declared.told.Told.TheVariants as tolds
+use Rattle.targets.specs.declared.block_verdict.BlockVerdict.{BlockVerdict}
+use Rattle.targets.specs.declared.block_verdict.BlockVerdict.TheVariants as tolds
 use Rattle.targets.specs.Jobs.{Refuses}
 use Rattle.targets.specs.Reports.{report_status}
 use Rattle.targets.specs.MapInput.{block_code, EndsInBlock, IsPart, NoBlock}
@@ -35,7 +35,7 @@ use Rattle.targets.proofs.KindLemmas.{is_line, kinds_more, line_is}
 use Rattle.targets.proofs.UnitLemmas.{report_alike}
 
 -- So many blocks have come since the input was this, and their lines were written.
-pub record HasMapped (unit : Option ℕ) (e : Expected) (check : Check) (unread : Bool) (sums : Kinds) (count : ℕ) (first now first_text text : Option (List ℕ)) : Type 0 where
+pub record HasMapped (unit : Option ℕ) (e : Expected) (check : Check) (unread : Bool) (sums : KindCounts) (count : ℕ) (first now first_text text : Option (List ℕ)) : Type 0 where
   pub cells : List Cell
   pub come : HasCome unit e count cells
   pub came : Consumes first now (flat_map (λ c. block_code c.bytes) cells)
@@ -45,7 +45,7 @@ pub record HasMapped (unit : Option ℕ) (e : Expected) (check : Check) (unread 
   pub kinds : sums ≡ kinds_of unit e cells
 
 -- None has come yet.
-pub none_mapped : (unit : Option ℕ) (e : Expected) (check : Check) (unread : Bool) (sums : Kinds) (input text : Option (List ℕ)) → check ≡ start e false → unread ≡ false
+pub none_mapped : (unit : Option ℕ) (e : Expected) (check : Check) (unread : Bool) (sums : KindCounts) (input text : Option (List ℕ)) → check ≡ start e false → unread ≡ false
     → sums ≡ no_lines → HasMapped unit e check unread sums 0 input input text text
 none_mapped unit e check unread sums input text is none zeros = record {
   cells = [];
@@ -73,7 +73,7 @@ one_line : {X : Type 0} (p : X → Bool) (f : X → List ℕ) (x : X) (b : Bool)
 one_line p f x true is = rw (is) (append-nil (f x))
 one_line p f x false is = rw (is) refl
 
-line_if : (unit : Option ℕ) (e : Expected) (block : ℕ) (bytes : Option (List ℕ)) (told : Told) (buffer : List ℕ) → Tells unit e block bytes told
+line_if : (unit : Option ℕ) (e : Expected) (block : ℕ) (bytes : Option (List ℕ)) (told : BlockVerdict) (buffer : List ℕ) → Tells unit e block bytes told
     → IfSome bytes (λ l. buffer ≡ l)
     → flat_map (λ (c : Cell). line_words e c.block (bytes_in c.bytes) c.told) (filter (has_line unit e) (record { block = block; bytes = bytes; told = told } ∷ []))
     ≡ line_if_any e block buffer told
@@ -90,7 +90,7 @@ line_if unit e block bytes (tolds.Fault kind) buffer (checked, (held, is, unexpe
     ∙ ap (λ (bs : Option (List ℕ)). line_words e block (bytes_in bs) (tolds.Fault kind)) is
     ∙ ap (λ l. line_words e block l (tolds.Fault kind)) (sym same)
 
-lines_more : (unit : Option ℕ) (e : Expected) (cells : List Cell) (block : ℕ) (bytes : Option (List ℕ)) (told : Told) (buffer : List ℕ) → Tells unit e block bytes told
+lines_more : (unit : Option ℕ) (e : Expected) (cells : List Cell) (block : ℕ) (bytes : Option (List ℕ)) (told : BlockVerdict) (buffer : List ℕ) → Tells unit e block bytes told
     → IfSome bytes (λ l. buffer ≡ l)
     → lines_of unit e (cells ++ record { block = block; bytes = bytes; told = told } ∷ []) ≡ lines_of unit e cells ++ line_if_any e block buffer told
 lines_more unit e cells block bytes told buffer tells here =
@@ -101,7 +101,7 @@ lines_more unit e cells block bytes told buffer tells here =
     ∙ ap (λ l. lines_of unit e cells ++ l) (line_if unit e block bytes told buffer tells here)
 
 -- The check has seen one block more, where it was read.
-seen_more : (unit : Option ℕ) (e : Expected) (old new : Check) (cells : List Cell) (block : ℕ) (bytes : Option (List ℕ)) (told : Told) (held : ℕ → List ℕ)
+seen_more : (unit : Option ℕ) (e : Expected) (old new : Check) (cells : List Cell) (block : ℕ) (bytes : Option (List ℕ)) (told : BlockVerdict) (held : ℕ → List ℕ)
     → old.expected ≡ e → HasSeen old (λ n. fed_bytes unit e n (held n)) (read_blocks cells) → HasTaken unit old new block bytes
     → IfSome bytes (λ l. held block ≡ l)
     → HasSeen new (λ n. fed_bytes unit e n (held n)) (read_blocks (cells ++ record { block = block; bytes = bytes; told = told } ∷ []))
@@ -134,7 +134,7 @@ unread_kept false true = refl
 unread_kept false false = refl
 
 -- One block more.
-pub map_more : (unit : Option ℕ) (e : Expected) (old new : Map) (sums new_sums : Kinds) (count : ℕ) (first input left first_text text new_text : Option (List ℕ)) (told : Told)
+pub map_more : (unit : Option ℕ) (e : Expected) (old new : Map) (sums new_sums : KindCounts) (count : ℕ) (first input left first_text text new_text : Option (List ℕ)) (told : BlockVerdict)
     → HasMapped unit e old.check old.unread sums count first input first_text text → old.check.expected ≡ e → TakesBlock unit e old new count input left told
     → Appends text new_text (line_if_any e count new.bytes.items told) → new_sums ≡ with_line sums told
     → HasMapped unit e new.check new.unread new_sums (count + 1) first left first_text new_text
@@ -157,7 +157,7 @@ map_more unit e old new sums new_sums count first input left first_text text new
           seen_more unit e old.check new.check so_far.cells count takes.bytes told held same (so_far.seen held parts.0) takes.taken parts.1;
       any = takes.unread ∙ ap (λ b. b || is_unread e cell) so_far.any
           ∙ sym (list_any-append (is_unread e) so_far.cells (cell ∷ []) ∙ ap (λ b. list_any (is_unread e) so_far.cells || b) (or_false (is_unread e cell)));
-      kinds = summed ∙ ap (λ (k : Kinds). with_line k told) so_far.kinds ∙ sym (kinds_more unit e so_far.cells count takes.bytes told takes.tells);
+      kinds = summed ∙ ap (λ (k : KindCounts). with_line k told) so_far.kinds ∙ sym (kinds_more unit e so_far.cells count takes.bytes told takes.tells);
     }
 
 -- The report of the blocks that were read.
@@ -179,7 +179,7 @@ cut_status true = refl
 cut_status false = refl
 
 -- All blocks have come.
-pub mapped_whole : {E : Type 0} (unit : Option ℕ) (e : Expected) (check : Check) (unread : Bool) (sums : Kinds) (target : List ℕ)
+pub mapped_whole : {E : Type 0} (unit : Option ℕ) (e : Expected) (check : Check) (unread : Bool) (sums : KindCounts) (target : List ℕ)
     (input first_text text mid_text new_text : Option (List ℕ)) (r : ReportParts) (status : Result ℕ E)
     → HasMapped unit e check unread sums e.job.blocks (Some target) input first_text text → check.expected ≡ e
     → check.fatal ≡ false → r ≡ report_of check.fatal check.found
@@ -198,7 +198,7 @@ mapped_whole unit e check unread sums target input first_text text mid_text new_
       finishes = (
         Appends-trans first_text text new_text (lines_of unit e so_far.cells) _ so_far.written
             (Appends-trans text mid_text new_text (unchecked_line e) (last_line (report_with check.found Whole) (kinds_of unit e so_far.cells)) told
-            (subst (λ (k : Kinds). Appends mid_text new_text (last_line (report_with check.found Whole) k)) so_far.kinds
+            (subst (λ (k : KindCounts). Appends mid_text new_text (last_line (report_with check.found Whole) k)) so_far.kinds
             (subst (λ (p : ReportParts). Appends mid_text new_text (last_line p sums)) mine wrote))),
         is_status ∙ ap (status_with unread) mine ∙ ap (λ b. if b then 2 else report_status (report_with check.found Whole)) so_far.any,
       );
@@ -211,7 +211,7 @@ part_left size rest (Some xs) (part, read, is, end) =
     subst (IsPart size) (sym (read ∙ ap (λ l. part ++ l) end ∙ append-nil part)) is
 
 -- The input ends in the next block.
-pub mapped_cut : {E : Type 0} (unit : Option ℕ) (e : Expected) (check new_check : Check) (unread new_unread : Bool) (sums : Kinds) (count : ℕ) (target : List ℕ)
+pub mapped_cut : {E : Type 0} (unit : Option ℕ) (e : Expected) (check new_check : Check) (unread new_unread : Bool) (sums : KindCounts) (count : ℕ) (target : List ℕ)
     (input left first_text text mid_text new_text : Option (List ℕ)) (r : ReportParts) (status : Result ℕ E)
     → HasMapped unit e check unread sums count (Some target) input first_text text → check.expected ≡ e
     → check.fatal ≡ false → count < e.job.blocks → EndsInBlock e.job.bs input left → new_check ≡ check → new_unread ≡ unread
@@ -234,14 +234,14 @@ mapped_cut unit e check new_check unread new_unread sums count target input left
       finishes = (
         Appends-trans first_text text new_text (lines_of unit e so_far.cells) _ so_far.written
             (Appends-trans text mid_text new_text (unchecked_line e) (last_line (report_with check.found (ReadFault count)) (kinds_of unit e so_far.cells)) told
-            (subst (λ (k : Kinds). Appends mid_text new_text (last_line (report_with check.found (ReadFault count)) k)) so_far.kinds
+            (subst (λ (k : KindCounts). Appends mid_text new_text (last_line (report_with check.found (ReadFault count)) k)) so_far.kinds
             (subst (λ (p : ReportParts). Appends mid_text new_text (last_line p sums)) mine wrote))),
         is_status ∙ ap (status_with new_unread) mine ∙ cut_status new_unread,
       );
     })))
 
 -- No block comes.
-pub mapped_refused : {E : Type 0} (unit : Option ℕ) (e : Expected) (check : Check) (unread : Bool) (sums : Kinds) (count : ℕ) (target : List ℕ)
+pub mapped_refused : {E : Type 0} (unit : Option ℕ) (e : Expected) (check : Check) (unread : Bool) (sums : KindCounts) (count : ℕ) (target : List ℕ)
     (input left first_text text new_text : Option (List ℕ)) (fault : Fault) (status : Result ℕ E)
     → HasMapped unit e check unread sums count (Some target) input first_text text → count < e.job.blocks → NoBlock fault input left
     → IfOk status (Refuses (plain fault) text new_text) → IfOk status (MapsTarget unit e target first_text new_text)

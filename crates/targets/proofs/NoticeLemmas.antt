@@ -11,13 +11,13 @@ use Rattle.targets.specs.declared.notice.Notice.{Notice}
 use Rattle.targets.specs.declared.notice.Notice.TheVariants.{Done, Failed, Take}
 use Rattle.targets.specs.Notices.{notice_bytes, notice_of, IsNoticeIn}
 
-abbrev IsBytes : List ℕ → Type 0
+abbrev pub IsBytes : List ℕ → Type 0
 IsBytes bytes = (i : ℕ) → get_or bytes i 0 < 256
 
-dropped : (n : ℕ) (bytes : List ℕ) → IsBytes bytes → IsBytes (drop n bytes)
+pub dropped : (n : ℕ) (bytes : List ℕ) → IsBytes bytes → IsBytes (drop n bytes)
 dropped n bytes h = λ i. subst (λ x. x < 256) (sym (get_or-drop n bytes i 0)) (h (n + i))
 
-taken : (n : ℕ) (bytes : List ℕ) → length (take n bytes) ≤ n → IsBytes bytes → IsBytes (take n bytes)
+pub taken : (n : ℕ) (bytes : List ℕ) → length (take n bytes) ≤ n → IsBytes bytes → IsBytes (take n bytes)
 taken n bytes few h = λ i. elim (cases_lt i n) [
   | inl a ↦ subst (λ x. x < 256) (sym (get_or-take n bytes i 0 a)) (h i)
   | inr b ↦ subst (λ x. x < 256) (sym (get_or_past (take n bytes) i 0 (omega arith))) (omega arith)
@@ -53,8 +53,8 @@ second_number bytes rest n rest_is is =
     ap (λ l. from_be_bytes w64 (take 8 l)) (rest_is ∙ behind_it bytes (to_be_bytes w64 0) n is)
 
 pub notice_is : (bytes rest : List ℕ) (x y : ℕ) → IsBytes bytes → length bytes ≡ 16 → rest ≡ drop 8 bytes → x ≡ number_in w64 bytes → y ≡ number_in w64 rest
-    → IsNoticeIn bytes (notice_of x y)
-notice_is bytes rest x y h len rest_is f g = by (x == 1) (x == 2) (x == 3) (y == 0) refl refl refl refl
+    → y < 2 ^ 64 → IsNoticeIn bytes (notice_of x y)
+notice_is bytes rest x y h len rest_is f g fits_y = by (x == 1) (x == 2) (x == 3) (y == 0) refl refl refl refl
   where
     both : bytes ≡ bytes_of w64 x ++ bytes_of w64 y
     both = two_numbers bytes rest x y h len rest_is f g
@@ -70,9 +70,9 @@ notice_is bytes rest x y h len rest_is f g = by (x == 1) (x == 2) (x == 3) (y ==
 
     by : (a b c d : Bool) → (x == 1) ≡ a → (x == 2) ≡ b → (x == 3) ≡ c → (y == 0) ≡ d
         → IsNoticeIn bytes (if a then Some (Done y) else if b then Some (Failed y) else if c && d then Some Take else None)
-    by true b c d is_a is_b is_c is_d = at 1 is_a
-    by false true c d is_a is_b is_c is_d = at 2 is_b
-    by false false true true is_a is_b is_c is_d = at 3 is_c ∙ ap (λ k. bytes_of w64 3 ++ bytes_of w64 k) (eqb-true y 0 is_d)
+    by true b c d is_a is_b is_c is_d = (at 1 is_a, fits_y)
+    by false true c d is_a is_b is_c is_d = (at 2 is_b, fits_y)
+    by false false true true is_a is_b is_c is_d = (at 3 is_c ∙ ap (λ k. bytes_of w64 3 ++ bytes_of w64 k) (eqb-true y 0 is_d), tt)
     by false false true false is_a is_b is_c is_d = λ n same. neither n same
       where
         neither : (n : Notice) → bytes ≡ notice_bytes n → ⊥

@@ -9,14 +9,14 @@ use Rattle.std.proofs.lemmas.List.{length_push}
 use Rattle.fc_base.specs.declared.numbers.Key.{Key}
 use Rattle.fc_base.specs.declared.record.JobParts.{JobParts}
 use Rattle.std.specs.List.{flat_map}
-use Rattle.window.specs.History.{Event, issue, issues}
+use Rattle.engine.specs.History.{Event, issue, issues}
 use Rattle.engine.specs.Legal.{IsLegal}
 use Rattle.engine.specs.declared.issue.Issue.{Issue}
 use Rattle.engine.specs.declared.issue.Issue.TheVariants.{Write, Full, Held, Overlap, Finished, Stopped}
 use Rattle.engine.specs.declared.issue.Ticket.{Ticket}
 use Rattle.engine.specs.Running.{Origin, Running, StandsFor, EachHistory, Adds}
 use Rattle.engine.specs.Answers.{after_answer, answer_by, answer_to, is_write, ticket_of}
-use Rattle.targets.specs.Orders.{order_bytes, orders}
+use Rattle.targets.specs.Orders.{order_bytes, orders, orders_behind}
 use Rattle.targets.specs.declared.notice.Notice.{Notice}
 use Rattle.targets.specs.declared.writing.RunEnd.{RunEnd}
 use Rattle.targets.specs.Runs.{Follows, IsHistory, Issues, Runs}
@@ -24,32 +24,32 @@ use Rattle.targets.specs.Writing.{Ends, GoesOn, OrdersSome, OrdersAll, RunsOn, S
 use Rattle.targets.proofs.RunLemmas.{orders_more}
 
 -- None is ordered yet.
-pub none_yet : (h : List Event) (running : Running) (text : Option (List ℕ)) → StandsFor running h → OrdersSome running.origin h running text text
-none_yet h running text stands = record {
+pub none_yet : (head : List ℕ) (h : List Event) (running : Running) (text : Option (List ℕ)) → StandsFor running h → OrdersSome head running.origin h running text text
+none_yet head h running text stands = record {
   history = h;
   writes = [];
   bytes = [];
   stands = stands;
   issued = refl;
   written = Appends-nil text;
-  ordered = sym (append-nil (orders running.origin.key running.origin.job h));
+  ordered = sym (append-nil (orders_behind head running.origin.key running.origin.job h));
 }
 
 -- One more is ordered.
-pub one_more : (origin : Origin) (h : List Event) (running new : Running) (first text now : Option (List ℕ)) (k : ℕ) (key : Key) (job : JobParts)
-    → OrdersSome origin h running first text → Adds running new (issue k) → Appends text now (order_bytes key job k) → key ≡ origin.key → job ≡ origin.job
-    → OrdersSome origin h new first now
-one_more origin h running new first text now k key job some adds wrote same_key same_job = record {
+pub one_more : (head : List ℕ) (origin : Origin) (h : List Event) (running new : Running) (first text now : Option (List ℕ)) (k : ℕ) (key : Key) (job : JobParts)
+    → OrdersSome head origin h running first text → Adds running new (issue k) → Appends text now (head ++ order_bytes key job k) → key ≡ origin.key → job ≡ origin.job
+    → OrdersSome head origin h new first now
+one_more head origin h running new first text now k key job some adds wrote same_key same_job = record {
   history = issue k ∷ some.history;
   writes = k ∷ some.writes;
-  bytes = some.bytes ++ order_bytes origin.key origin.job k;
+  bytes = some.bytes ++ (head ++ order_bytes origin.key origin.job k);
   stands = adds some.history some.stands;
   issued = ap (λ l. issue k ∷ l) some.issued;
-  written = Appends-trans first text now some.bytes (order_bytes origin.key origin.job k) some.written
-      (subst (λ b. Appends text now (order_bytes origin.key b k)) same_job (subst (λ a. Appends text now (order_bytes a job k)) same_key wrote));
+  written = Appends-trans first text now some.bytes (head ++ order_bytes origin.key origin.job k) some.written
+      (subst (λ b. Appends text now (head ++ order_bytes origin.key b k)) same_job (subst (λ a. Appends text now (head ++ order_bytes a job k)) same_key wrote));
   ordered =
-      orders_more origin.key origin.job k some.history ∙ ap (λ l. l ++ order_bytes origin.key origin.job k) some.ordered
-      ∙ append_assoc (orders origin.key origin.job h) some.bytes (order_bytes origin.key origin.job k);
+      orders_more head origin.key origin.job k some.history ∙ ap (λ l. l ++ (head ++ order_bytes origin.key origin.job k)) some.ordered
+      ∙ append_assoc (orders_behind head origin.key origin.job h) some.bytes (head ++ order_bytes origin.key origin.job k);
 }
 
 -- A write that is answered is the next, and there was one left.
@@ -94,11 +94,11 @@ same_by_answer running Finished none = refl
 same_by_answer running Stopped none = refl
 
 -- So all are ordered that can be.
-pub all_ordered : (origin : Origin) (h : List Event) (running new : Running) (first text : Option (List ℕ)) (answer : Issue)
-    → OrdersSome origin h running first text → running.origin ≡ origin → running.stopped ≡ false
+pub all_ordered : (head : List ℕ) (origin : Origin) (h : List Event) (running new : Running) (first text : Option (List ℕ)) (answer : Issue)
+    → OrdersSome head origin h running first text → running.origin ≡ origin → running.stopped ≡ false
     → EachHistory running (λ g. answer ≡ answer_to running.origin running.stopped g) → new ≡ after_answer running answer → is_write answer ≡ false
-    → OrdersAll origin h new first text
-all_ordered origin h running new first text answer some same going answers new_is none =
+    → OrdersAll head origin h new first text
+all_ordered head origin h running new first text answer some same going answers new_is none =
     let unchanged : new ≡ running = new_is ∙ same_by_answer running answer none in
     let answered : answer ≡ answer_to origin false some.history =
     answers some.history some.stands ∙ ap (λ o. answer_to o running.stopped some.history) same ∙ ap (λ b. answer_to origin b some.history) going in (
@@ -115,10 +115,10 @@ all_ordered origin h running new first text answer some same going answers new_i
     )
 
 -- A write has ended, and all are ordered that can be then.
-ended_then : (origin : Origin) (h : List Event) (e : Event) (n : Notice) (new : Running) (old text : Option (List ℕ)) → OrdersAll origin (e ∷ h) new old text
+ended_then : (head : List ℕ) (origin : Origin) (h : List Event) (e : Event) (n : Notice) (new : Running) (old text : Option (List ℕ)) → OrdersAll head origin (e ∷ h) new old text
     → new.origin ≡ origin
-    → ((later : List Event) → Issues origin (e ∷ h) later → Follows origin n h later) → issues (e ∷ h) ≡ issues h → GoesOn h n origin new old text
-ended_then origin h e n new old text (some, all) same follow quiet = record {
+    → ((later : List Event) → Issues origin (e ∷ h) later → Follows origin n h later) → issues (e ∷ h) ≡ issues h → GoesOn head h n origin new old text
+ended_then head origin h e n new old text (some, all) same follow quiet = record {
   history = some.history;
   bytes = some.bytes;
   follows = follow some.history (record {
@@ -129,23 +129,23 @@ ended_then origin h e n new old text (some, all) same follow quiet = record {
   });
   stands = some.stands;
   written = some.written;
-  ordered = some.ordered ∙ ap (λ l. flat_map (order_bytes origin.key origin.job) l ++ some.bytes) quiet;
+  ordered = some.ordered ∙ ap (λ l. flat_map (λ j. head ++ order_bytes origin.key origin.job j) l ++ some.bytes) quiet;
 }
 
-pub followed : (old mid new : Running) (h : List Event) (e : Event) (k : ℕ) (n : Notice) (is_open : Bool) (old_text text : Option (List ℕ)) → is_open ≡ true
+pub followed : (head : List ℕ) (old mid new : Running) (h : List Event) (e : Event) (k : ℕ) (n : Notice) (is_open : Bool) (old_text text : Option (List ℕ)) → is_open ≡ true
     → Ends e k h mid is_open → mid.origin ≡ old.origin
-    → new.origin ≡ mid.origin → ((g : List Event) → StandsFor mid g → OrdersAll mid.origin g new old_text text)
+    → new.origin ≡ mid.origin → ((g : List Event) → StandsFor mid g → OrdersAll head mid.origin g new old_text text)
     → ((later : List Event) → Issues old.origin (e ∷ h) later → Follows old.origin n h later) → issues (e ∷ h) ≡ issues h
-    → (new.origin ≡ old.origin) × GoesOn h n old.origin new old_text text
-followed old mid new h e k n false old_text text is ends same_mid same_new ordered follow quiet = absurd cc
-followed old mid new h e k n true old_text text is ends same_mid same_new ordered follow quiet = (
+    → (new.origin ≡ old.origin) × GoesOn head h n old.origin new old_text text
+followed head old mid new h e k n false old_text text is ends same_mid same_new ordered follow quiet = absurd cc
+followed head old mid new h e k n true old_text text is ends same_mid same_new ordered follow quiet = (
   same_new ∙ same_mid,
-  ended_then old.origin h e n new old_text text (subst (λ o. OrdersAll o (e ∷ h) new old_text text) same_mid (ordered (e ∷ h) ends))
+  ended_then head old.origin h e n new old_text text (subst (λ o. OrdersAll head o (e ∷ h) new old_text text) same_mid (ordered (e ∷ h) ends))
       (same_new ∙ same_mid) follow quiet,
 )
 
 -- A run that begins.
-pub begun : (origin : Origin) (running : Running) (input first text : Option (List ℕ)) → OrdersAll origin [] running first text → running.origin ≡ origin
+pub begun : (origin : Origin) (running : Running) (input first text : Option (List ℕ)) → OrdersAll [] origin [] running first text → running.origin ≡ origin
     → SoFar running input input first text
 begun origin running input first text (some, all) same = record {
   notices = [];

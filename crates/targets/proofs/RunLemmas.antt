@@ -16,8 +16,8 @@ use Rattle.fc_base.specs.declared.fault.Fault.TheVariants as faults
 use Rattle.fc_base.specs.Layouts.{bytes_of}
 use Rattle.write_order.specs.Blocks.{block_of}
 use Rattle.write_order.specs.Stamps as stamps
-use Rattle.window.specs.History.{Event, issue, issues}
-use Rattle.window.specs.Numbers.{without}
+use Rattle.engine.specs.History.{Event, issue, issues}
+use Rattle.engine.specs.Numbers.{without}
 use Rattle.engine.specs.declared.issue.Ticket.{Ticket}
 use Rattle.engine.specs.Answers.{open_ticket, ticket_of}
 use Rattle.engine.specs.Running.{Origin, Running, after_done, after_fail}
@@ -25,13 +25,13 @@ use Rattle.targets.specs.declared.notice.Notice.{Notice}
 use Rattle.targets.specs.declared.notice.Notice.TheVariants.{Done, Failed, Take}
 use Rattle.targets.specs.declared.writing.RunEnd.{RunEnd}
 use Rattle.targets.specs.declared.writing.RunEnd.TheVariants.{Taken, Refused}
-use Rattle.targets.specs.Notices.{notice_bytes, told_bytes}
-use Rattle.targets.specs.Orders.{order_bytes, orders}
+use Rattle.targets.specs.Notices.{notice_bytes, told_bytes, NoticeFits}
+use Rattle.targets.specs.Orders.{order_bytes, orders, orders_behind}
 use Rattle.targets.specs.Runs.{IsHistory, HasRun, TakesNext, EndsNone, IsNoNotice, Runs}
 use Rattle.targets.specs.Writing.{ReadsNotice, EndsNothing, GoesOn, FollowsBy, Steps, SoFar, steps_left}
 
 -- What is appended behind a flush is appended.
-kept_appends : (first mid text : Option (List ℕ)) (bytes : List ℕ) → Keeps first mid → Appends mid text bytes → Appends first text bytes
+pub kept_appends : (first mid text : Option (List ℕ)) (bytes : List ℕ) → Keeps first mid → Appends mid text bytes → Appends first text bytes
 kept_appends None mid text bytes kept appends = tt
 kept_appends (Some x) None text bytes kept appends = absurd kept
 kept_appends (Some x) (Some y) None bytes kept appends = absurd appends
@@ -39,7 +39,7 @@ kept_appends (Some x) (Some y) (Some z) bytes kept appends = appends ∙ ap (λ 
 
 -- A flush before a notice is followed leaves what is said of that.
 pub flushed : (n : Notice) (h : List Event) (old new : Running) (first mid text : Option (List ℕ)) (end : Option RunEnd) → Keeps first mid
-    → FollowsBy n h old new mid text end → FollowsBy n h old new first text end
+    → FollowsBy [] n h old new mid text end → FollowsBy [] n h old new first text end
 flushed n h old new first mid text None kept (same, more) = (
   same,
   record {
@@ -56,9 +56,11 @@ flushed n h old new first mid text (Some (Refused faults.NotInFlight)) kept (lat
 flushed n h old new first mid text (Some (Refused _)) kept why = absurd why
 
 -- The orders with that of one more write.
-pub orders_more : (key : Key) (job : JobParts) (k : ℕ) (h : List Event) → orders key job (issue k ∷ h) ≡ orders key job h ++ order_bytes key job k
-orders_more key job k h =
-    flat_map-append (order_bytes key job) (issues h) (k ∷ []) ∙ ap (λ l. orders key job h ++ l) (append-nil (order_bytes key job k))
+pub orders_more : (head : List ℕ) (key : Key) (job : JobParts) (k : ℕ) (h : List Event)
+    → orders_behind head key job (issue k ∷ h) ≡ orders_behind head key job h ++ (head ++ order_bytes key job k)
+orders_more head key job k h =
+    flat_map-append (λ j. head ++ order_bytes key job j) (issues h) (k ∷ []) ∙ ap (λ l. orders_behind head key job h ++ l)
+    (append-nil (head ++ order_bytes key job k))
 
 -- The order of a write, in three parts.
 pub order_written : (old first second new : Option (List ℕ)) (key : Key) (job : JobParts) (k : ℕ) (numbers blocks bytes : List ℕ)
@@ -73,7 +75,7 @@ order_written old first second new key job k numbers blocks bytes a a_is b b_is 
 -- A run with one more notice.
 pub goes_on : (running new : Running) (n : Notice) (first_input old_input input first_text old_text text : Option (List ℕ))
     → (so_far : SoFar running first_input old_input first_text old_text) → new.origin ≡ running.origin → Consumes old_input input (notice_bytes n)
-    → GoesOn so_far.history n running.origin new old_text text
+    → GoesOn [] so_far.history n running.origin new old_text text
     → SoFar new first_input input first_text text
 goes_on running new n first_input old_input input first_text old_text text so_far same told more = record {
   notices = n ∷ so_far.notices;
@@ -86,7 +88,7 @@ goes_on running new n first_input old_input input first_text old_text text so_fa
 }
 
 -- What is left of known bytes.
-known_rest : (whole : List ℕ) (input : Option (List ℕ)) (bytes : List ℕ) → Consumes (Some whole) input bytes
+pub known_rest : (whole : List ℕ) (input : Option (List ℕ)) (bytes : List ℕ) → Consumes (Some whole) input bytes
     → (rest : List ℕ) × (input ≡ Some rest) × (whole ≡ bytes ++ rest)
 known_rest whole None bytes told = absurd told
 known_rest whole (Some rest) bytes told = (rest, refl, told)
@@ -114,14 +116,14 @@ takes_next rest input new is told =
     record { rest = known.0; take = known.2 }
 
 ends_none : (n : Notice) (rest : List ℕ) (h : List Event) (input new : Option (List ℕ)) → input ≡ Some rest → Consumes input new (notice_bytes n)
-    → EndsNothing n h → EndsNone rest h
-ends_none (Done k) rest h input new is told none =
+    → NoticeFits n → EndsNothing n h → EndsNone rest h
+ends_none (Done k) rest h input new is told fits none =
     let known = known_rest rest new (notice_bytes (Done k)) (subst (λ i. Consumes i new (notice_bytes (Done k))) is told) in
-    record { write = k; rest = known.0; told = inl known.2; none = none }
-ends_none (Failed k) rest h input new is told none =
+    record { write = k; rest = known.0; told = inl known.2; fits = fits; none = none }
+ends_none (Failed k) rest h input new is told fits none =
     let known = known_rest rest new (notice_bytes (Failed k)) (subst (λ i. Consumes i new (notice_bytes (Failed k))) is told) in
-    record { write = k; rest = known.0; told = inr known.2; none = none }
-ends_none Take rest h input new is told none = absurd none
+    record { write = k; rest = known.0; told = inr known.2; fits = fits; none = none }
+ends_none Take rest h input new is told fits none = absurd none
 
 no_notice : (rest : List ℕ) (input new : Option (List ℕ)) → input ≡ Some rest → ReadsNotice input new (Err faults.BadNotice) → IsNoNotice rest
 no_notice rest input new is (bytes, told, len, none) =
@@ -140,15 +142,15 @@ too_short rest input new is (bytes, told, short, end) =
 
 -- A notice that ends a run.
 ended_by : (running new : Running) (n : Notice) (whole : List ℕ) (input new_input first_text text new_text : Option (List ℕ)) (end : RunEnd)
-    → (so_far : SoFar running (Some whole) input first_text text) → Consumes input new_input (notice_bytes n)
-    → FollowsBy n so_far.history running new text new_text (Some end)
+    → (so_far : SoFar running (Some whole) input first_text text) → Consumes input new_input (notice_bytes n) → NoticeFits n
+    → FollowsBy [] n so_far.history running new text new_text (Some end)
     → Runs running.origin whole first_text new_text end
-ended_by running new n whole input new_input first_text text new_text (Taken state) so_far told (kept, take, is) =
+ended_by running new n whole input new_input first_text text new_text (Taken state) so_far told fits (kept, take, is) =
     run_has running whole input first_text text new_text _ so_far kept
     (λ rest at. (takes_next rest input new_input at (subst (λ m. Consumes input new_input (notice_bytes m)) take told), is))
-ended_by running new n whole input new_input first_text text new_text (Refused faults.NotInFlight) so_far told (kept, none) =
-    run_has running whole input first_text text new_text _ so_far kept (λ rest at. ends_none n rest so_far.history input new_input at told none)
-ended_by running new n whole input new_input first_text text new_text (Refused _) so_far told why = absurd why
+ended_by running new n whole input new_input first_text text new_text (Refused faults.NotInFlight) so_far told fits (kept, none) =
+    run_has running whole input first_text text new_text _ so_far kept (λ rest at. ends_none n rest so_far.history input new_input at told fits none)
+ended_by running new n whole input new_input first_text text new_text (Refused _) so_far told fits why = absurd why
 
 -- No notice ends a run, too.
 unread_by : (running : Running) (whole : List ℕ) (input new_input first_text text new_text : Option (List ℕ)) (fault : Fault)
@@ -168,8 +170,8 @@ pub step_ends : (running new : Running) (first_input input new_input first_text 
     → Steps so_far.history running new input new_input text new_text (Some end)
     → IfSome first_input (λ whole. Runs running.origin whole first_text new_text end)
 step_ends running new None input new_input first_text text new_text end so_far step = tt
-step_ends running new (Some whole) input new_input first_text text new_text end so_far (inl (n, told, follows)) =
-    ended_by running new n whole input new_input first_text text new_text end so_far told follows
+step_ends running new (Some whole) input new_input first_text text new_text end so_far (inl (n, told, fits, follows)) =
+    ended_by running new n whole input new_input first_text text new_text end so_far told fits follows
 step_ends running new (Some whole) input new_input first_text text new_text end so_far (inr (fault, is, kept, why)) =
     let same : end ≡ Refused fault = cc in
     subst (Runs running.origin whole first_text new_text) (sym same) (unread_by running whole input new_input first_text text new_text fault so_far kept why)
@@ -179,7 +181,7 @@ pub step_goes_on : (running new : Running) (first_input input new_input first_te
     → (so_far : SoFar running first_input input first_text text)
     → Steps so_far.history running new input new_input text new_text None
     → SoFar new first_input new_input first_text new_text × (new.origin ≡ running.origin)
-step_goes_on running new first_input input new_input first_text text new_text so_far (inl (n, told, more)) =
+step_goes_on running new first_input input new_input first_text text new_text so_far (inl (n, told, fits, more)) =
     (goes_on running new n first_input input new_input first_text text new_text so_far more.0 told more.1, more.0)
 step_goes_on running new first_input input new_input first_text text new_text so_far (inr (fault, is, kept, why)) = absurd cc
 

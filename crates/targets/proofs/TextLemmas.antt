@@ -1,5 +1,5 @@
 -- A text that comes behind its length, part by part.
-use Rattle.std.proofs.Common.{◌≡◌, ◌<◌, ◌+◌, ℕ, List, ◌++◌, length, min, get_or, take, Option, Some, None, Err, append-nil, sym, ap, ◌∙◌, subst, inr, arith}
+use Rattle.std.proofs.Common.{◌≡◌, ◌<◌, ◌+◌, ◌^◌, ℕ, List, ◌++◌, length, min, get_or, take, Option, Some, None, Err, append-nil, sym, ap, ◌∙◌, subst, inr, arith}
 use Rattle.std.specs.Int.{w32, from_be_bytes}
 use Rattle.std.specs.Io.KnownBytes.{Consumes, IsAtEnd}
 use Rattle.std.proofs.KnownBytes.{Consumes-trans}
@@ -30,10 +30,11 @@ length_bytes bytes n h len is = sym (be_bytes_4 bytes n len h (is ∙ ap (from_b
 
 -- A text behind its length.
 pub is_text : (most n : ℕ) (old mid new : Option (List ℕ)) (told text : List ℕ) → Consumes old mid told → told ≡ bytes_of w32 n → Consumes mid new text
-    → length text ≡ min n (most + 1)
+    → length text ≡ min n (most + 1) → n < 2 ^ 32
     → IsText most old new text
-is_text most n old mid new told text first is second len = record {
+is_text most n old mid new told text first is second len fits = record {
   told = n;
+  fits = fits;
   bytes = Consumes-trans old mid new (bytes_of w32 n) text (subst (Consumes old mid) is first) second;
   is = len;
 }
@@ -45,11 +46,11 @@ all_that input (Some rest) bytes read end = read ∙ ap (λ l. bytes ++ l) end �
 
 -- Nor where the text isn't.
 pub no_text : (most n : ℕ) (old mid new : Option (List ℕ)) (told buffer : List ℕ) (fault : Fault) → Consumes old mid told → told ≡ bytes_of w32 n
-    → length buffer ≡ min n (most + 1)
+    → length buffer ≡ min n (most + 1) → n < 2 ^ 32
     → FillsAll mid new buffer (Err fault) → HasNoText most old fault
-no_text most n None mid new told buffer faults.EndOfInput first is len why = tt
-no_text most n (Some input) mid new told buffer faults.EndOfInput first is len (bytes, read, short, end) =
+no_text most n None mid new told buffer faults.EndOfInput first is len fits why = tt
+no_text most n (Some input) mid new told buffer faults.EndOfInput first is len fits (bytes, read, short, end) =
     let all : input ≡ told ++ bytes = all_that input new (told ++ bytes) (Consumes-trans (Some input) mid new told bytes first read) end in
-    inr (n, bytes, all ∙ ap (λ l. l ++ bytes) is, subst (λ k. length bytes < k) len short)
-no_text most n old mid new told buffer faults.ReadError first is len why = tt
-no_text most n old mid new told buffer _ first is len why = absurd why
+    inr (n, bytes, fits, all ∙ ap (λ l. l ++ bytes) is, subst (λ k. length bytes < k) len short)
+no_text most n old mid new told buffer faults.ReadError first is len fits why = tt
+no_text most n old mid new told buffer _ first is len fits why = absurd why

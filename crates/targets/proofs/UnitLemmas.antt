@@ -4,7 +4,7 @@ use Rattle.std.specs.Prelude.{if◌then◌else◌, nat_le, nat_lt, IsTrue}
 use Rattle.std.proofs.lemmas.Bool.{and_parts, eq-eqb, leb-true, ltb-true}
 use Rattle.std.proofs.lemmas.List.Folds.{list_all-append, list_all_at, list_any_at}
 use Rattle.fc_base.proofs.ListLemmas.{range_more}
-use Rattle.recheck.specs.declared.expected.Placed.{Placed}
+use Rattle.recheck.specs.declared.expected.BlockWrites.{BlockWrites}
 use Rattle.std.specs.List.{list_all, list_any, range_with_len}
 use Rattle.std.specs.Str.{bytes_eq}
 use Rattle.std.proofs.lemmas.Nat.{div-add-mod', div-mul-add, mul-le}
@@ -22,8 +22,8 @@ use Rattle.recheck.specs.Report.{report_with, tally}
 use Rattle.fc_base.specs.declared.report.ReportEnd.TheVariants.{Whole}
 use Rattle.targets.specs.Units.{BlocksAreUnits, SoundBlocksHaveSoundUnits, fits_blocks, has_sound_units, is_fault_by, is_sound_unit, is_unit_of, report_by, unit_in}
 use Rattle.recheck.specs.Check.{Check}
-use Rattle.targets.specs.declared.told.Told.{Told}
-use Rattle.targets.specs.declared.told.Told.TheVariants as tolds
+use Rattle.targets.specs.declared.block_verdict.BlockVerdict.{BlockVerdict}
+use Rattle.targets.specs.declared.block_verdict.BlockVerdict.TheVariants as tolds
 use Rattle.targets.specs.Maps.{Tells}
 use Rattle.targets.specs.Mapping.{IsFed, TellsBytes, fed_bytes, fed_by}
 
@@ -147,7 +147,7 @@ report_alike unit e held blocks =
 -- ---- what is told of a block by units
 
 -- What is told of a block that has no sound units, or isn't checked, is so by units, too.
-tells_too : (e : Expected) (unit block : ℕ) (bytes : Option (List ℕ)) (told : Told)
+tells_too : (e : Expected) (unit block : ℕ) (bytes : Option (List ℕ)) (told : BlockVerdict)
     → ((held : List ℕ) → bytes ≡ Some held → is_checked e block ≡ true → has_sound_units e unit block held ≡ false)
     → Tells None e block bytes told → Tells (Some unit) e block bytes told
 tells_too e unit block bytes tolds.Unchecked none tells = tells
@@ -158,7 +158,7 @@ tells_too e unit block bytes (tolds.Fault kind) none (checked, (held, is, unsoun
 some_is : (a b : List ℕ) → Some a ≡ Some b → a ≡ b
 some_is a b is = cc
 
-pub told_too : (old new : Check) (unit block : ℕ) (bytes : List ℕ) (told : Told)
+pub told_too : (old new : Check) (unit block : ℕ) (bytes : List ℕ) (told : BlockVerdict)
     → (is_checked old.expected block ≡ true → has_sound_units old.expected unit block bytes ≡ false)
     → fed_bytes (Some unit) old.expected block bytes ≡ bytes
     → TellsBytes None old new block bytes told → TellsBytes (Some unit) old new block bytes told
@@ -172,7 +172,7 @@ told_too old new unit block bytes told none fed tells = record {
 }
 
 -- Of one that isn't checked.
-pub told_unchecked : (old new : Check) (unit block : ℕ) (bytes : List ℕ) (told : Told) → last_write old.expected block ≡ None
+pub told_unchecked : (old new : Check) (unit block : ℕ) (bytes : List ℕ) (told : BlockVerdict) → last_write old.expected block ≡ None
     → TellsBytes None old new block bytes told → TellsBytes (Some unit) old new block bytes told
 told_unchecked old new unit block bytes told last tells =
     let none : is_checked old.expected block ≡ false = rw last refl in
@@ -181,7 +181,7 @@ told_unchecked old new unit block bytes told last tells =
     (ap (λ l. fed_by (has_sound_units old.expected unit block bytes) l (λ k. written_bytes old.expected.key old.expected.job k block) bytes) last) tells
 
 -- Of one that has a unit that isn't sound.
-pub told_unsound : (old new : Check) (unit block k : ℕ) (bytes : List ℕ) (told : Told) → last_write old.expected block ≡ Some k
+pub told_unsound : (old new : Check) (unit block k : ℕ) (bytes : List ℕ) (told : BlockVerdict) → last_write old.expected block ≡ Some k
     → has_sound_units old.expected unit block bytes ≡ false
     → TellsBytes None old new block bytes told → TellsBytes (Some unit) old new block bytes told
 told_unsound old new unit block k bytes told last is tells =
@@ -213,7 +213,7 @@ fits_some unit size fits = ltb-true 0 unit (and_parts (nat_lt 0 unit) (eqb (unit
 -- ---- writes in flight to a block
 
 -- Of the writes that go to a block one passes.
-any_to : (test : ℕ → Bool) (block : ℕ) (writes : List Placed)
+any_to : (test : ℕ → Bool) (block : ℕ) (writes : List BlockWrites)
     → list_any test (writes_to block writes) ≡ list_any (λ w. eqb w.block block && test w.seq) writes
 any_to test block [] = refl
 any_to test block (w ∷ ws) = by (eqb w.block block) refl (any_to test block ws)
@@ -224,18 +224,18 @@ any_to test block (w ∷ ws) = by (eqb w.block block) refl (any_to test block ws
     by false e rest = rw (e, rest) refl
 
 -- A write of a list that goes to the block and passes.
-pub found_at : (test : ℕ → Bool) (block : ℕ) (writes : List Placed) (i : ℕ) (w : Placed) → i < length writes → w ≡ get_or writes i w → w.block ≡ block
+pub found_at : (test : ℕ → Bool) (block : ℕ) (writes : List BlockWrites) (i : ℕ) (w : BlockWrites) → i < length writes → w ≡ get_or writes i w → w.block ≡ block
     → test w.seq ≡ true → list_any test (writes_to block writes) ≡ true
 found_at test block writes i w lt is here passes =
     any_to test block writes
-    ∙ list_any_at (λ (v : Placed). eqb v.block block && test v.seq) writes i w lt
+    ∙ list_any_at (λ (v : BlockWrites). eqb v.block block && test v.seq) writes i w lt
     (subst (λ v. (eqb v.block block && test v.seq) ≡ true) is (rw (eq-eqb w.block block here, passes) refl))
 
 -- None of a list goes to the block and passes.
-pub none_found : (test : ℕ → Bool) (block : ℕ) (writes : List Placed) (n : ℕ) → length writes ≤ n
+pub none_found : (test : ℕ → Bool) (block : ℕ) (writes : List BlockWrites) (n : ℕ) → length writes ≤ n
     → list_any (λ v. eqb v.block block && test v.seq) (take n writes) ≡ false → list_any test (writes_to block writes) ≡ false
 none_found test block writes n all none =
-    any_to test block writes ∙ ap (list_any (λ (v : Placed). eqb v.block block && test v.seq)) (sym (take_all n writes all)) ∙ none
+    any_to test block writes ∙ ap (list_any (λ (v : BlockWrites). eqb v.block block && test v.seq)) (sym (take_all n writes all)) ∙ none
 
 -- ---- units one by one
 

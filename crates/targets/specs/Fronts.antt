@@ -3,7 +3,7 @@
 use Rattle.std.specs.Prelude.{◌≡◌, ◌<◌, ℕ, true, false, List, ◌++◌, IsTrue}
 use Rattle.fc_base.specs.JobParts.{is_within_limits}
 use Rattle.fc_base.specs.Counted.{has}
-use Rattle.window.specs.History.{Event, issued, open_writes}
+use Rattle.engine.specs.History.{Event, issued, open_writes}
 use Rattle.engine.specs.Running.{Origin}
 use Rattle.engine.specs.Taken.{state_after}
 use Rattle.targets.specs.declared.notice.Notice.{Notice}

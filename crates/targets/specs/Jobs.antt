@@ -12,7 +12,7 @@ use Rattle.engine.specs.Running.{Origin}
 use Rattle.program_io.specs.declared.refusal.PrintedRefusal.{PrintedRefusal}
 use Rattle.program_io.specs.Words.{with_line_feed, Finishes}
 use Rattle.program_io.specs.Refusals.{plain, refusal_line, RefusesText}
-use Rattle.targets.specs.declared.asked.Asked.{Asked}
+use Rattle.targets.specs.declared.job_setup.JobSetup.{JobSetup}
 use Rattle.targets.specs.declared.writing.RunEnd.{RunEnd}
 use Rattle.targets.specs.declared.writing.RunEnd.TheVariants.{Taken, Refused}
 use Rattle.targets.specs.Texts.{IsText, HasNoText}
@@ -44,15 +44,15 @@ GivesNoJob input number refusal =
     × HasNoJob text number refusal)
 
 -- A text has the job of this number, and it is the one that is asked for.
-pub record IsAsked (text : List ℕ) (number : ℕ) (asked : Asked) : Type 0 where
+pub record IsAsked (text : List ℕ) (number : ℕ) (asked : JobSetup) : Type 0 where
   pub job : Job
   pub is_job : IsJobOf text number job
   pub rec : asked.rec ≡ job.rec
   pub fatal : asked.fatal ≡ job.fatal
   pub phase : asked.phase ≡ phase_in text
 
--- It stands in a text that comes behind its length.
-pub record ReadsJob (number : ℕ) (old new : Option (List ℕ)) (asked : Asked) : Type 0 where
+-- The job that is asked for stands in a text that comes behind its length.
+pub record ReadsJob (number : ℕ) (old new : Option (List ℕ)) (asked : JobSetup) : Type 0 where
   pub text : List ℕ
   pub is_text : IsText MAX_TEXT old new text
   pub is_asked : IsAsked text number asked

@@ -32,15 +32,22 @@ IsStateSince sinces.Run old new state = IsStateIn old new state
 IsStateSince sinces.LostRun old new state = (new ≡ old) × (state ≡ None)
 IsStateSince sinces.Rest old new state = (new ≡ old) × (state ≡ None)
 
+-- Bytes spell this ledger, which there can be, and no other one whose numbers have their widths.
+pub record Spells (bytes : List ℕ) (place : Place) : Type 0 where
+  pub spelled : bytes ≡ spelling place
+  pub possible : IsTrue (is_possible place)
+  pub only : (other : Place) → IsRangedPlace other → IsTrue (is_possible other)
+      → bytes ≡ spelling other → place ≡ other
+
 -- Bytes tell what is known of a job's place: none, that nothing is asked; or they are the ledger's,
 -- of as many blocks of that size.
 abbrev pub Tells : JobParts → List ℕ → Place → Type 0
 Tells job [] place = place ≡ empty job.bs job.blocks
 Tells job (b ∷ bs) place =
-    (length (b ∷ bs) ≤ MAX_LEDGER) × ((b ∷ bs) ≡ spelling place)
+    (length (b ∷ bs) ≤ MAX_LEDGER) × Spells (b ∷ bs) place
     × (place.bs ≡ job.bs) × (length place.entries ≡ job.blocks)
 
--- Such bytes come behind their length.
+-- Bytes that tell what is known of a job's place come behind their length.
 abbrev pub IsLedgerIn : JobParts → Option (List ℕ) → Option (List ℕ) → Place → Type 0
 IsLedgerIn job old new place =
     (bytes : List ℕ) × IsText MAX_LEDGER old new bytes × Tells job bytes place
@@ -51,10 +58,10 @@ SpellsNone bytes fault =
     (place : Place) → IsRangedPlace place → IsTrue (is_possible place) → bytes ≡ spelling place
     → fault ≡ faults.NoMemory
 
--- They spell one of blocks of another size or number.
+-- Bytes spell a ledger of blocks of another size or number.
 abbrev pub IsOfOtherPlace : JobParts → List ℕ → Type 0
 IsOfOtherPlace job bytes =
-    (place : Place) × (bytes ≡ spelling place)
+    (place : Place) × Spells bytes place
     × (place.bs ≡ job.bs → length place.entries ≡ job.blocks → ⊥)
 
 -- Why bytes are no ledger of a job's place: there are too many; it is one of another place; or they
@@ -85,11 +92,11 @@ pub record BeginsLedger (key : Key) (since : Since) (input target : List ℕ) (j
   pub fits : FitsIfAny state key job.rec (Ok tt)
   pub is_ledger : IsLedgerIn job.rec (Some rest) (Some target) place
 
--- Why there is no state.
+-- Why an input gives no state of the run behind which it is checked.
 abbrev pub HasNoStateSince : Since → Option (List ℕ) → Fault → Type 0
 HasNoStateSince since input fault = (since ≡ sinces.Run) × HasNoState input fault
 
--- Why there is no ledger.
+-- Why an input gives no ledger.
 abbrev pub HasNoLedger : JobParts → Option (List ℕ) → LedgerRefusal → Type 0
 HasNoLedger job rest refusal =
     ((fault : Fault) × HasNoText MAX_LEDGER rest fault × (refusal ≡ refusals.Printed (plain fault)))

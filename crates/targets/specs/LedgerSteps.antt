@@ -16,10 +16,11 @@ use Rattle.ledger.specs.Entries.{asks}
 use Rattle.recheck.specs.Expected.{Expected, expected_by}
 use Rattle.targets.specs.declared.command.Since.{Since}
 use Rattle.targets.specs.declared.ledger_found.Found.{Found}
+use Rattle.targets.specs.declared.ledger_input.Basis.{Basis}
 use Rattle.targets.specs.declared.ledger_found.Found.TheVariants as founds
 use Rattle.targets.specs.declared.ledger_sums.Sums.{Sums}
 use Rattle.targets.specs.declared.ledger_steps.LedgerMap.{LedgerMap}
-use Rattle.targets.specs.declared.told.Told.TheVariants as tolds
+use Rattle.targets.specs.declared.block_verdict.BlockVerdict.TheVariants as tolds
 use Rattle.targets.specs.LedgerInput.{BeginsLedger, place_since}
 use Rattle.targets.specs.LedgerLines.{rest_line, rest_unread_line}
 use Rattle.targets.specs.Jobs.{Refuses}
@@ -33,7 +34,7 @@ use Rattle.targets.specs.MapLines.{line_if_any}
 abbrev pub all_told : Sums → ℕ
 all_told sums = all_lines sums.kinds + sums.at_rest
 
--- No block yet.
+-- The sums before the first block: no block is told yet.
 abbrev pub no_sums : Sums
 no_sums = record { kinds = no_lines; at_rest = 0 }
 
@@ -60,18 +61,23 @@ pub record IsReady (map : LedgerMap) : Type 0 where
   pub room : length map.bytes.items ≡ map.recheck.expected.job.bs
   pub none : map.unread ≡ false
 
--- A check is started by the front of an input, and this is left.
-pub record StartsLedger (key : Key) (since : Since) (input : List ℕ) (left : Option (List ℕ))
-    (map : LedgerMap) : Type 0 where
+-- What a check goes by is read from the front of an input, and this is left.
+pub record ReadsBasis (key : Key) (since : Since) (input : List ℕ) (left : Option (List ℕ))
+    (basis : Basis) : Type 0 where
   pub job : Job
   pub state : Option State
   pub target : List ℕ
   pub known : Place
   pub leaves : left ≡ Some target
   pub begins : BeginsLedger key since input target job state known
+  pub expected : basis.recheck.expected ≡ expected_by key job.rec state
+  pub asked : basis.asked ≡ place_since since (expected_by key job.rec state) known
+
+-- A check is started by what was read so.
+pub record StartsLedger (key : Key) (since : Since) (input : List ℕ) (left : Option (List ℕ))
+    (map : LedgerMap) : Type 0 where
   pub since_is : map.since ≡ since
-  pub expected : map.recheck.expected ≡ expected_by key job.rec state
-  pub asked : map.asked ≡ place_since since (expected_by key job.rec state) known
+  pub basis : ReadsBasis key since input left (record { recheck = map.recheck; asked = map.asked })
 
 -- A check goes on: it is of the same run and of the same place, no block from this one on has come,
 -- and there is room for a block.
@@ -121,7 +127,7 @@ Ends map sums old new status =
     old new status
     ⊎ Refuses (plain NoMemory) old new status
 
--- It is ended before a block in which the input ended.
+-- A check by a ledger is ended before a block in which the input ended.
 abbrev pub EndsCut : LedgerMap → Sums → ℕ → Option (List ℕ) → Option (List ℕ) → ℕ → Type 0
 EndsCut map sums block old new status =
     Finishes (unasked_line map.asked ++ last_line (report_at map.check.found block) sums) 2 old new

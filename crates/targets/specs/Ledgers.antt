@@ -27,7 +27,7 @@ use Rattle.targets.specs.declared.ledger_found.Found.TheVariants as founds
 use Rattle.targets.specs.declared.ledger_sums.Sums.{Sums}
 use Rattle.targets.specs.declared.ledger_refusal.LedgerRefusal.{LedgerRefusal}
 use Rattle.targets.specs.declared.ledger_refusal.LedgerRefusal.TheVariants as refusals
-use Rattle.targets.specs.declared.told.Told.TheVariants as tolds
+use Rattle.targets.specs.declared.block_verdict.BlockVerdict.TheVariants as tolds
 use Rattle.targets.specs.Jobs.{Refuses}
 use Rattle.targets.specs.Reports.{report_line, report_status}
 use Rattle.targets.specs.MapInput.{block_code, IsPart, NoBlock}
@@ -74,7 +74,7 @@ IsFound since e entry block bytes (founds.Rest content) =
     (has_written since e block ≡ false)
     × IsRead entry block bytes false (λ held. Contains e held content)
 
--- So it is of each of these blocks, and those that were read are whole.
+-- What is found at each of these blocks is so, by its entry, and those that were read are whole.
 abbrev pub AreFound : Since → Expected → Place → List Cell → Type 0
 AreFound since e place [] = Unit {0}
 AreFound since e place (cell ∷ cells) =
@@ -92,7 +92,7 @@ pub record HasCome (since : Since) (e : Expected) (place : Place) (n : ℕ)
 abbrev pub is_asked : Place → Cell → Bool
 is_asked place cell = is_some cell.bytes && asks (entry_of place cell.block)
 
--- It was read, and it holds nothing that its entry asks for.
+-- A block was read, and it holds nothing that its entry asks for.
 abbrev pub is_lost : Place → Cell → Bool
 is_lost place cell = by cell.bytes
   where
@@ -102,7 +102,7 @@ is_lost place cell = by cell.bytes
         asks (entry_of place cell.block)
         && not (list_any (is_held cell.block bytes) (entry_of place cell.block))
 
--- Its entry asks for something, and it could not be read.
+-- A block could not be read whose entry asks for something.
 abbrev pub is_unread : Place → Cell → Bool
 is_unread place cell = asks (entry_of place cell.block) && not (is_some cell.bytes)
 

@@ -25,3 +25,11 @@ pub mod Ledgers
 pub mod LedgerSteps
 pub mod LedgerJobs
 pub mod LedgerLaws
+pub mod TourWords
+pub mod Tours
+pub mod Touring
+pub mod TourJobs
+pub mod TourLaws
+pub mod Wanted
+pub mod WantedLaws
+pub mod WantedExample

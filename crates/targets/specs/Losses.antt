@@ -3,7 +3,7 @@ use Rattle.std.specs.Prelude.{◌≡◌, ◌<◌, ◌≤◌, ℕ, Bool, false, L
 use Rattle.fc_base.specs.JobParts.{is_within_limits}
 use Rattle.fc_base.specs.Counted.{has}
 use Rattle.write_order.specs.Blocks.{block_of}
-use Rattle.window.specs.History.{Event, issued}
+use Rattle.engine.specs.History.{Event, issued}
 use Rattle.engine.specs.Running.{Origin}
 use Rattle.engine.specs.Taken.{state_after}
 use Rattle.recheck.specs.Expected.{expected_by}

@@ -5,7 +5,7 @@ use Rattle.write_order.specs.Stamps.{written_bytes}
 use Rattle.diagnosis.specs.declared.difference.Difference.{Difference}
 use Rattle.diagnosis.specs.declared.difference.TheConstants.{FEW_BYTES}
 use Rattle.diagnosis.specs.Differences.{difference_of}
-use Rattle.recheck.specs.declared.expected.Placed.{Placed}
+use Rattle.recheck.specs.declared.expected.BlockWrites.{BlockWrites}
 use Rattle.recheck.specs.Expected.{Expected}
 use Rattle.recheck.specs.Faults.{last_write}
 
@@ -36,7 +36,7 @@ differs_from_last e block bytes None = []
 differs_from_last e block bytes (Some k) = differs_from e block bytes k
 
 -- How it does from a write in flight, if that goes to the block.
-abbrev pub differs_from_placed : Expected → ℕ → List ℕ → Placed → List ℕ
+abbrev pub differs_from_placed : Expected → ℕ → List ℕ → BlockWrites → List ℕ
 differs_from_placed e block bytes write =
     if write.block == block then differs_from e block bytes write.seq else []
 

@@ -4,15 +4,15 @@ use Rattle.std.specs.Prelude.{◌≡◌, ◌⊎◌, ◌<◌, ℕ, Bool, true, fa
 use Rattle.std.specs.Io.KnownBytes.{Consumes, IsAtEnd}
 use Rattle.fc_base.specs.declared.fault.Fault.{Fault}
 use Rattle.fc_base.specs.declared.fault.Fault.TheVariants as faults
-use Rattle.targets.specs.declared.map_input.Came.{Came}
-use Rattle.targets.specs.declared.map_input.Came.TheVariants as cames
+use Rattle.targets.specs.declared.map_input.BlockRead.{BlockRead}
+use Rattle.targets.specs.declared.map_input.BlockRead.TheVariants as cames
 
 -- The bytes by which a block comes.
 abbrev pub block_code : Option (List ℕ) → List ℕ
 block_code None = 0 ∷ []
 block_code (Some bytes) = 1 ∷ bytes
 
--- So much of a block of this size that it isn't whole.
+-- What came of a block of this size isn't the whole of it, and may be nothing.
 abbrev pub IsPart : ℕ → List ℕ → Type 0
 IsPart size part =
     (part ≡ []) ⊎ ((front : List ℕ) × (part ≡ 1 ∷ front) × (length front < size))
@@ -36,14 +36,14 @@ FillsOrEnds old new buffer (Err fault) = fault ≡ faults.ReadError
 
 -- What comes: the bytes of a block, which are in the buffer then; or that it could not be read; or
 -- the end.
-abbrev pub Comes : Option (List ℕ) → Option (List ℕ) → List ℕ → Result Came Fault → Type 0
+abbrev pub Comes : Option (List ℕ) → Option (List ℕ) → List ℕ → Result BlockRead Fault → Type 0
 Comes old new buffer (Ok cames.Bytes) = Consumes old new (block_code (Some buffer))
 Comes old new buffer (Ok cames.Unread) = Consumes old new (block_code None)
 Comes old new buffer (Ok cames.End) = EndsInBlock (length buffer) old new
 Comes old new buffer (Err fault) = NoBlock fault old new
 
 -- What comes behind a byte 1.
-abbrev pub BlockComes : Option (List ℕ) → Option (List ℕ) → List ℕ → Result Came Fault → Type 0
+abbrev pub BlockComes : Option (List ℕ) → Option (List ℕ) → List ℕ → Result BlockRead Fault → Type 0
 BlockComes old new buffer (Ok cames.Bytes) = Consumes old new buffer
 BlockComes old new buffer (Ok cames.Unread) = ⊥
 BlockComes old new buffer (Ok cames.End) =

@@ -3,16 +3,16 @@ use Rattle.std.specs.Prelude.{ℕ, ◌==◌, ◌+◌, ◌-◌, Bool, not, ◌&&�
 use Rattle.std.specs.List.{flat_map, range_with_len}
 use Rattle.diagnosis.specs.declared.holds.Holds.TheVariants as kinds
 use Rattle.diagnosis.specs.declared.stamp.Write.{Write}
-use Rattle.recheck.specs.declared.expected.Placed.{Placed}
+use Rattle.recheck.specs.declared.expected.BlockWrites.{BlockWrites}
 use Rattle.recheck.specs.Expected.{Expected}
 use Rattle.recheck.specs.Faults.{is_checked, last_write}
 use Rattle.targets.specs.MapDifferences.{differs_words}
 use Rattle.targets.specs.MapSectors.{sectors_words}
-use Rattle.targets.specs.declared.told.Told.{Told}
-use Rattle.targets.specs.declared.told.Told.TheVariants as tolds
+use Rattle.targets.specs.declared.block_verdict.BlockVerdict.{BlockVerdict}
+use Rattle.targets.specs.declared.block_verdict.BlockVerdict.TheVariants as tolds
 
 -- The word of what is told.
-abbrev pub kind_word : Told → List ℕ
+abbrev pub kind_word : BlockVerdict → List ℕ
 kind_word tolds.Unchecked = codes "unchecked"
 kind_word tolds.Unread = codes "unread"
 kind_word tolds.Sound = codes "sound"
@@ -32,7 +32,7 @@ last_words None = []
 last_words (Some k) = decimal k
 
 -- A write in flight, if it goes to the block.
-abbrev pub or_words : ℕ → Placed → List ℕ
+abbrev pub or_words : ℕ → BlockWrites → List ℕ
 or_words block write = if write.block == block then codes " or " ++ decimal write.seq else []
 
 -- The writes that a block may hold: the last completed one, and those in flight to it.
@@ -52,7 +52,7 @@ own_words k = codes ", holds write " ++ decimal k
 
 -- What a block with these bytes holds, where that is more than its kind. Where it holds stamps or a
 -- pattern, it is told how it differs from the writes that it may hold, if that is in a few bytes.
-abbrev pub held_words : Expected → ℕ → List ℕ → Told → List ℕ
+abbrev pub held_words : Expected → ℕ → List ℕ → BlockVerdict → List ℕ
 held_words e block bytes tolds.Unchecked = []
 held_words e block bytes tolds.Unread = []
 held_words e block bytes tolds.Sound = []
@@ -74,13 +74,13 @@ held_words e block bytes (tolds.Fault (kinds.Corrupt sectors)) =
 
 -- The line of a block: its number, what is told of it, the writes that it may hold, and what it
 -- holds.
-abbrev pub line_words : Expected → ℕ → List ℕ → Told → List ℕ
+abbrev pub line_words : Expected → ℕ → List ℕ → BlockVerdict → List ℕ
 line_words e block bytes told =
     codes "block " ++ (decimal block ++ (codes " " ++ (kind_word told ++ (codes ": wants write "
     ++ (wanted_words e block ++ (held_words e block bytes told ++ codes "\n"))))))
 
--- It has none where it isn't checked or is sound.
-abbrev pub line_if_any : Expected → ℕ → List ℕ → Told → List ℕ
+-- The line of a block, which has none where it isn't checked or is sound.
+abbrev pub line_if_any : Expected → ℕ → List ℕ → BlockVerdict → List ℕ
 line_if_any e block bytes tolds.Unchecked = []
 line_if_any e block bytes tolds.Sound = []
 line_if_any e block bytes tolds.Unread = line_words e block bytes tolds.Unread
@@ -90,7 +90,7 @@ line_if_any e block bytes (tolds.Fault kind) = line_words e block bytes (tolds.F
 abbrev pub begins_unchecked : (ℕ → Bool) → ℕ → Bool
 begins_unchecked checked block = not (checked block) && (block == 0 || checked (block - 1))
 
--- They end at this one: it isn't checked, and the one behind it is, or isn't there.
+-- Unchecked blocks end at this one: it isn't checked, and the one behind it is, or isn't there.
 abbrev pub ends_unchecked : (ℕ → Bool) → ℕ → ℕ → Bool
 ends_unchecked checked blocks block =
     not (checked block) && (block + 1 == blocks || checked (block + 1))

@@ -9,7 +9,7 @@ use Rattle.diagnosis.specs.declared.stamp.Stamp.{Stamp}
 use Rattle.diagnosis.specs.declared.stamp.Write.{Write}
 use Rattle.diagnosis.specs.Pieces.{piece_at}
 
--- The same numbers.
+-- Two keys, or two writes, have the same numbers.
 abbrev pub is_same_key : Key → Key → Bool
 is_same_key a b = a.run == b.run && (a.server == b.server && a.job == b.job)
 
@@ -34,7 +34,7 @@ abbrev pub begins_at : Expected → List ℕ → ℕ → Bool
 begins_at e bytes n =
     n == 0 || not (goes_on (piece_at e bytes (n - 1)) (piece_at e bytes n))
 
--- It ends at one that doesn't go on in the next, of so many.
+-- An extent ends at a sector that doesn't go on in the next, or is the last of this many.
 abbrev pub ends_at : Expected → List ℕ → ℕ → ℕ → Bool
 ends_at e bytes sectors n =
     n + 1 == sectors || not (goes_on (piece_at e bytes n) (piece_at e bytes (n + 1)))
@@ -57,7 +57,8 @@ piece_words (pieces.Stamp stamp) = stamp_words stamp
 abbrev pub begin_words : Expected → List ℕ → ℕ → List ℕ
 begin_words e bytes n = if begins_at e bytes n then codes "; " ++ decimal n else []
 
--- Its last, and what that holds.
+-- The last sector of an extent, and what that holds; and what is said at a sector, by whether an
+-- extent begins and ends there.
 abbrev pub last_sector_words : ℕ → Piece → List ℕ
 last_sector_words n piece = codes "-" ++ (decimal n ++ (codes " " ++ piece_words piece))
 

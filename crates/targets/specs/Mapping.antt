@@ -8,7 +8,7 @@ use Rattle.recheck.specs.Faults.{is_checked, last_write}
 use Rattle.write_order.specs.Stamps.{written_bytes}
 use Rattle.targets.specs.Units.{has_sound_units}
 use Rattle.targets.specs.declared.map.Map.{Map}
-use Rattle.targets.specs.declared.told.Told.{Told}
+use Rattle.targets.specs.declared.block_verdict.BlockVerdict.{BlockVerdict}
 use Rattle.targets.specs.MapInput.{block_code, EndsInBlock, NoBlock}
 use Rattle.targets.specs.Maps.{Tells, is_unread}
 
@@ -51,7 +51,7 @@ HasTaken unit old new block (Some bytes) =
 
 -- A block has come, and this is told of it.
 pub record TakesBlock (unit : Option ℕ) (e : Expected) (old new : Map) (block : ℕ)
-    (input left : Option (List ℕ)) (told : Told) : Type 0 where
+    (input left : Option (List ℕ)) (told : BlockVerdict) : Type 0 where
   pub bytes : Option (List ℕ)
   pub came : Consumes input left (block_code bytes)
   pub whole : IfSome bytes (λ l. length l ≡ e.job.bs)
@@ -63,7 +63,7 @@ pub record TakesBlock (unit : Option ℕ) (e : Expected) (old new : Map) (block 
 
 -- What comes of the next block.
 abbrev pub Takes : Option ℕ → Expected → Map → Map → ℕ → Option (List ℕ) → Option (List ℕ)
-    → Result (Option Told) Fault → Type 0
+    → Result (Option BlockVerdict) Fault → Type 0
 Takes unit e old new block input left (Ok (Some told)) =
     TakesBlock unit e old new block input left told
 Takes unit e old new block input left (Ok None) =
@@ -72,7 +72,7 @@ Takes unit e old new block input left (Err fault) = NoBlock fault input left
 
 -- What is told of a block with these bytes.
 pub record TellsBytes (unit : Option ℕ) (old new : Check) (block : ℕ) (bytes : List ℕ)
-    (told : Told) : Type 0 where
+    (told : BlockVerdict) : Type 0 where
   pub tells : Tells unit old.expected block (Some bytes) told
   pub expected : new.expected ≡ old.expected
   pub fatal : new.fatal ≡ old.fatal
@@ -80,7 +80,7 @@ pub record TellsBytes (unit : Option ℕ) (old new : Check) (block : ℕ) (bytes
   pub taken : HasTaken unit old new block (Some bytes)
 
 -- What is told of one that could not be read.
-pub record TellsUnread (old new : Map) (block : ℕ) (told : Told) : Type 0 where
+pub record TellsUnread (old new : Map) (block : ℕ) (told : BlockVerdict) : Type 0 where
   pub tells : (unit : Option ℕ) → Tells unit old.check.expected block None told
   pub check : new.check ≡ old.check
   pub bytes : new.bytes ≡ old.bytes

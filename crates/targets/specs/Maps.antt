@@ -11,9 +11,9 @@ use Rattle.program_io.specs.Words.{with_line_feed, Finishes}
 use Rattle.program_io.specs.Refusals.{plain, refusal_line}
 use Rattle.recheck.specs.Expected.{Expected}
 use Rattle.recheck.specs.Faults.{is_checked}
-use Rattle.targets.specs.declared.kinds.Kinds.{Kinds}
-use Rattle.targets.specs.declared.told.Told.{Told}
-use Rattle.targets.specs.declared.told.Told.TheVariants as tolds
+use Rattle.targets.specs.declared.kind_counts.KindCounts.{KindCounts}
+use Rattle.targets.specs.declared.block_verdict.BlockVerdict.{BlockVerdict}
+use Rattle.targets.specs.declared.block_verdict.BlockVerdict.TheVariants as tolds
 use Rattle.targets.specs.Reports.{report_line, report_status}
 use Rattle.targets.specs.MapInput.{block_code, IsPart, NoBlock}
 use Rattle.targets.specs.Units.{is_sound_by, report_by}
@@ -24,11 +24,11 @@ use Rattle.targets.specs.MapLines.{kind_word, line_words, unchecked_line}
 pub record Cell : Type 0 where
   pub block : ℕ
   pub bytes : Option (List ℕ)
-  pub told : Told
+  pub told : BlockVerdict
 
 -- What is told of a block is so. One that isn't checked may hold anything; of a checked one it is
 -- told that it could not be read, or that it is sound, or else what it holds.
-abbrev pub Tells : Option ℕ → Expected → ℕ → Option (List ℕ) → Told → Type 0
+abbrev pub Tells : Option ℕ → Expected → ℕ → Option (List ℕ) → BlockVerdict → Type 0
 Tells unit e block bytes tolds.Unchecked = is_checked e block ≡ false
 Tells unit e block bytes tolds.Unread = IsTrue (is_checked e block) × (bytes ≡ None)
 Tells unit e block bytes tolds.Sound =
@@ -39,7 +39,7 @@ Tells unit e block bytes (tolds.Fault kind) =
     × ((held : List ℕ) × (bytes ≡ Some held) × (is_sound_by unit e block held ≡ false)
     × BlockHolds e block held kind)
 
--- So it is of each of these blocks, and those that were read are whole.
+-- What is told of each of these blocks is so, and those that were read are whole.
 abbrev pub AreTold : Option ℕ → Expected → List Cell → Type 0
 AreTold unit e [] = Unit {0}
 AreTold unit e (cell ∷ cells) =
@@ -83,7 +83,7 @@ lines_with unit e cells word =
     length (filter (λ c. has_line unit e c && bytes_eq (kind_word c.told) word) cells)
 
 -- How many have a line of each kind.
-abbrev pub kinds_of : Option ℕ → Expected → List Cell → Kinds
+abbrev pub kinds_of : Option ℕ → Expected → List Cell → KindCounts
 kinds_of unit e cells = kinds_by (lines_with unit e cells)
 
 -- A checked block could not be read.
@@ -101,7 +101,7 @@ Reports unit e cells r =
     (held : ℕ → List ℕ) → AreOf held cells → r ≡ report_by unit e held (read_blocks cells)
 
 -- The last line: the report's, and behind it how many lines there are of each kind.
-abbrev pub last_line : ReportParts → Kinds → List ℕ
+abbrev pub last_line : ReportParts → KindCounts → List ℕ
 last_line r kinds = with_line_feed (report_line r ++ kinds_words kinds)
 
 -- What is written of these blocks: their lines, the line that tells which blocks of the region

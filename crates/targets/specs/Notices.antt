@@ -1,5 +1,5 @@
 -- What is told of the writes of a job that are carried out elsewhere, and its bytes.
-use Rattle.std.specs.Prelude.{◌≡◌, ℕ, ◌==◌, ◌&&◌, List, [], ◌∷◌, ◌++◌, Option, Some, None, if◌then◌else◌}
+use Rattle.std.specs.Prelude.{◌≡◌, ◌<◌, ◌^◌, ⊤, ℕ, ◌==◌, ◌&&◌, List, [], ◌∷◌, ◌++◌, Option, Some, None, if◌then◌else◌}
 use Rattle.std.specs.Int.{w64}
 use Rattle.fc_base.specs.Layouts.{bytes_of}
 use Rattle.targets.specs.declared.notice.Notice.{Notice}
@@ -11,6 +11,12 @@ abbrev pub notice_bytes : Notice → List ℕ
 notice_bytes (Done k) = bytes_of w64 1 ++ bytes_of w64 k
 notice_bytes (Failed k) = bytes_of w64 2 ++ bytes_of w64 k
 notice_bytes Take = bytes_of w64 3 ++ bytes_of w64 0
+
+-- The write that a notice names has a number of eight bytes.
+abbrev pub NoticeFits : Notice → Type 0
+NoticeFits (Done k) = k < 2 ^ 64
+NoticeFits (Failed k) = k < 2 ^ 64
+NoticeFits Take = ⊤
 
 -- The bytes of notices. In a list of them the last one stands first.
 abbrev pub told_bytes : List Notice → List ℕ
@@ -39,5 +45,5 @@ notice_of kind write =
 
 -- The notice that 16 bytes are, or none where no notice has them.
 abbrev pub IsNoticeIn : List ℕ → Option Notice → Type 0
-IsNoticeIn bytes (Some n) = bytes ≡ notice_bytes n
+IsNoticeIn bytes (Some n) = (bytes ≡ notice_bytes n) × NoticeFits n
 IsNoticeIn bytes None = (n : Notice) → bytes ≡ notice_bytes n → ⊥

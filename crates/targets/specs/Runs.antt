@@ -1,9 +1,9 @@
 -- What comes of a job whose writes are ordered and whose ends are told.
-use Rattle.std.specs.Prelude.{◌≡◌, ◌⊎◌, ◌<◌, ◌≤◌, ℕ, false, List, [], ◌∷◌, ◌++◌, length, take, map, ⊤, Option}
+use Rattle.std.specs.Prelude.{◌≡◌, ◌⊎◌, ◌<◌, ◌≤◌, ◌^◌, ℕ, false, List, [], ◌∷◌, ◌++◌, length, take, map, ⊤, Option}
 use Rattle.std.specs.Io.KnownBytes.{Appends, Keeps}
 use Rattle.fc_base.specs.Counted.{has}
 use Rattle.fc_base.specs.declared.fault.Fault.TheVariants as faults
-use Rattle.window.specs.History.{Event, issue, done, fail, open_writes}
+use Rattle.engine.specs.History.{Event, issue, done, fail, open_writes}
 use Rattle.engine.specs.Legal.{IsLegal}
 use Rattle.engine.specs.Running.{Origin}
 use Rattle.engine.specs.Answers.{answer_to, is_write}
@@ -52,12 +52,13 @@ pub record TakesNext (bytes : List ℕ) : Type 0 where
   pub rest : List ℕ
   pub take : bytes ≡ notice_bytes Take ++ rest
 
--- A notice is told next of a write that isn't open.
+-- A notice is told next of a write that isn't open, whose number has eight bytes.
 pub record EndsNone (bytes : List ℕ) (h : List Event) : Type 0 where
   pub write : ℕ
   pub rest : List ℕ
   pub told : (bytes ≡ notice_bytes (Done write) ++ rest)
       ⊎ (bytes ≡ notice_bytes (Failed write) ++ rest)
+  pub fits : write < 2 ^ 64
   pub none : has (open_writes h) write ≡ false
 
 -- The next 16 bytes are no notice.

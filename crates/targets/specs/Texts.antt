@@ -1,5 +1,5 @@
 -- A text that comes behind its length.
-use Rattle.std.specs.Prelude.{◌≡◌, ◌⊎◌, ◌<◌, ℕ, ◌+◌, ◌++◌, min, List, length, Option, IfSome, Result, Ok, Err}
+use Rattle.std.specs.Prelude.{◌≡◌, ◌⊎◌, ◌<◌, ◌^◌, ℕ, ◌+◌, ◌++◌, min, List, length, Option, IfSome, Result, Ok, Err}
 use Rattle.std.specs.Int.{w32}
 use Rattle.std.specs.Io.KnownBytes.{Consumes, IsAtEnd}
 use Rattle.fc_base.specs.Layouts.{bytes_of}
@@ -10,6 +10,7 @@ use Rattle.fc_base.specs.declared.fault.Fault.TheVariants as faults
 -- than `most`.
 pub record IsText (most : ℕ) (old new : Option (List ℕ)) (text : List ℕ) : Type 0 where
   pub told : ℕ
+  pub fits : told < 2 ^ 32
   pub bytes : Consumes old new (bytes_of w32 told ++ text)
   pub is : length text ≡ min told (most + 1)
 
@@ -17,7 +18,7 @@ pub record IsText (most : ℕ) (old new : Option (List ℕ)) (text : List ℕ) :
 abbrev pub IsCutShort : ℕ → List ℕ → Type 0
 IsCutShort most input =
     (length input < 4)
-    ⊎ ((told : ℕ) × (rest : List ℕ) × (input ≡ bytes_of w32 told ++ rest)
+    ⊎ ((told : ℕ) × (rest : List ℕ) × (told < 2 ^ 32) × (input ≡ bytes_of w32 told ++ rest)
     × (length rest < min told (most + 1)))
 
 -- Why an input gives no text: it ends too early, a read has failed, or there is no memory.

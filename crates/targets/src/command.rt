@@ -2,7 +2,7 @@
 
 ghost use Rattle.std.specs.Prelude.{◌≡◌, ◌≤◌, ◌<◌, IfSome, IsTrue, Some, map, unwrap_or};
 ghost use Rattle.fc_base.specs.Keys.{is_key};
-ghost use Rattle.targets.specs.Command.{IsOption, IsRequest, Asks, AreLedgerWords, AreMapWords, AreOptions, AreWords, ledger_word, option_words};
+ghost use Rattle.targets.specs.Command.{IsOption, IsRequest, Asks, AreLedgerWords, AreMapWords, AreOptions, AreWords, ledger_word, option_words, wanted_word, AreTourWords};
 
 use clap::{Arg, ArgMatches, Command, Error};
 use fc_base::{JobNo, Key, MAX_JOBS, MAX_SERVERS, RunNo, ServerNo};
@@ -26,6 +26,8 @@ pub enum Since {
 pub enum Request {
     /// `drive write RUN JOB`: write the job of this number.
     Write { run: RunNo, job: JobNo },
+    /// `drive tour JOB`: write the job of this number once for each tile that is begun.
+    Tour { job: JobNo },
     /// `drive check RUN JOB`: check its target.
     Check { run: RunNo, job: JobNo },
     /// `drive map RUN JOB`, behind it `--server SERVER` or nothing, and then `--unit BYTES` or
@@ -36,6 +38,9 @@ pub enum Request {
     /// `--server SERVER` or nothing: check the target by its ledger, behind this run, behind this
     /// run whose state was lost, or where no run was since the last check.
     Ledger { key: Key, since: Since },
+    /// `drive wanted RUN JOB`, `drive wanted-lost RUN JOB` or `drive wanted-rest RUN JOB`, likewise:
+    /// tell which blocks such a check has to read.
+    Wanted { key: Key, since: Since },
 }
 
 /// Reads the words of a command line, of which the first is the program's own name. `None` is a bad command: no
@@ -55,6 +60,10 @@ pub fn read_words<S: AsStr>(alloc: Global, words: &[S]) -> Option<Request>
             let (run, job) = numbers_of(values)?;
             are_words(words, "write", run, job).then_some(Request::Write { run, job })
         }
+        ("tour", values) => {
+            let job = job_of(values)?;
+            are_tour_words(words, job).then_some(Request::Tour { job })
+        }
         ("check", values) => {
             let (run, job) = numbers_of(values)?;
             are_words(words, "check", run, job).then_some(Request::Check { run, job })
@@ -63,6 +72,9 @@ pub fn read_words<S: AsStr>(alloc: Global, words: &[S]) -> Option<Request>
         ("ledger", values) => ledger_of(words, Since::Run, values),
         ("ledger-lost", values) => ledger_of(words, Since::LostRun, values),
         ("ledger-rest", values) => ledger_of(words, Since::Rest, values),
+        ("wanted", values) => wanted_of(words, Since::Run, values),
+        ("wanted-lost", values) => wanted_of(words, Since::LostRun, values),
+        ("wanted-rest", values) => wanted_of(words, Since::Rest, values),
         _ => None,
     }
 }
@@ -84,10 +96,31 @@ fn ledger_of<S: AsStr>(words: &[S], since: Since, values: &ArgMatches<'_>) -> Op
     ensures asked { IfSome result (Asks (map S.text words.now)) }
 {
     let (key, server) = key_in(values)?;
-    are_ledger_words(words, since, key.run, key.job, server).then_some(Request::Ledger {
-        key,
-        since,
-    })
+    are_ledger_words(words, ledger_word(since), key.run, key.job, server).then_some(
+        Request::Ledger { key, since },
+    )
+}
+
+/// The word by which it is asked which blocks such a check has to read.
+fn wanted_word(since: Since) -> &'static str
+    ensures { result.now ≡ wanted_word since }
+{
+    match since {
+        Since::Run => "wanted",
+        Since::LostRun => "wanted-lost",
+        Since::Rest => "wanted-rest",
+    }
+}
+
+/// The question that the words ask, which blocks a check by a ledger has to read.
+fn wanted_of<S: AsStr>(words: &[S], since: Since, values: &ArgMatches<'_>) -> Option<Request>
+    ensures allowed { IfSome result IsRequest }
+    ensures asked { IfSome result (Asks (map S.text words.now)) }
+{
+    let (key, server) = key_in(values)?;
+    are_ledger_words(words, wanted_word(since), key.run, key.job, server).then_some(
+        Request::Wanted { key, since },
+    )
 }
 
 /// The key of the job, and the server that it has where the words name one: else it is of server 0.
@@ -108,19 +141,18 @@ fn key_in(values: &ArgMatches<'_>) -> Option<(Key, Option<u32>)>
     Some((key, server))
 }
 
-/// Whether these are the words of a check of this job by a ledger, and of this server.
+/// Whether these are the words of this command by a ledger of this job, and of this server.
 fn are_ledger_words<S: AsStr>(
     words: &[S],
-    since: Since,
+    command: &str,
     run: RunNo,
     job: JobNo,
     server: Option<u32>,
 ) -> bool
-    ensures { IsTrue result → AreLedgerWords (map S.text words.now) since run job server }
+    ensures { IsTrue result → AreLedgerWords (map S.text words.now) command.now run job server }
 {
     words.len() >= 4
-        && (are_words(&words[..4], ledger_word(since), run, job)
-            && is_option(&words[4..], "--server", server))
+        && (are_words(&words[..4], command, run, job) && is_option(&words[4..], "--server", server))
 }
 
 /// The map that the words ask for.
@@ -195,12 +227,20 @@ fn are_words<S: AsStr>(words: &[S], command: &str, run: RunNo, job: JobNo) -> bo
                 && is_number(words[3].as_str(), u64::from(job.0))))
 }
 
+/// Whether these are the words of a tour with its job.
+fn are_tour_words<S: AsStr>(words: &[S], job: JobNo) -> bool
+    ensures { IsTrue result → AreTourWords (map S.text words.now) job }
+{
+    words.len() == 3
+        && (words[1].as_str() == "tour" && is_number(words[2].as_str(), u64::from(job.0)))
+}
+
 fn matches_of<'a, S: AsStr>(alloc: Global, words: &'a [S]) -> Result<ArgMatches<'a>, Error> {
     let command = command_of(alloc)?;
     command.try_get_matches_from(words)
 }
 
-/// What a command line may have: one of six subcommands, of all but the first two a server, and of a map a unit.
+/// What a command line may have: one of ten subcommands, of all but the first three a server, and of a map a unit.
 fn command_of<'a>(alloc: Global) -> Result<Command<'a>, AllocError> {
     let mut command = Command::new(alloc, "drive")
         .disable_help_flag(true)
@@ -208,11 +248,15 @@ fn command_of<'a>(alloc: Global) -> Result<Command<'a>, AllocError> {
         .subcommand_required(true);
     for name in [
         "write",
+        "tour",
         "check",
         "map",
         "ledger",
         "ledger-lost",
         "ledger-rest",
+        "wanted",
+        "wanted-lost",
+        "wanted-rest",
     ] {
         let words = subcommand(alloc, name)?;
         command = command.subcommand(words)?;
@@ -222,10 +266,11 @@ fn command_of<'a>(alloc: Global) -> Result<Command<'a>, AllocError> {
 
 fn subcommand<'a>(alloc: Global, name: &'a str) -> Result<Command<'a>, AllocError> {
     let mut command = Command::new(alloc, name).disable_help_flag(true);
-    for number in ["run", "job"] {
-        command = command.arg(Arg::new(alloc, number).required(true))?;
+    if name != "tour" {
+        command = command.arg(Arg::new(alloc, "run").required(true))?;
     }
-    if name != "write" && name != "check" {
+    command = command.arg(Arg::new(alloc, "job").required(true))?;
+    if name != "write" && name != "tour" && name != "check" {
         command = command.arg(Arg::new(alloc, "server").long("server"))?;
     }
     if name == "map" {
@@ -239,9 +284,20 @@ fn numbers_of(words: &ArgMatches<'_>) -> Option<(RunNo, JobNo)>
     ensures { IfSome result (λ numbers. (1 ≤ numbers.0) × (numbers.1 < MAX_JOBS)) }
 {
     let run = words.get_one::<u64>("run")?;
-    let job = words.get_one::<u32>("job")?;
-    if run == 0 || job >= MAX_JOBS {
+    let job = job_of(words)?;
+    if run == 0 {
         return None;
     }
-    Some((RunNo(run), JobNo(job)))
+    Some((RunNo(run), job))
+}
+
+/// The number of the job.
+fn job_of(words: &ArgMatches<'_>) -> Option<JobNo>
+    ensures { IfSome result (λ job. job < MAX_JOBS) }
+{
+    let job = words.get_one::<u32>("job")?;
+    if job >= MAX_JOBS {
+        return None;
+    }
+    Some(JobNo(job))
 }

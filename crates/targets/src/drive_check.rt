@@ -5,9 +5,9 @@ ghost use Rattle.std.specs.Io.KnownBytes.{Appends};
 ghost use Rattle.program_io.specs.Words.{with_line_feed};
 ghost use Rattle.targets.specs.Reports.{CannotCheck, ChecksInput, ChecksJob, HasNoState, IsStateIn, report_line, report_status};
 
-use crate::asked::{key_of, read_job};
 use crate::checking::check_blocks;
 use crate::drive_write::refuse;
+use crate::job_setup::{key_of, read_job};
 use crate::texts::read_text;
 use fc_base::{CheckReport, Fault, JobNo, Key, ReportEnd, RunNo};
 use program_io::{PrintedRefusal, write_report_words};

@@ -6,7 +6,7 @@ ghost use Rattle.fc_base.specs.Keys.{is_key};
 ghost use Rattle.engine.specs.Running.{Origin};
 ghost use Rattle.targets.specs.Jobs.{key_of, FinishesRun, Refuses, RunsRest, WritesJob};
 
-use crate::asked::{key_of, read_job};
+use crate::job_setup::{key_of, read_job};
 use crate::writing::{RunEnd, write_blocks};
 use fc_base::{Fault, JobNo, JobRecord, Key, RunNo};
 use job_file::Phase;

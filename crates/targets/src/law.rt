@@ -5,13 +5,17 @@ ghost use Rattle.std.specs.Prelude.{◌≡◌, [], ◌∷◌, true, false};
 ghost use Rattle.targets.specs.Fronts.{HistoriesAreOne, FrontsAreBehind, HistoriesGoOn, IsBehind, OrdersGoOn, OrderedAreIssued, ToldAreCounted, OrderedAreOpen};
 ghost use Rattle.targets.specs.Losses.{is_fault_after, SurvivorsAreNoFaults, LossesAreFaults};
 ghost use Rattle.targets.specs.LedgerLaws.{WholeChecks};
+ghost use Rattle.targets.specs.Tours.{IsTour};
+ghost use Rattle.targets.specs.TourLaws.{TilesAreRuns};
+ghost use Rattle.targets.specs.WantedExample.{OneBlockSuffices};
+ghost use Rattle.targets.specs.WantedLaws.{AskedBlocksSuffice, CheckedBlocksSuffice, DigitsSayWhatIsAsked, OneRunAsksForItsBlocks};
 ghost use Rattle.targets.specs.Units.{BlocksAreUnits, SoundBlocksHaveSoundUnits};
-ghost use Rattle.targets.specs.Examples.{three_writes, one_told, two_told, holds_write};
+ghost use Rattle.targets.specs.Examples.{three_writes, one_told, two_told, holds_write, two_tiles, two_tiles_written};
 
 use crate::notice::Notice;
-use engine::{overlap_law, taken_law};
+use engine::{overlap_law, sets_law, taken_law};
+use ledger::place_law;
 use recheck::faults_are_losses;
-use window::sets_law;
 use write_order::{writes_fill_their_blocks, writes_stay_in_the_region};
 
 /// A run that is told of each write only once another run of its job was orders nothing that the
@@ -49,7 +53,7 @@ pub fn loss_law()
 /// Three writes to one block, and two runs. By the state of the one that was told of writes 0 and
 /// 1 the block may hold write 1, as where the other has ordered no more, or write 2, and not write
 /// 0. By the state of the one that was told of write 0 alone, write 2 is a fault: where it may have
-/// been ordered, that is no state to check by.
+/// been ordered, that is no state to check by. And a tour of two tiles, of which one is taken.
 #[tactic(auto, unfolding(write_order::specs::Stamps::stamped_sector, write_order::specs::Stamps::counting_bytes))]
 pub fn examples()
     ensures behind { IsBehind three_writes (Notice.Done 0 ∷ [])
@@ -58,6 +62,7 @@ pub fn examples()
     ensures flies { is_fault_after three_writes two_told (holds_write 2) 0 ≡ false }
     ensures lost { is_fault_after three_writes two_told (holds_write 0) 0 ≡ true }
     ensures told_less { is_fault_after three_writes one_told (holds_write 2) 0 ≡ true }
+    ensures tour { IsTour 0 three_writes.job two_tiles two_tiles_written }
 {}
 
 /// A block that holds a write that it may hold is sound by any unit, and by one that is as long as
@@ -76,3 +81,29 @@ pub fn unit_law()
 pub fn ledger_law()
     ensures { WholeChecks }
 {}
+
+/// A tile of a tour that was taken is a run of what was told of it, whatever was told of other tiles between that: its
+/// orders and its state are those that [`write_blocks`](crate::write_blocks) gives of its own notices. So `front_law`
+/// and `loss_law` hold of each tile.
+pub fn tour_law()
+    ensures { TilesAreRuns }
+{}
+
+/// A check by a ledger needs to read no other blocks than those that `wanted_job` tells: its lines, its report, its status
+/// and its ledger are the same where any other is left out. Behind one run these are the blocks that the check of the run
+/// looks at, and a map needs no other.
+pub fn wanted_law()
+    ensures digits { DigitsSayWhatIsAsked }
+    ensures one_run { OneRunAsksForItsBlocks }
+    ensures asked { AskedBlocksSuffice }
+    ensures checked { CheckedBlocksSuffice }
+{
+    place_law();
+}
+
+/// One run has written one of two blocks of which nothing was asked: the other needn't be read.
+pub fn wanted_example()
+    ensures { OneBlockSuffices }
+{
+    wanted_law();
+}

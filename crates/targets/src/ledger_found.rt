@@ -6,8 +6,8 @@ ghost use Rattle.ledger.specs.Entries.{asks, verdict};
 ghost use Rattle.ledger.specs.declared.entry.RunWrite.{RunWrite};
 ghost use Rattle.targets.specs.Ledgers.{IsFound, has_written};
 
+use crate::block_verdict::BlockVerdict;
 use crate::command::Since;
-use crate::told::Told;
 use diagnosis::{Content, content_of, diagnose};
 use recheck::{Expected, Verdict};
 
@@ -19,7 +19,7 @@ pub(crate) enum Found {
     /// It holds a write of its entry.
     Sound,
     /// The run has completed a write to it, and it could not be read, or holds no write of its entry.
-    Written(Told),
+    Written(BlockVerdict),
     /// It was at rest, and could not be read.
     RestUnread,
     /// It was at rest, and holds this, which is no write of its entry.
@@ -54,7 +54,7 @@ pub(crate) fn find(
         Verdict::Skipped => Found::Unchecked,
         Verdict::Good => Found::Sound,
         Verdict::Fault if has_written(since, expected, block) => {
-            Found::Written(Told::Fault(diagnose(expected, block, bytes)))
+            Found::Written(BlockVerdict::Fault(diagnose(expected, block, bytes)))
         }
         Verdict::Fault => Found::Rest(content_of(expected, bytes)),
     }
@@ -68,7 +68,7 @@ pub(crate) fn find_unread(since: Since, expected: &Expected, block: u32, is_aske
     if !is_asked {
         Found::Unchecked
     } else if has_written(since, expected, block) {
-        Found::Written(Told::Unread)
+        Found::Written(BlockVerdict::Unread)
     } else {
         Found::RestUnread
     }

@@ -3,11 +3,11 @@
 ghost use Rattle.std.specs.Prelude.{◌≡◌, ◌↔◌, IfOk, IfErr, IfSome, IsTrue, length};
 ghost use Rattle.targets.specs.LedgerInput.{BeginsNoLedger, HasNoLedger, HasNoStateSince, IsLedgerIn, IsStateSince, Tells, TellsNone, place_since};
 ghost use Rattle.ledger.specs.Places.{empty};
-ghost use Rattle.targets.specs.LedgerSteps.{IsReady, StartsLedger};
+ghost use Rattle.targets.specs.LedgerSteps.{IsReady, ReadsBasis, StartsLedger};
 
-use crate::asked::read_job;
 use crate::command::Since;
 use crate::drive_check::read_state;
+use crate::job_setup::read_job;
 use crate::ledger_refusal::LedgerRefusal;
 use crate::ledger_steps::LedgerMap;
 use crate::texts::read_text;
@@ -21,9 +21,14 @@ use verify_state::VerifyState;
 /// The most bytes of a ledger that are read: 64 MiB. One of 65,536 blocks with a write each has 1.6 MB.
 pub(crate) const MAX_LEDGER: usize = 67_108_864;
 
-/// Reads what a check by a ledger goes by: a job file, behind a run whose state was kept that state, and the ledger,
-/// each behind its length, where 0 is a full pass in place of a state, and in place of a ledger one that asks for
-/// nothing.
+/// What a check by a ledger goes by: what one by the run's state alone does, and what each block has to hold.
+#[derive(Drop)]
+pub(crate) struct Basis {
+    pub(crate) recheck: Recheck,
+    pub(crate) asked: Ledger,
+}
+
+/// Starts a check by a ledger, by what is read.
 pub(crate) fn start<R: Read>(
     alloc: Global,
     key: Key,
@@ -36,13 +41,9 @@ pub(crate) fn start<R: Read>(
         (λ input. IfErr result (BeginsNoLedger key since input)) }
     ensures ready { IfOk result IsReady }
 {
-    let job = read_job(alloc, reader, key.job)?;
-    let state = read_state_since(alloc, since, reader)?;
-    let recheck = Recheck::new(alloc, &job.rec, key, state.as_ref(), false)?;
-    let known = read_ledger(alloc, reader, &job.rec)?;
-    let asked = ledger_since(alloc, since, recheck.expected(), &known)?;
+    let Basis { recheck, asked } = read_basis(alloc, key, since, reader)?;
     let check = LedgerCheck::new(asked.copy(alloc)?);
-    let Ok(bytes) = vec![in alloc; 0u8; job.rec.bs() as usize] else {
+    let Ok(bytes) = vec![in alloc; 0u8; recheck.expected().rec().bs() as usize] else {
         return Err(LedgerRefusal::from(Fault::NoMemory));
     };
     Ok(LedgerMap {
@@ -53,6 +54,30 @@ pub(crate) fn start<R: Read>(
         bytes,
         unread: false,
     })
+}
+
+/// Reads what a check by a ledger goes by: a job file, behind a run whose state was kept that state, and the ledger,
+/// each behind its length, where 0 is a full pass in place of a state, and in place of a ledger one that asks for
+/// nothing.
+pub(crate) fn read_basis<R: Read>(
+    alloc: Global,
+    key: Key,
+    since: Since,
+    reader: &mut R,
+) -> Result<Basis, LedgerRefusal>
+    ensures basis { IfSome (R.remaining reader.old)
+        (λ input. IfOk result (ReadsBasis key since input (R.remaining reader.new))) }
+    ensures none { IfSome (R.remaining reader.old)
+        (λ input. IfErr result (BeginsNoLedger key since input)) }
+    ensures blocks { IfOk result
+        (λ b. length b.asked.entries ≡ b.recheck.expected.job.blocks) }
+{
+    let job = read_job(alloc, reader, key.job)?;
+    let state = read_state_since(alloc, since, reader)?;
+    let recheck = Recheck::new(alloc, &job.rec, key, state.as_ref(), false)?;
+    let known = read_ledger(alloc, reader, &job.rec)?;
+    let asked = ledger_since(alloc, since, recheck.expected(), known)?;
+    Ok(Basis { recheck, asked })
 }
 
 /// Reads the state of the run, where it was kept.
@@ -129,13 +154,13 @@ fn ledger_since(
     alloc: Global,
     since: Since,
     expected: &Expected,
-    known: &Ledger,
+    known: Ledger,
 ) -> Result<Ledger, AllocError>
-    ensures { IfOk result (λ l. l ≡ place_since since expected.now known.now) }
+    ensures { IfOk result (λ l. l ≡ place_since since expected.now known) }
 {
     match since {
         Since::Run => known.after_run(alloc, expected),
         Since::LostRun => known.after_lost_run(alloc, &expected.rec()),
-        Since::Rest => known.copy(alloc),
+        Since::Rest => Ok(known),
     }
 }

@@ -9,7 +9,7 @@ ghost use Rattle.targets.specs.LedgerSteps.{GoesOn, Takes};
 
 use crate::command::Since;
 use crate::ledger_found::{Found, find, find_unread};
-use crate::map_input::{Came, next_block};
+use crate::map_input::{BlockRead, next_block};
 use fc_base::Fault;
 use ledger::{Ledger, LedgerCheck};
 use recheck::Recheck;
@@ -44,15 +44,15 @@ pub(crate) fn take_block<R: Read>(
         (R.remaining reader.old) (R.remaining reader.new) result }
 {
     match next_block(reader, &mut map.bytes)? {
-        Came::Bytes => {
+        BlockRead::Bytes => {
             let seen = map.check.feed(block, &map.bytes);
             Ok(Some(find(map.since, map.recheck.expected(), block, &map.bytes, seen)))
         }
-        Came::Unread => {
+        BlockRead::Unread => {
             let is_asked = map.check.wants(block);
             map.unread = map.unread || is_asked;
             Ok(Some(find_unread(map.since, map.recheck.expected(), block, is_asked)))
         }
-        Came::End => Ok(None),
+        BlockRead::End => Ok(None),
     }
 }

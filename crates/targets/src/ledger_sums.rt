@@ -5,9 +5,9 @@ ghost use Rattle.std.specs.Io.KnownBytes.{Appends};
 ghost use Rattle.targets.specs.MapKinds.{all_lines, kinds_words, sum_words};
 ghost use Rattle.targets.specs.LedgerSteps.{all_told, no_sums, with_found};
 
-use crate::kinds::{Kinds, no_lines, with_line, write_kinds, write_sum};
+use crate::block_verdict::BlockVerdict;
+use crate::kind_counts::{KindCounts, no_lines, with_line, write_kinds, write_sum};
 use crate::ledger_found::Found;
-use crate::told::Told;
 use fc_base::MAX_BLOCKS;
 use std::io;
 use std::io::Write;
@@ -15,7 +15,7 @@ use std::io::Write;
 /// How many blocks are told of each kind that a map has, and how many of those at rest are lost.
 #[derive(Clone, Copy)]
 pub(crate) struct Sums {
-    pub(crate) kinds: Kinds,
+    pub(crate) kinds: KindCounts,
     pub(crate) at_rest: u32,
 }
 
@@ -43,7 +43,7 @@ pub(crate) fn with_found(sums: Sums, found: &Found) -> Sums
             ..sums
         },
         Found::RestUnread => Sums {
-            kinds: with_line(sums.kinds, &Told::Unread),
+            kinds: with_line(sums.kinds, &BlockVerdict::Unread),
             ..sums
         },
         Found::Rest(_) => Sums {

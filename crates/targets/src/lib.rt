@@ -13,12 +13,14 @@
 //! holds of two runs of a job.
 #![tactic(auto)]
 
-mod asked;
+mod block_verdict;
 mod checking;
 mod command;
 mod drive_check;
+mod drive_tour;
 mod drive_write;
-mod kinds;
+mod job_setup;
+mod kind_counts;
 mod law;
 mod ledger_check;
 mod ledger_found;
@@ -38,16 +40,27 @@ mod map_unchecked;
 mod notice;
 mod order;
 mod texts;
-mod told;
+mod tile;
+mod tour;
+mod tour_tiles;
+mod tour_word;
 mod units;
+mod wanted;
 mod writing;
 
 pub use checking::check_blocks;
 pub use command::{Request, Since, read_words};
 pub use drive_check::{MAX_STATE, check_job};
+pub use drive_tour::tour_job;
 pub use drive_write::{refuse, write_job};
-pub use law::{examples, front_law, ledger_law, loss_law, unit_law};
+pub use law::{
+    examples, front_law, ledger_law, loss_law, tour_law, unit_law, wanted_example, wanted_law,
+};
 pub use ledger_check::ledger_job;
 pub use map::map_job;
 pub use notice::Notice;
+pub use tile::MAX_OPEN;
+pub use tour::{TourEnd, tour_blocks};
+pub use tour_word::TourWord;
+pub use wanted::wanted_job;
 pub use writing::{RunEnd, write_blocks};

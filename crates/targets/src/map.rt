@@ -11,15 +11,15 @@ ghost use Rattle.targets.specs.MapKinds.{all_lines};
 ghost use Rattle.targets.specs.Mapping.{GoesOn, IsReady, Takes, TellsUnread};
 ghost use Rattle.targets.specs.Units.{unit_fits};
 
-use crate::asked::read_job;
+use crate::block_verdict::BlockVerdict;
 use crate::drive_check::{read_state, status_of};
 use crate::drive_write::refuse;
-use crate::kinds::{Kinds, no_lines, with_line, write_kinds};
+use crate::job_setup::read_job;
+use crate::kind_counts::{KindCounts, no_lines, with_line, write_kinds};
 use crate::map_bytes::tell_bytes;
-use crate::map_input::{Came, next_block};
+use crate::map_input::{BlockRead, next_block};
 use crate::map_lines::write_told;
 use crate::map_unchecked::write_unchecked;
-use crate::told::Told;
 use crate::units::unit_fits;
 use fc_base::{CheckReport, Fault, JobNo, Key};
 use program_io::{PrintedRefusal, write_report_words};
@@ -165,7 +165,7 @@ fn take_block<R: Read>(
     unit: Option<u32>,
     block: u32,
     reader: &mut R,
-) -> Result<Option<Told>, Fault>
+) -> Result<Option<BlockVerdict>, Fault>
     requires goes_on { GoesOn map.old.check.expected map.old block }
     requires block { block < map.old.check.expected.job.blocks }
     requires fits { IsTrue (unit_fits unit map.old.check.expected.job.bs) }
@@ -174,24 +174,24 @@ fn take_block<R: Read>(
         (R.remaining reader.old) (R.remaining reader.new) result }
 {
     match next_block(reader, &mut map.bytes)? {
-        Came::Bytes => {
+        BlockRead::Bytes => {
             let told = tell_bytes(&mut map.check, unit, block, &map.bytes, &mut map.wanted);
             Ok(Some(told))
         }
-        Came::Unread => Ok(Some(tell_unread(map, block))),
-        Came::End => Ok(None),
+        BlockRead::Unread => Ok(Some(tell_unread(map, block))),
+        BlockRead::End => Ok(None),
     }
 }
 
 /// What is told of a block that could not be read.
-fn tell_unread(map: &mut Map, block: u32) -> Told
+fn tell_unread(map: &mut Map, block: u32) -> BlockVerdict
     ensures { TellsUnread map.old map.new block result }
 {
     if map.check.wants(block) {
         map.unread = true;
-        Told::Unread
+        BlockVerdict::Unread
     } else {
-        Told::Unchecked
+        BlockVerdict::Unchecked
     }
 }
 
@@ -199,7 +199,7 @@ fn tell_unread(map: &mut Map, block: u32) -> Told
 fn write_report<W: Write>(
     writer: &mut W,
     report: &CheckReport,
-    kinds: &Kinds,
+    kinds: &KindCounts,
     unread: bool,
 ) -> io::Result<u8>
     ensures line { OnOk result

@@ -5,7 +5,7 @@ ghost use Rattle.targets.specs.Mapping.{IsFed, TellsBytes};
 ghost use Rattle.targets.specs.Units.{fits_blocks, unit_fits};
 ghost use Rattle.write_order.specs.Stamps.{written_bytes};
 
-use crate::told::Told;
+use crate::block_verdict::BlockVerdict;
 use crate::units::has_sound_units;
 use diagnosis::diagnose;
 use fc_base::Seq;
@@ -19,7 +19,7 @@ pub(crate) fn tell_bytes(
     block: u32,
     bytes: &[u8],
     wanted: &mut [u8],
-) -> Told
+) -> BlockVerdict
     requires block { block < check.old.expected.job.blocks }
     requires next { check.old.next ≤ block }
     requires bytes { length bytes.now ≡ check.old.expected.job.bs }
@@ -36,7 +36,7 @@ pub(crate) fn tell_bytes(
 }
 
 /// What is told of it, where the block is the unit.
-fn tell_whole(check: &mut Recheck, block: u32, bytes: &[u8]) -> Told
+fn tell_whole(check: &mut Recheck, block: u32, bytes: &[u8]) -> BlockVerdict
     requires block { block < check.old.expected.job.blocks }
     requires next { check.old.next ≤ block }
     requires bytes { length bytes.now ≡ check.old.expected.job.bs }
@@ -44,14 +44,20 @@ fn tell_whole(check: &mut Recheck, block: u32, bytes: &[u8]) -> Told
     ensures { TellsBytes None check.old check.new block bytes.now result }
 {
     match check.feed(block, bytes) {
-        Verdict::Skipped => Told::Unchecked,
-        Verdict::Good => Told::Sound,
-        Verdict::Fault => Told::Fault(diagnose(check.expected(), block, bytes)),
+        Verdict::Skipped => BlockVerdict::Unchecked,
+        Verdict::Good => BlockVerdict::Sound,
+        Verdict::Fault => BlockVerdict::Fault(diagnose(check.expected(), block, bytes)),
     }
 }
 
 /// What is told of it by this unit.
-fn tell_units(check: &mut Recheck, unit: u32, block: u32, bytes: &[u8], wanted: &mut [u8]) -> Told
+fn tell_units(
+    check: &mut Recheck,
+    unit: u32,
+    block: u32,
+    bytes: &[u8],
+    wanted: &mut [u8],
+) -> BlockVerdict
     requires block { block < check.old.expected.job.blocks }
     requires next { check.old.next ≤ block }
     requires bytes { length bytes.now ≡ check.old.expected.job.bs }
@@ -66,7 +72,7 @@ fn tell_units(check: &mut Recheck, unit: u32, block: u32, bytes: &[u8], wanted: 
     };
     if has_sound_units(check.expected(), unit, block, bytes, wanted) {
         feed_write(check, block, seq, wanted);
-        Told::Sound
+        BlockVerdict::Sound
     } else {
         tell_whole(check, block, bytes)
     }

@@ -8,7 +8,7 @@ ghost use Rattle.targets.specs.MapDifferences.{apart_words, differs_from, differ
 
 use diagnosis::{Difference, compare_write};
 use fc_base::Seq;
-use recheck::{Expected, Placed};
+use recheck::{BlockWrites, Expected};
 use std::io;
 use std::io::Write;
 
@@ -49,7 +49,7 @@ fn write_from_in_flight<W: Write>(
     expected: &Expected,
     block: u32,
     bytes: &[u8],
-    writes: &[Placed],
+    writes: &[BlockWrites],
 ) -> io::Result<()>
     requires { length bytes.now ≡ expected.now.job.bs }
     ensures { OnOk result (Appends (W.contents writer.old) (W.contents writer.new)
@@ -66,7 +66,7 @@ fn write_from_placed<W: Write>(
     expected: &Expected,
     block: u32,
     bytes: &[u8],
-    write: &Placed,
+    write: &BlockWrites,
 ) -> io::Result<()>
     requires { length bytes.now ≡ expected.now.job.bs }
     ensures { OnOk result (Appends (W.contents writer.old) (W.contents writer.new)

@@ -11,7 +11,7 @@ const MAX_READS: u32 = 1_000_000;
 
 /// What comes of a block.
 #[derive(Clone, Copy)]
-pub(crate) enum Came {
+pub(crate) enum BlockRead {
     /// Its bytes.
     Bytes,
     /// That it could not be read.
@@ -24,28 +24,28 @@ pub(crate) enum Came {
 ///
 /// Refused are a failed read ([`Fault::ReadError`]) and a byte before the block that is neither 0
 /// nor 1 ([`Fault::BadNotice`]).
-pub(crate) fn next_block<R: Read>(reader: &mut R, bytes: &mut [u8]) -> Result<Came, Fault>
+pub(crate) fn next_block<R: Read>(reader: &mut R, bytes: &mut [u8]) -> Result<BlockRead, Fault>
     ensures { Comes (R.remaining reader.old) (R.remaining reader.new) bytes.new result }
 {
     let mut flag = [0];
     if !fill_whole(reader, &mut flag)? {
-        return Ok(Came::End);
+        return Ok(BlockRead::End);
     }
     match flag[0] {
-        0 => Ok(Came::Unread),
+        0 => Ok(BlockRead::Unread),
         1 => block_bytes(reader, bytes),
         _ => Err(Fault::BadNotice),
     }
 }
 
 /// Reads the bytes of a block.
-fn block_bytes<R: Read>(reader: &mut R, bytes: &mut [u8]) -> Result<Came, Fault>
+fn block_bytes<R: Read>(reader: &mut R, bytes: &mut [u8]) -> Result<BlockRead, Fault>
     ensures { BlockComes (R.remaining reader.old) (R.remaining reader.new) bytes.new result }
 {
     if fill_whole(reader, bytes)? {
-        Ok(Came::Bytes)
+        Ok(BlockRead::Bytes)
     } else {
-        Ok(Came::End)
+        Ok(BlockRead::End)
     }
 }
 

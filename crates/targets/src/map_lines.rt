@@ -7,12 +7,12 @@ ghost use Rattle.targets.specs.MapDifferences.{differs_words};
 ghost use Rattle.targets.specs.MapSectors.{sectors_words};
 ghost use Rattle.targets.specs.MapLines.{held_words, last_words, line_if_any, line_words, or_words, own_words, wanted_words, write_words};
 
+use crate::block_verdict::{BlockVerdict, kind_word};
 use crate::map_differences::write_differences;
 use crate::map_sectors::write_sectors;
-use crate::told::{Told, kind_word};
 use diagnosis::{Holds, Write as Written};
 use fc_base::{JobNo, RunNo, Seq, ServerNo};
-use recheck::{Expected, Placed};
+use recheck::{BlockWrites, Expected};
 use std::io;
 use std::io::Write;
 
@@ -22,17 +22,17 @@ pub(crate) fn write_told<W: Write>(
     expected: &Expected,
     block: u32,
     bytes: &[u8],
-    told: &Told,
+    told: &BlockVerdict,
 ) -> io::Result<()>
     requires { length bytes.now ≡ expected.now.job.bs }
     ensures { OnOk result (Appends (W.contents writer.old) (W.contents writer.new)
         (line_if_any expected.now block bytes.now told.now)) }
 {
     match told {
-        Told::Unchecked => Ok(()),
-        Told::Sound => Ok(()),
-        Told::Unread => write_line(writer, expected, block, bytes, told),
-        Told::Fault(_) => write_line(writer, expected, block, bytes, told),
+        BlockVerdict::Unchecked => Ok(()),
+        BlockVerdict::Sound => Ok(()),
+        BlockVerdict::Unread => write_line(writer, expected, block, bytes, told),
+        BlockVerdict::Fault(_) => write_line(writer, expected, block, bytes, told),
     }
 }
 
@@ -42,7 +42,7 @@ fn write_line<W: Write>(
     expected: &Expected,
     block: u32,
     bytes: &[u8],
-    told: &Told,
+    told: &BlockVerdict,
 ) -> io::Result<()>
     requires { length bytes.now ≡ expected.now.job.bs }
     ensures { OnOk result (Appends (W.contents writer.old) (W.contents writer.new)
@@ -75,7 +75,7 @@ fn write_last<W: Write>(writer: &mut W, last: Option<Seq>) -> io::Result<()>
 }
 
 /// Writes the numbers of those of the writes that go to the block.
-fn write_in_flight<W: Write>(writer: &mut W, writes: &[Placed], block: u32) -> io::Result<()>
+fn write_in_flight<W: Write>(writer: &mut W, writes: &[BlockWrites], block: u32) -> io::Result<()>
     ensures { OnOk result (Appends (W.contents writer.old) (W.contents writer.new)
         (flat_map (or_words block) writes.now)) }
 {
@@ -86,7 +86,7 @@ fn write_in_flight<W: Write>(writer: &mut W, writes: &[Placed], block: u32) -> i
 }
 
 /// Writes the number of a write, if it goes to the block.
-fn write_or<W: Write>(writer: &mut W, block: u32, write: &Placed) -> io::Result<()>
+fn write_or<W: Write>(writer: &mut W, block: u32, write: &BlockWrites) -> io::Result<()>
     ensures { OnOk result (Appends (W.contents writer.old) (W.contents writer.new)
         (or_words block write.now)) }
 {
@@ -104,29 +104,33 @@ fn write_held<W: Write>(
     expected: &Expected,
     block: u32,
     bytes: &[u8],
-    told: &Told,
+    told: &BlockVerdict,
 ) -> io::Result<()>
     requires { length bytes.now ≡ expected.now.job.bs }
     ensures { OnOk result (Appends (W.contents writer.old) (W.contents writer.new)
         (held_words expected.now block bytes.now told.now)) }
 {
     match told {
-        Told::Fault(Holds::Filled(byte)) => write!(writer, ", holds byte {byte}"),
-        Told::Fault(Holds::Lost(seq)) => write_own(writer, expected, block, bytes, *seq),
-        Told::Fault(Holds::Unissued(seq)) => write_own(writer, expected, block, bytes, *seq),
-        Told::Fault(Holds::OtherRun(write)) => write_other(writer, expected, block, bytes, write),
-        Told::Fault(Holds::Misdirected(write)) => {
+        BlockVerdict::Fault(Holds::Filled(byte)) => write!(writer, ", holds byte {byte}"),
+        BlockVerdict::Fault(Holds::Lost(seq)) => write_own(writer, expected, block, bytes, *seq),
+        BlockVerdict::Fault(Holds::Unissued(seq)) => write_own(
+            writer, expected, block, bytes, *seq,
+        ),
+        BlockVerdict::Fault(Holds::OtherRun(write)) => write_other(
+            writer, expected, block, bytes, write,
+        ),
+        BlockVerdict::Fault(Holds::Misdirected(write)) => {
             write_other(writer, expected, block, bytes, write)
         }
-        Told::Fault(Holds::Corrupt(sectors)) => {
+        BlockVerdict::Fault(Holds::Corrupt(sectors)) => {
             write_corrupt(writer, expected, block, bytes, *sectors)
         }
-        Told::Fault(Holds::Sound) => Ok(()),
-        Told::Fault(Holds::Unwritten) => Ok(()),
-        Told::Fault(Holds::Torn) => write_torn(writer, expected, block, bytes),
-        Told::Unchecked => Ok(()),
-        Told::Unread => Ok(()),
-        Told::Sound => Ok(()),
+        BlockVerdict::Fault(Holds::Sound) => Ok(()),
+        BlockVerdict::Fault(Holds::Unwritten) => Ok(()),
+        BlockVerdict::Fault(Holds::Torn) => write_torn(writer, expected, block, bytes),
+        BlockVerdict::Unchecked => Ok(()),
+        BlockVerdict::Unread => Ok(()),
+        BlockVerdict::Sound => Ok(()),
     }
 }
 

@@ -38,7 +38,7 @@ pub(crate) fn notice_in(bytes: &[u8]) -> Option<Notice>
 }
 
 /// The notice of these two numbers.
-fn notice_of(kind: u64, write: u64) -> Option<Notice>
+pub(crate) fn notice_of(kind: u64, write: u64) -> Option<Notice>
     ensures { result ≡ notice_of kind write }
 {
     if kind == DONE {

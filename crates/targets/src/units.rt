@@ -6,7 +6,7 @@ ghost use Rattle.recheck.specs.Faults.{writes_to};
 ghost use Rattle.targets.specs.Units.{fits_blocks, has_sound_units, is_sound_unit, is_unit_of, unit_fits};
 
 use fc_base::Seq;
-use recheck::{Expected, Placed};
+use recheck::{BlockWrites, Expected};
 use write_order::fill_block;
 
 /// Whether a unit, if there is one, fits blocks of this size.
@@ -81,7 +81,7 @@ fn is_unit_in_flight(
     number: u32,
     block: u32,
     bytes: &[u8],
-    writes: &[Placed],
+    writes: &[BlockWrites],
     wanted: &mut [u8],
 ) -> bool
     requires bytes { length bytes.now ≡ expected.now.job.bs }

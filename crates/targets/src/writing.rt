@@ -3,13 +3,13 @@
 ghost use Rattle.std.specs.Prelude.{◌≡◌, ◌<◌, ◌≤◌, [], List, None, true, false, length, OnOk, IfOk, IfSome, IsTrue};
 ghost use Rattle.std.specs.Io.Buffered.{reader_remaining};
 ghost use Rattle.fc_base.specs.Keys.{is_key};
-ghost use Rattle.window.specs.History.{Event, done, fail};
+ghost use Rattle.engine.specs.History.{Event, done, fail};
 ghost use Rattle.engine.specs.Running.{Origin, StandsFor};
 ghost use Rattle.targets.specs.Runs.{Runs};
 ghost use Rattle.targets.specs.Writing.{ReadsNotice, OrdersAll, steps_left, Ends, FollowsBy, Steps, RunsOn};
 
 use crate::notice::{NOTICE, Notice, notice_in};
-use crate::order::put_order;
+use crate::order::put_order_behind;
 use engine::{Engine, Issue};
 use fc_base::{Fault, JobRecord, Key, Seq};
 use program_io::fill;
@@ -22,7 +22,7 @@ use verify_state::VerifyState;
 const BOOT: u64 = 0;
 
 /// The most calls of `read` for a notice.
-const MAX_READS: u32 = 1_000;
+pub(crate) const MAX_READS: u32 = 1_000;
 
 /// How a run ends.
 #[derive(Clone, Copy, Debug)]
@@ -59,14 +59,14 @@ pub fn write_blocks<R: Read, W: Write>(
     let Ok(mut writes) = Writes::new(alloc, key, rec) else {
         return Ok(RunEnd::Refused(Fault::NoMemory));
     };
-    writes.order_all(writer)?;
+    writes.order_all(writer, &[])?;
     writes.run(reader, writer)
 }
 
 /// The writes of a job, and room for the bytes of one.
 #[derive(Drop)]
-struct Writes {
-    engine: Engine,
+pub(crate) struct Writes {
+    pub(crate) engine: Engine,
     rec: JobRecord,
     block: Vec<u8>,
     ghost of_job: { engine.origin.job ≡ rec },
@@ -76,7 +76,7 @@ struct Writes {
 
 impl Writes {
     /// The writes of a job before the first.
-    fn new(alloc: Global, key: Key, rec: &JobRecord) -> Result<Writes, AllocError>
+    pub(crate) fn new(alloc: Global, key: Key, rec: &JobRecord) -> Result<Writes, AllocError>
         requires { IsTrue (is_key key) }
         ensures origin { let origin : Origin = record { boot = 0; key = key; job = rec.now } in
             IfOk result (λ made. made.engine.origin ≡ origin) }
@@ -89,16 +89,16 @@ impl Writes {
         })
     }
 
-    /// Orders writes until none can be.
-    fn order_all<W: Write>(&mut self, writer: &mut W) -> io::Result<()>
+    /// Orders writes until none can be. Each order is written behind these bytes.
+    pub(crate) fn order_all<W: Write>(&mut self, writer: &mut W, head: &[u8]) -> io::Result<()>
         ensures orders { (h : List Event) → StandsFor self.old.engine h → OnOk result
-            (OrdersAll self.old.engine.origin h self.new.engine (W.contents writer.old)
+            (OrdersAll head.now self.old.engine.origin h self.new.engine (W.contents writer.old)
             (W.contents writer.new)) }
         ensures origin { self.new.engine.origin ≡ self.old.engine.origin }
         ensures left { steps_left self.new.engine ≤ steps_left self.old.engine }
     {
         while let Issue::Write(ticket) = self.engine.issue() {
-            put_order(writer, &self.rec, ticket, &mut self.block)?;
+            put_order_behind(writer, head, &self.rec, ticket, &mut self.block)?;
         }
         Ok(())
     }
@@ -137,15 +137,20 @@ impl Writes {
             writer.flush()?;
         }
         match next_notice(reader) {
-            Ok(notice) => self.follow(notice, writer),
+            Ok(notice) => self.follow(notice, writer, &[]),
             Err(fault) => Ok(Some(RunEnd::Refused(fault))),
         }
     }
 
-    /// Does what a notice says, and orders the writes that can be ordered then.
-    fn follow<W: Write>(&mut self, notice: Notice, writer: &mut W) -> io::Result<Option<RunEnd>>
+    /// Does what a notice says, and orders the writes that can be ordered then, each behind these bytes.
+    pub(crate) fn follow<W: Write>(
+        &mut self,
+        notice: Notice,
+        writer: &mut W,
+        head: &[u8],
+    ) -> io::Result<Option<RunEnd>>
         ensures step { (h : List Event) → StandsFor self.old.engine h → IfOk result
-            (FollowsBy notice h self.old.engine self.new.engine (W.contents writer.old)
+            (FollowsBy head.now notice h self.old.engine self.new.engine (W.contents writer.old)
             (W.contents writer.new)) }
         ensures origin { self.new.engine.origin ≡ self.old.engine.origin }
         ensures less { IfOk result
@@ -159,7 +164,7 @@ impl Writes {
         if !is_open {
             return Ok(Some(RunEnd::Refused(Fault::NotInFlight)));
         }
-        self.order_all(writer)?;
+        self.order_all(writer, head)?;
         Ok(None)
     }
 

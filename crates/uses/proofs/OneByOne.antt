@@ -15,8 +15,8 @@ use Rattle.fc_base.specs.JobParts.{has_block_size, has_pattern, has_queue, has_r
 use Rattle.disk_model.specs.File.{File, with_block}
 use Rattle.write_order.specs.Blocks.{block_of}
 use Rattle.write_order.specs.Stamps.{bytes_of}
-use Rattle.window.specs.History.{Event, issue, done, completions, is_done}
-use Rattle.window.specs.Kept.{after_issue}
+use Rattle.engine.specs.History.{Event, issue, done, completions, is_done}
+use Rattle.engine.specs.Kept.{after_issue}
 use Rattle.engine.specs.declared.issue.Issue.{Issue}
 use Rattle.engine.specs.declared.issue.Issue.TheVariants.{Write, Finished}
 use Rattle.engine.specs.declared.issue.Ticket.{Ticket}

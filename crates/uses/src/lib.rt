@@ -7,7 +7,7 @@
 //! (`cuts`), or by the ledger of many runs (`ledgers`), and a faulty block is diagnosed (`diagnoses`);
 //! packets go out in frames and come out of them (`packets`), a client begins a run (`clients`), a
 //! server takes a frame (`servers`), and events come to a world (`worlds`). The limits of all of them
-//! are told as numbers (`limits`).
+//! are told as numbers (`limits`), and each law that has premises has an instance (`laws`).
 #![tactic(auto)]
 
 mod checks;
@@ -15,6 +15,7 @@ mod clients;
 mod cuts;
 mod diagnoses;
 mod jobs;
+mod laws;
 mod ledgers;
 mod limits;
 mod packets;
@@ -28,6 +29,11 @@ pub use clients::first_run;
 pub use cuts::write_cut_check;
 pub use diagnoses::older_write;
 pub use jobs::first_job;
+pub use laws::{
+    example_of_ledgers, examples_of_checks, examples_of_cut_clients, examples_of_cut_mirrors,
+    examples_of_cut_servers, examples_of_diagnosis, examples_of_fleets, examples_of_frames,
+    examples_of_packets, examples_of_pieces, examples_of_targets,
+};
 pub use ledgers::{Checked, check_by_ledger};
 pub use limits::limits_are_as_documented;
 pub use packets::{cut_and_join, first_packet};

@@ -6,7 +6,7 @@ ghost use Rattle.fc_base.specs.declared.limits.TheConstants.{MAX_BLOCKS, MAX_WRI
 ghost use Rattle.messages.specs.declared.limits.TheConstants.{CLIENT_NUMBER, MIRROR_NUMBER, MAX_NODES, MAX_BODY};
 ghost use Rattle.messages.specs.declared.limits.TheConstants.{MAX_REPORT, CHUNK_LIMIT, FRAME_LIMIT, PIECE_HEAD};
 ghost use Rattle.messages.specs.declared.limits.TheConstants.{MAX_FRAME, MAX_FRAMES, MAX_FRAMED, MAX_TAGS};
-ghost use Rattle.state_table.specs.declared.kept.TheConstants.{KEPT_LIMIT};
+ghost use Rattle.verify_state.specs.declared.table.TheConstants.{KEPT_LIMIT};
 ghost use Rattle.net_script.specs.declared.running.TheConstants.{MAX_SCRIPT};
 ghost use Rattle.diagnosis.specs.declared.difference.TheConstants.{FEW_BITS, FEW_BYTES};
 ghost use Rattle.targets.specs.declared.drive_check.TheConstants.{MAX_STATE};

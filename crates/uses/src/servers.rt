@@ -2,7 +2,7 @@
 
 ghost use Rattle.std.specs.Prelude.{◌≡◌, ◌<◌, [], ◌∷◌, map, None, IfOk};
 ghost use Rattle.disk_model.specs.MemNotes.{note_of};
-ghost use Rattle.disk_model.specs.declared.left.Left.TheVariants.{Saved};
+ghost use Rattle.disk_model.specs.declared.save_outcome.SaveOutcome.TheVariants.{Saved};
 ghost use Rattle.fc_base.specs.declared.limits.TheConstants.{MAX_SERVERS};
 ghost use Rattle.messages.specs.FrameBytes.{frame_spelling};
 ghost use Rattle.server_core.specs.FrameAnswers.{answered_entry, frames, refusal};

@@ -8,3 +8,8 @@ pub mod PieceLemmas
 pub mod RangeLemmas
 pub mod SpellingLemmas
 pub mod WritingLemmas
+mod EntryLemmas
+mod ReadingLemmas
+mod TableLemmas
+pub mod CountedLemmas
+pub mod RefusalLemmas

@@ -34,7 +34,7 @@ unfolding has_come_by
 ends job issued marks come =
     (and_parts _ _ (and_parts _ (is_possible_by job.depth job.window issued marks) come).1).0
 
--- They are given back.
+-- The fields of a state are given back by the state that they show.
 pub fields_again : (s : Inside) → IsKept s → fields_of (state_of_fields s) ≡ s
 fields_again s kept =
     let same = marks_again s.rec.window s.issued s.marks kept.four kept.words

@@ -20,7 +20,7 @@ use Rattle.verify_state.specs.State.{State, state_of, state_by, has_come, has_co
 unfoldable pub field : Width → ℕ → List ℕ → ℕ
 field width at bytes = number_in width (drop at bytes)
 
--- So many numbers of eight bytes from an offset on.
+-- This many numbers of eight bytes from an offset on.
 abbrev pub words_at : ℕ → ℕ → List ℕ → List ℕ
 words_at n at bytes = map (λ i. field w64 (at + 8 * i) bytes) (range_with_len 0 n)
 
@@ -34,12 +34,12 @@ is_layout_1 bytes = starts_with nat_eq bytes (codes "FCV1")
 unfoldable pub is_layout_2 : List ℕ → Bool
 is_layout_2 bytes = starts_with nat_eq bytes (codes "FCV2")
 
--- Whose state it is.
+-- The key that the bytes of a state say.
 abbrev pub key_in : List ℕ → Key
 key_in bytes =
     record { run = field w64 4 bytes; server = field w32 12 bytes; job = field w32 16 bytes }
 
--- The settings of its job.
+-- The settings of a job that the bytes of a state say.
 abbrev pub job_in : List ℕ → JobParts
 job_in bytes = record {
   kind = kind_of (field w8 20 bytes);
@@ -53,11 +53,11 @@ job_in bytes = record {
   window = field w32 52 bytes;
 }
 
--- The number of writes issued.
+-- The number of writes issued that the bytes of a state say.
 abbrev pub issued_in : List ℕ → ℕ
 issued_in bytes = field w64 56 bytes
 
--- The generator's place.
+-- The four words of the generator's place in the bytes.
 abbrev pub place_in : List ℕ → List ℕ
 place_in bytes = words_at 4 64 bytes
 
@@ -83,11 +83,11 @@ front_faults bytes =
 
 -- ---- layout 1: a list of completions
 
--- The number of completions.
+-- The number of completions that layout 1 says.
 abbrev pub count_in : List ℕ → ℕ
 count_in bytes = field w32 96 bytes
 
--- The completions, oldest first.
+-- The completions that layout 1 lists, oldest first.
 abbrev pub completions_in : List ℕ → List ℕ
 completions_in bytes = words_at (count_in bytes) 100 bytes
 
@@ -106,11 +106,11 @@ list_faults bytes =
 
 -- ---- layout 2: the floor and the marks
 
--- The floor that stands there.
+-- The floor that layout 2 says.
 abbrev pub floor_at : List ℕ → ℕ
 floor_at bytes = field w64 96 bytes
 
--- The marks.
+-- The four words of marks in the bytes, behind the floor.
 abbrev pub marks_at : List ℕ → List ℕ
 marks_at bytes = words_at 4 104 bytes
 

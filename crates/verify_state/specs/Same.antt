@@ -5,7 +5,7 @@ use Rattle.fc_base.specs.Keys.{is_same_key}
 use Rattle.verify_state.specs.Codes.{kind_code, verify_code}
 use Rattle.verify_state.specs.State.{State}
 
--- The same bytes are written.
+-- Two jobs have the same order of blocks, and write the same: stamps, or one pattern.
 abbrev pub is_of_kind : JobParts → JobParts → Bool
 is_of_kind a b =
     (kind_code a.kind == kind_code b.kind) && (verify_code a.verify == verify_code b.verify)

@@ -12,11 +12,11 @@ use Rattle.verify_state.specs.State.{State, floor_in, marks_in}
 abbrev pub words : List ℕ → List ℕ
 words ns = flat_map (bytes_of w64) ns
 
--- Whose state it is.
+-- The bytes of a key, which say whose a state is.
 unfoldable pub key_bytes : Key → List ℕ
 key_bytes key = bytes_of w64 key.run ++ bytes_of w32 key.server ++ bytes_of w32 key.job
 
--- The settings of its job.
+-- The bytes of the settings of a state's job.
 unfoldable pub job_bytes : JobParts → List ℕ
 job_bytes job =
     (kind_code job.kind ∷ verify_code job.verify ∷ job.pattern ∷ 0 ∷ []) ++ bytes_of w32 job.bs

@@ -8,7 +8,7 @@ use Rattle.fc_base.specs.declared.record.Verify.TheVariants.{Stamp, Pattern}
 use Rattle.fc_base.specs.declared.numbers.Key.{Key}
 use Rattle.write_order.specs.Blocks.{block_of}
 
--- So many bytes that count up from a number, modulo 256.
+-- This many bytes that count up from a number, modulo 256.
 unfoldable pub counting_bytes : ℕ → ℕ → List ℕ
 counting_bytes from n = map (λ i. (from + i) % 256) (range_with_len 0 n)
 

@@ -4,11 +4,11 @@ mod beside;
 mod plain;
 mod step;
 
+use engine::{Room, Window};
 use fc_base::{MAX_DEPTH, MAX_WINDOW};
 use std::alloc::Global;
 use std::test::Fail;
 use step::{Step, first_unlike};
-use window::{Room, Window};
 
 /// A window by its depth and its length, and what happens to it.
 struct Story {

@@ -8,7 +8,7 @@ ghost use Rattle.cells.specs.ClientCalls.{logged_by, Applies};
 use super::ClientCell;
 use super::power::perform;
 use super::task::ClientTask;
-use crate::answer::{CallerAnswer, Reply};
+use crate::answer::{Receipt, Reply};
 use crate::at_hub::{lacks_memory, told_at};
 use crate::entry::HistoryEntry;
 use crate::input::NodeInput;
@@ -23,7 +23,7 @@ impl<N: Notes + Drop> ClientCell<N> {
     ///
     /// `NodeOff`: a cut of a client that isn't on. `NodeOn`: a restart of one that is. `LoadFault`: a
     /// restart whose note wasn't loaded.
-    pub fn apply(&mut self, task: ClientTask) -> Result<CallerAnswer, Fault>
+    pub fn apply(&mut self, task: ClientTask) -> Result<Receipt, Fault>
         ensures ends { Applies self.old task self.new result }
         ensures replay { (past : List FrameEntry) × IsReplay self.new past }
     {

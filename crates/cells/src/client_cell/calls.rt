@@ -10,14 +10,13 @@ ghost use Rattle.cells.specs.ClientAsks.{asks_of};
 use super::ClientCell;
 use super::command::ClientCommand;
 use super::incoming::Incoming;
-use crate::answer::CallerAnswer;
+use crate::answer::Receipt;
 use crate::at_hub::frame_came;
 use crate::cell::Node;
 use crate::history::History;
 use disk_model::Notes;
 use fc_base::Fault;
-use hub::Hub;
-use messages::Node as NodeName;
+use messages::{Hub, Node as NodeName};
 
 impl<N: Notes + Drop> Node for ClientCell<N> {
     type Command = ClientCommand;
@@ -48,7 +47,7 @@ impl<N: Notes + Drop> Node for ClientCell<N> {
         ClientCell::history(self)
     }
 
-    fn deliver(&mut self, hub: &mut Hub, position: u64) -> Result<CallerAnswer, Fault> {
+    fn deliver(&mut self, hub: &mut Hub, position: u64) -> Result<Receipt, Fault> {
         if self.client().is_none() {
             return Err(Fault::NodeOff);
         }
@@ -56,7 +55,7 @@ impl<N: Notes + Drop> Node for ClientCell<N> {
         self.hear(hub, Incoming::Frame(came, frame), Some(position))
     }
 
-    fn post(&mut self, hub: &mut Hub, command: ClientCommand) -> Result<CallerAnswer, Fault> {
+    fn post(&mut self, hub: &mut Hub, command: ClientCommand) -> Result<Receipt, Fault> {
         match command {
             ClientCommand::Request(request) => self.hear(hub, Incoming::Request(request), None),
             ClientCommand::Tick => self.tick(hub),

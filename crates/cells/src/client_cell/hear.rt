@@ -18,14 +18,13 @@ use super::ClientCell;
 use super::incoming::Incoming;
 use super::power::{hear, tick};
 use super::sent::{bytes_of, outcome};
-use crate::answer::CallerAnswer;
+use crate::answer::Receipt;
 use crate::entered::{enter, make_room};
 use crate::input::NodeInput;
 use client_core::packets_are_in_range;
 use disk_model::Notes;
 use fc_base::{Fault, MAX_SERVERS};
-use hub::{Hub, frames_are_spelled};
-use messages::{MAX_FRAMED, MAX_FRAMES, Node};
+use messages::{Hub, MAX_FRAMED, MAX_FRAMES, Node, frames_are_spelled};
 
 /// The most frames that the client sends at once, but for a tick: those of a packet to each server; and the
 /// most bytes that they have together.
@@ -43,7 +42,7 @@ impl<N: Notes + Drop> ClientCell<N> {
         hub: &mut Hub,
         incoming: Incoming,
         taken: Option<u64>,
-    ) -> Result<CallerAnswer, Fault>
+    ) -> Result<Receipt, Fault>
         requires taken { ForSome taken (λ i. i < length hub.old.net.frames) }
         requires asks { ask_of (came_in incoming) ≡ Meets (input_in incoming) }
         ensures opening { self.new.opening ≡ self.old.opening }
@@ -65,7 +64,7 @@ impl<N: Notes + Drop> ClientCell<N> {
     /// Has the client ask again for all that isn't answered.
     ///
     /// `NodeOff`, it isn't on; `NoMemory`: nothing changes.
-    pub(super) fn tick(&mut self, hub: &mut Hub) -> Result<CallerAnswer, Fault>
+    pub(super) fn tick(&mut self, hub: &mut Hub) -> Result<Receipt, Fault>
         ensures opening { self.new.opening ≡ self.old.opening }
         ensures failures { Counts false self.old.failures self.new.failures result }
         ensures why { IfErr result (HasWhy (rules self.old.opening) self.old.history (Meets Tick)) }

@@ -1,9 +1,11 @@
 //! What the client is asked by its caller.
 
 ghost use Rattle.std.specs.Prelude.{◌≡◌};
-ghost use Rattle.cells.specs.ClientTasks.{came_of};
+ghost use Rattle.client_core.specs.Answers as core;
+ghost use Rattle.cells.specs.ClientTasks.{came_of, input_of};
 
 use crate::input::NodeInput;
+use client_core::Input;
 use fc_base::RunNo;
 use messages::{Act, Text};
 
@@ -21,6 +23,18 @@ pub enum ClientRequest {
 }
 
 impl ClientRequest {
+    /// What its core is asked.
+    pub(crate) fn as_input(&self) -> Input<'_>
+        ensures { core.input_of result ≡ input_of self.now }
+    {
+        match self {
+            ClientRequest::Begin(text) => Input::Begin(text.as_slice()),
+            ClientRequest::Trigger(run, act) => Input::Trigger(*run, *act),
+            ClientRequest::Stop(run) => Input::Stop(*run),
+            ClientRequest::Verify(run, text) => Input::Verify(*run, text.as_slice()),
+        }
+    }
+
     /// What comes to the client.
     pub(crate) fn into_came(self) -> NodeInput
         ensures { result ≡ came_of self }

@@ -4,21 +4,19 @@ ghost use Rattle.std.specs.Prelude.{◌≡◌, length, sum_by, IfSome};
 ghost use Rattle.cells.specs.Moves.{outcome_of};
 ghost use Rattle.cells.specs.ClientStands.{reply_and_frames};
 
-use super::outs::ClientOuts;
-use crate::answer::Reply;
+use crate::answer::{Answer, Reply};
+use client_core::Outs;
 use fc_base::Fault;
 use messages::{Act, Frames};
 use std::alloc::Global;
 
 /// What a step is answered, and the frames that it sends.
-pub(super) fn outcome(
-    alloc: Global,
-    step: Result<ClientOuts, Fault>,
-) -> (Result<Reply, Fault>, Frames)
+pub(super) fn outcome(alloc: Global, step: Result<Outs, Fault>) -> (Result<Reply, Fault>, Frames)
     ensures { result ≡ outcome_of (reply_and_frames step) }
 {
     match step {
-        Ok(ClientOuts { answer, frames }) => {
+        Ok(Outs { answer, frames }) => {
+            let answer = Answer::of_client(answer);
             let act = Act::None;
             (Ok(Reply { answer, act }), frames)
         }

@@ -9,7 +9,7 @@ use super::ServerCell;
 use super::power::perform;
 use super::seat::Seat;
 use super::task::ServerTask;
-use crate::answer::{CallerAnswer, Reply};
+use crate::answer::{Receipt, Reply};
 use crate::at_hub::{lacks_memory, told_at};
 use crate::entry::Turn;
 use crate::history::History;
@@ -25,7 +25,7 @@ impl<N: Notes + Drop> ServerCell<N> {
     /// of a restart `NumbersSpent`, `LoadFault` and `SaveFault`.
     // Inlined, so that a caller that asks for one thing alone makes no room for the others.
     #[inline(always)]
-    pub fn apply(&mut self, seat: &mut Seat, task: ServerTask) -> Result<CallerAnswer, Fault>
+    pub fn apply(&mut self, seat: &mut Seat, task: ServerTask) -> Result<Receipt, Fault>
         ensures ends { Applies self.old seat.old task self.new seat.new result }
         ensures replay { (past : List FrameEntry) × IsReplay self.new past }
     {

@@ -9,15 +9,14 @@ ghost use Rattle.cells.specs.ServerAsks.{asks_of};
 
 use super::ServerCell;
 use super::report::Report;
-use crate::answer::CallerAnswer;
+use crate::answer::Receipt;
 use crate::at_hub::frame_came;
 use crate::cell::Node;
 use crate::history::History;
 use crate::input::NodeInput;
 use disk_model::Notes;
 use fc_base::Fault;
-use hub::Hub;
-use messages::Node as NodeName;
+use messages::{Hub, Node as NodeName};
 use server_core::Input;
 
 impl<N: Notes + Drop> Node for ServerCell<N> {
@@ -49,7 +48,7 @@ impl<N: Notes + Drop> Node for ServerCell<N> {
         ServerCell::history(self)
     }
 
-    fn deliver(&mut self, hub: &mut Hub, position: u64) -> Result<CallerAnswer, Fault> {
+    fn deliver(&mut self, hub: &mut Hub, position: u64) -> Result<Receipt, Fault> {
         if !self.is_on() {
             return Err(Fault::NodeOff);
         }
@@ -58,7 +57,7 @@ impl<N: Notes + Drop> Node for ServerCell<N> {
     }
 
     /// Takes the report of a job's check, and sends it to the client.
-    fn post(&mut self, hub: &mut Hub, command: Report) -> Result<CallerAnswer, Fault> {
+    fn post(&mut self, hub: &mut Hub, command: Report) -> Result<Receipt, Fault> {
         if !self.is_on() {
             return Err(Fault::NodeOff);
         }

@@ -15,13 +15,12 @@ ghost use Rattle.cells.specs.ServerStands.{reply_and_frames};
 
 use super::ServerCell;
 use super::power::step;
-use crate::answer::{CallerAnswer, Reply};
+use crate::answer::{Receipt, Reply};
 use crate::entered::{enter, make_room};
 use crate::input::NodeInput;
 use disk_model::Notes;
 use fc_base::{Fault, MAX_JOBS};
-use hub::{Hub, frames_are_spelled};
-use messages::{Frame, Frames, MAX_FRAME, Node};
+use messages::{Frame, Frames, Hub, MAX_FRAME, Node, frames_are_spelled};
 use server_core::{Input, Outs, packets_are_in_range};
 use std::alloc::Global;
 
@@ -47,7 +46,7 @@ impl<N: Notes + Drop> ServerCell<N> {
         came: NodeInput,
         taken: Option<u64>,
         input: Input<Frame>,
-    ) -> Result<CallerAnswer, Fault>
+    ) -> Result<Receipt, Fault>
         requires taken { ForSome taken (λ i. i < length hub.old.net.frames) }
         requires asks { ask_of came ≡ Meets input }
         ensures opening { self.new.opening ≡ self.old.opening }

@@ -21,7 +21,7 @@ use crate::replies::replies;
 use disk_model::Notes;
 use fc_base::Fault;
 use messages::{Body, Frames, Packet, PacketParts};
-use state_table::found_after_a_push;
+use verify_state::found_after_a_push;
 
 impl<N: Notes> PacketClient<N> {
     /// Takes a packet, and replies to it. A State of a new key is saved before it is acknowledged.

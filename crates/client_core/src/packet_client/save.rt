@@ -2,14 +2,13 @@
 
 ghost use Rattle.std.specs.Prelude.{◌≡◌, ◌+◌, ◌<◌, ◌^◌, None, length};
 ghost use Rattle.client_core.specs.Ends.{Stores, Writes};
-ghost use Rattle.state_table.specs.Kept.{kept_of};
+ghost use Rattle.verify_state.specs.StateTable.{kept_of};
 ghost use Rattle.client_core.specs.Saves.{NextRun, NextAttempt, Keep};
 
 use super::PacketClient;
 use disk_model::Notes;
 use fc_base::Fault;
-use state_table::KEPT_LIMIT;
-use verify_state::VerifyState;
+use verify_state::{KEPT_LIMIT, VerifyState};
 
 impl<N: Notes> PacketClient<N> {
     /// One more run is used.

@@ -5,16 +5,16 @@ ghost use Rattle.client_core.specs.Inputs as inputs;
 ghost use Rattle.client_core.specs.History.{Opening};
 ghost use Rattle.client_core.specs.Hearing.{FrameEntry};
 ghost use Rattle.client_core.specs.FrameEnds.{StandsFor};
-ghost use Rattle.filters.specs.declared.kinds.Told.TheVariants as told;
+ghost use Rattle.filters.specs.declared.kinds.InRecordKind.TheVariants as told;
 ghost use Rattle.filters.specs.Kept.{note_kept};
 ghost use Rattle.filters.specs.ClientAsks.{input_in};
 ghost use Rattle.filters.specs.ClientSteps.{InputEnds, BodyEnds};
 ghost use Rattle.filters.specs.ClientRuns.{AttemptsGoOn, SameAttempts, attempts_numbered};
 
 use super::ClientFilter;
-use crate::answered::Answered;
 use crate::asking::{number_alone, trigger_in};
-use crate::kinds::Told;
+use crate::kinds::InRecordKind;
+use crate::node_step::NodeStep;
 use attempt_ends::{AskedPlaces, Attempted, Attempts, places_asked};
 use client_core::looks_at_all;
 use fc_base::{Attempt, Fault, RunNo, split_u64};
@@ -22,7 +22,7 @@ use messages::{Act, Frame, decode_frame};
 
 impl ClientFilter {
     /// Asks the client what a record says.
-    pub(super) fn ask(&mut self, kind: Told, body: &[u8]) -> Result<Answered, Fault>
+    pub(super) fn ask(&mut self, kind: InRecordKind, body: &[u8]) -> Result<NodeStep, Fault>
         ensures ends { (opening : Opening) (past : List FrameEntry) →
             StandsFor note_kept self.old.client opening past →
             BodyEnds note_kept opening past
@@ -33,24 +33,24 @@ impl ClientFilter {
         ensures servers { self.new.servers ≡ self.old.servers }
     {
         match kind {
-            Told::Frame => self.take(body),
-            Told::Begin => self.begin(body),
-            Told::Trigger => match trigger_in(body) {
+            InRecordKind::Frame => self.take(body),
+            InRecordKind::Begin => self.begin(body),
+            InRecordKind::Trigger => match trigger_in(body) {
                 Some(asked) => self.trigger(asked.run, asked.act),
                 None => Err(Fault::BadNotice),
             },
-            Told::Stop => match number_alone(body) {
+            InRecordKind::Stop => match number_alone(body) {
                 Some(run) => self.stop(RunNo(run)),
                 None => Err(Fault::BadNotice),
             },
-            Told::Verify => self.verify_in(body),
-            Told::Tick => self.tick_in(body),
+            InRecordKind::Verify => self.verify_in(body),
+            InRecordKind::Tick => self.tick_in(body),
             _ => Err(Fault::BadNotice),
         }
     }
 
     /// Takes the frame that these bytes are.
-    fn take(&mut self, bytes: &[u8]) -> Result<Answered, Fault>
+    fn take(&mut self, bytes: &[u8]) -> Result<NodeStep, Fault>
         ensures ends { (opening : Opening) (past : List FrameEntry) →
             StandsFor note_kept self.old.client opening past →
             BodyEnds note_kept opening past
@@ -65,7 +65,7 @@ impl ClientFilter {
     }
 
     /// Verifies the run that stands in the first eight bytes, by the job file behind it.
-    fn verify_in(&mut self, body: &[u8]) -> Result<Answered, Fault>
+    fn verify_in(&mut self, body: &[u8]) -> Result<NodeStep, Fault>
         ensures ends { (opening : Opening) (past : List FrameEntry) →
             StandsFor note_kept self.old.client opening past →
             BodyEnds note_kept opening past
@@ -83,7 +83,7 @@ impl ClientFilter {
         self.verify(RunNo(run), text)
     }
 
-    fn begin(&mut self, text: &[u8]) -> Result<Answered, Fault>
+    fn begin(&mut self, text: &[u8]) -> Result<NodeStep, Fault>
         ensures ends { (opening : Opening) (past : List FrameEntry) →
             StandsFor note_kept self.old.client opening past →
             InputEnds note_kept opening past
@@ -92,14 +92,14 @@ impl ClientFilter {
     {
         let saves = self.client.begin_would_save(text);
         let (run, frames) = self.client.begin(text)?;
-        Ok(Answered {
+        Ok(NodeStep {
             saves,
             number: Some(run.0),
             frames,
         })
     }
 
-    fn trigger(&mut self, run: RunNo, act: Act) -> Result<Answered, Fault>
+    fn trigger(&mut self, run: RunNo, act: Act) -> Result<NodeStep, Fault>
         ensures ends { (opening : Opening) (past : List FrameEntry) →
             StandsFor note_kept self.old.client opening past →
             InputEnds note_kept opening past
@@ -107,14 +107,14 @@ impl ClientFilter {
         ensures same { SameAttempts self.old self.new }
     {
         let frames = self.client.trigger(run, act)?;
-        Ok(Answered {
+        Ok(NodeStep {
             saves: false,
             number: None,
             frames,
         })
     }
 
-    fn stop(&mut self, run: RunNo) -> Result<Answered, Fault>
+    fn stop(&mut self, run: RunNo) -> Result<NodeStep, Fault>
         ensures ends { (opening : Opening) (past : List FrameEntry) →
             StandsFor note_kept self.old.client opening past →
             InputEnds note_kept opening past
@@ -122,14 +122,14 @@ impl ClientFilter {
         ensures same { SameAttempts self.old self.new }
     {
         let frames = self.client.stop(run)?;
-        Ok(Answered {
+        Ok(NodeStep {
             saves: false,
             number: None,
             frames,
         })
     }
 
-    fn verify(&mut self, run: RunNo, text: &[u8]) -> Result<Answered, Fault>
+    fn verify(&mut self, run: RunNo, text: &[u8]) -> Result<NodeStep, Fault>
         ensures ends { (opening : Opening) (past : List FrameEntry) →
             StandsFor note_kept self.old.client opening past →
             InputEnds note_kept opening past
@@ -158,7 +158,7 @@ impl ClientFilter {
     }
 
     /// Verifies a run, and leaves it to the caller to know the attempt.
-    fn verify_by_client(&mut self, run: RunNo, text: &[u8]) -> Result<Answered, Fault>
+    fn verify_by_client(&mut self, run: RunNo, text: &[u8]) -> Result<NodeStep, Fault>
         ensures ends { (opening : Opening) (past : List FrameEntry) →
             StandsFor note_kept self.old.client opening past →
             InputEnds note_kept opening past
@@ -167,7 +167,7 @@ impl ClientFilter {
     {
         let saves = self.client.verify_would_save(run, text);
         let (attempt, frames) = self.client.verify(run, text)?;
-        Ok(Answered {
+        Ok(NodeStep {
             saves,
             number: Some(attempt.0),
             frames,
@@ -175,7 +175,7 @@ impl ClientFilter {
     }
 
     /// Ticks, where nothing is asked with it.
-    fn tick_in(&self, body: &[u8]) -> Result<Answered, Fault>
+    fn tick_in(&self, body: &[u8]) -> Result<NodeStep, Fault>
         ensures { (opening : Opening) (past : List FrameEntry) →
             StandsFor note_kept self.now.client opening past →
             BodyEnds note_kept opening past
@@ -187,13 +187,13 @@ impl ClientFilter {
         self.tick()
     }
 
-    fn tick(&self) -> Result<Answered, Fault>
+    fn tick(&self) -> Result<NodeStep, Fault>
         ensures { (opening : Opening) (past : List FrameEntry) →
             StandsFor note_kept self.now.client opening past →
             InputEnds note_kept opening past inputs.Tick self.now.client self.now.client result }
     {
         let frames = self.client.tick()?;
-        Ok(Answered {
+        Ok(NodeStep {
             saves: false,
             number: None,
             frames,
@@ -201,7 +201,7 @@ impl ClientFilter {
     }
 
     #[tactic(auto, using(crate::proofs::ClientLemmas::not_answered))]
-    fn deliver(&mut self, frame: Frame) -> Result<Answered, Fault>
+    fn deliver(&mut self, frame: Frame) -> Result<NodeStep, Fault>
         ensures ends { (opening : Opening) (past : List FrameEntry) →
             StandsFor note_kept self.old.client opening past →
             InputEnds note_kept opening past
@@ -212,7 +212,7 @@ impl ClientFilter {
             return Err(Fault::NoMemory);
         };
         let frames = self.client.deliver(frame)?;
-        Ok(Answered {
+        Ok(NodeStep {
             saves,
             number: None,
             frames,
@@ -221,7 +221,7 @@ impl ClientFilter {
 }
 
 /// Adds the attempt that was answered with a number, of a run, which asks for these places.
-fn push_answered(attempts: &mut Attempts, run: RunNo, asked: AskedPlaces, answered: &Answered)
+fn push_answered(attempts: &mut Attempts, run: RunNo, asked: AskedPlaces, answered: &NodeStep)
     requires { 1 ≤ attempts.old.room }
     ensures { attempts.new.made
         ≡ attempts.old.made ++ attempts_numbered run asked answered.now.number }

@@ -7,7 +7,7 @@ ghost use Rattle.filters.specs.ClientLives.{restarts};
 ghost use Rattle.filters.specs.ClientRuns.{OpensOver};
 
 use crate::beginning::Beginning;
-use crate::kept_notes::KeptNotes;
+use crate::note_buffer::NoteBuffer;
 use client_core::Client;
 use fc_base::{Fault, Generation};
 use std::alloc::Global;
@@ -18,7 +18,7 @@ pub(super) fn open(
     servers: u32,
     beginning: &Beginning,
     note: Vec<u8>,
-) -> Result<Client<KeptNotes>, Fault>
+) -> Result<Client<NoteBuffer>, Fault>
     requires some { 1 ≤ servers }
     requires few { servers ≤ MAX_SERVERS }
     ensures { OpensOver beginning.now servers note.items result }
@@ -36,12 +36,12 @@ fn restart(
     servers: u32,
     mirror: bool,
     note: Vec<u8>,
-) -> Result<Client<KeptNotes>, Fault>
+) -> Result<Client<NoteBuffer>, Fault>
     requires some { 1 ≤ servers }
     requires few { servers ≤ MAX_SERVERS }
     ensures { OpensOver (restarts mirror) servers note.items result }
 {
-    match Client::restart(alloc, servers, mirror, KeptNotes::new(note)) {
+    match Client::restart(alloc, servers, mirror, NoteBuffer::new(note)) {
         Ok(client) => Ok(client),
         Err((_, fault)) => Err(fault),
     }
@@ -53,12 +53,12 @@ fn renew(
     servers: u32,
     generation: Generation,
     note: Vec<u8>,
-) -> Result<Client<KeptNotes>, Fault>
+) -> Result<Client<NoteBuffer>, Fault>
     requires some { 1 ≤ servers }
     requires few { servers ≤ MAX_SERVERS }
     ensures { OpensOver (Renewed generation) servers note.items result }
 {
-    match Client::renew(alloc, servers, KeptNotes::new(note), generation) {
+    match Client::renew(alloc, servers, NoteBuffer::new(note), generation) {
         Ok(client) => Ok(client),
         Err((_, fault)) => Err(fault),
     }

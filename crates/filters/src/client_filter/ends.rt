@@ -1,7 +1,7 @@
 //! What is written of how an attempt ended.
 
 ghost use Rattle.std.specs.Prelude.{◌≡◌, Some};
-ghost use Rattle.filters.specs.declared.kinds.Told.TheVariants as told;
+ghost use Rattle.filters.specs.declared.kinds.InRecordKind.TheVariants as told;
 ghost use Rattle.filters.specs.ClientLives.{TakesKind, TellsEnds};
 ghost use Rattle.filters.specs.ClientRuns.{FilterIsAt};
 ghost use Rattle.filters.specs.Steps.{AnswersBy};

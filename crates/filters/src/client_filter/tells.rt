@@ -3,7 +3,7 @@
 ghost use Rattle.std.specs.Prelude.{◌≡◌, Some, slice_get};
 ghost use Rattle.std.specs.Option.{option_copied};
 ghost use Rattle.filters.specs.Written.{Puts};
-ghost use Rattle.filters.specs.declared.kinds.Told.TheVariants as told;
+ghost use Rattle.filters.specs.declared.kinds.InRecordKind.TheVariants as told;
 ghost use Rattle.client_core.specs.FrameEnds.{note_in};
 ghost use Rattle.filters.specs.Kept.{note_kept};
 ghost use Rattle.filters.specs.ClientAsks.{input_in};
@@ -13,9 +13,9 @@ ghost use Rattle.filters.specs.ClientRuns.{FilterIsAt};
 ghost use Rattle.filters.specs.Steps.{AnswersBy};
 
 use super::ClientFilter;
-use crate::answered::{Answered, put_result};
 use crate::asking::{look_in, number_alone};
-use crate::kinds::{Said, Told};
+use crate::kinds::{InRecordKind, OutRecordKind};
+use crate::node_step::{NodeStep, put_result};
 use crate::output::Output;
 use crate::telling::{outcome_number, put_report};
 use crate::writing::{put_end, put_with};
@@ -24,7 +24,7 @@ use fc_base::Fault;
 
 impl ClientFilter {
     /// Asks the client what the body of a record says, and writes the answer.
-    pub(super) fn answer_body<W: Output>(&mut self, kind: Told, body: &[u8], writer: &mut W)
+    pub(super) fn answer_body<W: Output>(&mut self, kind: InRecordKind, body: &[u8], writer: &mut W)
         ensures { AnswersBy (λ opening at now answer.
             TakesBody opening at (input_in kind body.now) now answer)
             (FilterIsAt self.old) (FilterIsAt self.new)
@@ -35,7 +35,7 @@ impl ClientFilter {
     }
 
     /// Writes an answer, or why there is none.
-    fn write_answer<W: Output>(&self, answer: Result<Answered, Fault>, writer: &mut W)
+    fn write_answer<W: Output>(&self, answer: Result<NodeStep, Fault>, writer: &mut W)
         ensures { Puts (W.written writer.old) (W.written writer.new)
             (result_bytes (note_in note_kept self.now.client).bytes answer) }
     {
@@ -52,7 +52,12 @@ impl ClientFilter {
         match look_in(body) {
             Some(asked) => {
                 let outcome = self.client.outcome(asked.kind, asked.number, asked.server);
-                put_with(writer, Said::Outcome, body, outcome_number(outcome));
+                put_with(
+                    writer,
+                    OutRecordKind::Outcome,
+                    body,
+                    outcome_number(outcome),
+                );
                 put_end(writer, Ok(()));
             }
             None => put_end(writer, Err(Fault::BadNotice)),

@@ -18,9 +18,9 @@ ghost use Rattle.filters.specs.CheckRuns.{GoesSo, IsHere, IsNewCheck, TakesOut, 
 ghost use Rattle.filters.specs.Steps.{AnswersBy};
 
 use super::ServerFilter;
-use super::writes::Handed;
-use crate::checking::{Checking, Went};
-use crate::kinds::Said;
+use super::writes::ServerStep;
+use crate::checking::{CheckTurn, Checking};
+use crate::kinds::OutRecordKind;
 use crate::names::{BLOCK_NAME, BlockName, block_name};
 use crate::output::Output;
 use crate::writing::{put_head, put_u32, put_u64};
@@ -113,7 +113,7 @@ impl ServerFilter {
         boot: u64,
         attempt: Attempt,
         job: JobNo,
-        went: Went,
+        went: CheckTurn,
         writer: &mut W,
     ) -> Result<(), Fault>
         requires { job < JOBS }
@@ -121,12 +121,12 @@ impl ServerFilter {
             (W.written writer.old) (W.written writer.new) }
     {
         match went {
-            Went::On(checking) => {
+            CheckTurn::On(checking) => {
                 want(writer, &checking);
                 self.put(job, Some(checking));
                 Ok(())
             }
-            Went::Ended(report) => self.tell(boot, attempt, job, report, writer),
+            CheckTurn::Ended(report) => self.tell(boot, attempt, job, report, writer),
         }
     }
 
@@ -169,7 +169,7 @@ impl ServerFilter {
         attempt: Attempt,
         job: JobNo,
         report: CheckReport,
-    ) -> Result<Handed, Fault>
+    ) -> Result<ServerStep, Fault>
         ensures hands { (opening : Opening) (past : List FrameEntry) →
             StandsFor note_kept self.old.server opening past →
             HandsOut note_kept opening past (CheckDone boot attempt job report)
@@ -185,7 +185,7 @@ impl ServerFilter {
             report,
         };
         match self.server.step(told) {
-            Ok(outs) => Ok(Handed { saves: false, outs }),
+            Ok(outs) => Ok(ServerStep { saves: false, outs }),
             Err(fault) => Err(fault),
         }
     }
@@ -272,7 +272,7 @@ fn want<W: Output>(writer: &mut W, checking: &Checking)
         (want_bytes checking.now.attempt checking.now.job checking.now.next checking.now.count
         checking.now.size) }
 {
-    put_head(writer, Said::Want, 24);
+    put_head(writer, OutRecordKind::Want, 24);
     put_u64(writer, checking.attempt.0);
     put_u32(writer, checking.job.0);
     put_u32(writer, checking.next);

@@ -20,7 +20,7 @@ ghost use Rattle.filters.specs.CheckRuns.{IsHere};
 ghost use Rattle.filters.specs.Steps.{AnswersBy};
 
 use super::ServerFilter;
-use crate::kinds::Said;
+use crate::kinds::OutRecordKind;
 use crate::names::WriteName;
 use crate::output::Output;
 use crate::writing::{put_frames, put_head, put_record, put_save, put_u32, put_u64};
@@ -35,7 +35,7 @@ const MOST_ASKED: u64 = MAX_WRITES + 1;
 
 /// What a server answers.
 #[derive(Drop)]
-pub(crate) struct Handed {
+pub(crate) struct ServerStep {
     /// Whether it has saved its note.
     pub saves: bool,
     /// The frames that it sends, and what it asks of its caller.
@@ -44,7 +44,7 @@ pub(crate) struct Handed {
 
 impl ServerFilter {
     /// Takes the frame that these bytes are.
-    pub(super) fn deliver(&mut self, bytes: &[u8]) -> Result<Handed, Fault>
+    pub(super) fn deliver(&mut self, bytes: &[u8]) -> Result<ServerStep, Fault>
         ensures hands { (opening : Opening) (past : List FrameEntry) →
             StandsFor note_kept self.old.server opening past →
             BodyHands note_kept opening past
@@ -60,7 +60,7 @@ impl ServerFilter {
 
     /// Takes a frame.
     #[tactic(auto, using(crate::proofs::ServerLemmas::not_handed))]
-    fn take(&mut self, frame: Frame) -> Result<Handed, Fault>
+    fn take(&mut self, frame: Frame) -> Result<ServerStep, Fault>
         ensures hands { (opening : Opening) (past : List FrameEntry) →
             StandsFor note_kept self.old.server opening past →
             HandsOut note_kept opening past (Deliver frame) self.old.server self.new.server result }
@@ -68,7 +68,7 @@ impl ServerFilter {
     {
         let saves = self.server.would_save(&frame);
         let outs = self.server.step(Input::Deliver(frame))?;
-        Ok(Handed { saves, outs })
+        Ok(ServerStep { saves, outs })
     }
 
     /// Takes the end of a write of the present run.
@@ -76,7 +76,7 @@ impl ServerFilter {
         &mut self,
         name: Option<WriteName>,
         end: WriteEnd,
-    ) -> Result<Handed, Fault>
+    ) -> Result<ServerStep, Fault>
         ensures hands { (opening : Opening) (past : List FrameEntry) →
             StandsFor note_kept self.old.server opening past →
             BodyHands note_kept opening past (end_in opening past end name)
@@ -100,7 +100,7 @@ impl ServerFilter {
 
     /// Takes the end of an open write.
     #[tactic(auto, using(crate::proofs::ServerLemmas::not_handed))]
-    fn end_open(&mut self, ticket: Ticket, end: WriteEnd) -> Result<Handed, Fault>
+    fn end_open(&mut self, ticket: Ticket, end: WriteEnd) -> Result<ServerStep, Fault>
         ensures hands { (opening : Opening) (past : List FrameEntry) →
             StandsFor note_kept self.old.server opening past →
             HandsOut note_kept opening past
@@ -108,12 +108,12 @@ impl ServerFilter {
         ensures checks { self.new.checks ≡ self.old.checks }
     {
         let outs = self.server.step(Input::WriteDone(ticket, end))?;
-        Ok(Handed { saves: false, outs })
+        Ok(ServerStep { saves: false, outs })
     }
 
     /// Writes what is handed out: first what is saved.
     #[tactic(auto, using(crate::proofs::OutputLemmas::puts_both))]
-    pub(super) fn put_handed<W: Output>(&self, handed: &Handed, writer: &mut W)
+    pub(super) fn put_handed<W: Output>(&self, handed: &ServerStep, writer: &mut W)
         ensures { Puts (W.written writer.old) (W.written writer.new)
             (handed_bytes (note_in note_kept self.now.server).bytes handed.now) }
     {
@@ -181,7 +181,7 @@ fn put_order<W: Output>(writer: &mut W, rec: &JobRecord, ticket: &Ticket, memory
 {
     let bytes = &mut memory[..rec.bs() as usize];
     fill_block(ticket.key, rec, ticket.seq, ticket.block, bytes);
-    put_head(writer, Said::Order, 24 + bytes.len() as u64);
+    put_head(writer, OutRecordKind::Order, 24 + bytes.len() as u64);
     put_order_name(writer, ticket);
     writer.put(bytes);
 }
@@ -206,7 +206,7 @@ pub(super) fn put_outs<W: Output>(writer: &mut W, outs: &Outs)
 {
     put_frames(writer, &outs.frames);
     match outs.act {
-        Act::Cut => put_record(writer, Said::Cut, &[]),
+        Act::Cut => put_record(writer, OutRecordKind::Cut, &[]),
         Act::None => {}
     }
 }

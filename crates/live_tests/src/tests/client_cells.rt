@@ -4,8 +4,8 @@ use disk_model::{FaultNotes, MemNotes};
 use fc_base::{Fault, RunNo};
 use messages::{Act, Text};
 use node_threads::{
-    Answer, CallerAnswer, ClientCell, ClientCommand, ClientRequest, ClientTask, History,
-    HistoryEntry, Hub, Node, NodeInput,
+    Answer, ClientCell, ClientCommand, ClientRequest, ClientTask, History, HistoryEntry, Hub, Node,
+    NodeInput, Receipt,
 };
 use std::alloc::{AllocGlobal, Global};
 use std::test::Fail;
@@ -109,14 +109,14 @@ const LOST: Story = Story {
 
 impl Said {
     /// It in the cell's own words, where this is the run.
-    fn told(self, run: u64) -> Result<CallerAnswer, Fault> {
+    fn told(self, run: u64) -> Result<Receipt, Fault> {
         let (answer, first, sent) = match self {
             Said::Done => (Answer::Plain, 0, 0),
             Said::Sent(first) => (Answer::Plain, first, 2),
             Said::Begun => (Answer::Run(RunNo(run)), 0, 2),
             Said::Refused(fault) => return Err(fault),
         };
-        Ok(CallerAnswer {
+        Ok(Receipt {
             answer,
             first,
             sent,
@@ -192,7 +192,7 @@ impl Site {
     }
 
     /// Whether it answers this step so, and enters it, if it is a task; or memory ran out.
-    fn answers(&mut self, step: Step, wanted: Result<CallerAnswer, Fault>) -> Result<bool, Fault> {
+    fn answers(&mut self, step: Step, wanted: Result<Receipt, Fault>) -> Result<bool, Fault> {
         let entries = self.cell.history().len();
         match self.step(step) {
             Err(Fault::NoMemory) => Err(Fault::NoMemory),
@@ -201,7 +201,7 @@ impl Site {
     }
 
     /// What is told of this step.
-    fn step(&mut self, step: Step) -> Result<CallerAnswer, Fault> {
+    fn step(&mut self, step: Step) -> Result<Receipt, Fault> {
         let command = match step {
             Step::Apply(task) => return self.cell.apply(task),
             Step::Deliver(position) => return self.cell.deliver(&mut self.hub, position),

@@ -3,7 +3,7 @@
 use disk_model::{FaultNotes, MemNotes, Notes};
 use engine::Issue;
 use fc_base::{Fault, JobNo, ServerNo};
-use node_threads::{Answer, CallerAnswer, History, HistoryEntry, Seat, ServerCell, ServerTask};
+use node_threads::{Answer, History, HistoryEntry, Receipt, Seat, ServerCell, ServerTask};
 use std::alloc::Global;
 
 /// The number of a seat, what is asked from it, and its answer, or the number of its fault.
@@ -38,7 +38,7 @@ const LOST: [Row; 6] = [
 ];
 
 /// The answer, or the number of the fault, of what sends nothing.
-fn said(told: Result<CallerAnswer, Fault>) -> Result<Answer, u8> {
+fn said(told: Result<Receipt, Fault>) -> Result<Answer, u8> {
     match told {
         Ok(told) => Ok(told.answer),
         Err(fault) => Err(fault.number()),

@@ -1,4 +1,4 @@
-//! What no clause shows of `commands` and `live`: the printed texts, the exit statuses, the bounds of
+//! What no clause shows of `commands`: the printed texts, the exit statuses, the bounds of
 //! reading, and which command lines are read.
 
 mod jobs;

@@ -7,7 +7,7 @@ ghost use Rattle.messages.specs.Bodies.{body_at};
 
 use crate::body::Body;
 use crate::reading::in_range;
-use crate::refusal::{Act, Asked, Reason, Refusal};
+use crate::refusal::{Act, Reason, Refusal, RefusedRequest};
 use fc_base::{Attempt, Generation, JobNo, RunNo, ServerNo, split_u8, split_u32, split_u64};
 
 pub(super) fn jobs_ok(bytes: &[u8]) -> Option<Body>
@@ -154,7 +154,7 @@ pub(super) fn refused(bytes: &[u8]) -> Option<Body>
     let (run, rest) = split_u64(rest);
     let (attempt, rest) = split_u64(rest);
     let (value, _) = split_u64(rest);
-    let asked = Asked::numbered(asked)?;
+    let asked = RefusedRequest::numbered(asked)?;
     let reason = Reason::numbered(reason)?;
     in_range(Body::Refused(Refusal {
         asked,

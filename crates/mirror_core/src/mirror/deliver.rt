@@ -19,8 +19,7 @@ use crate::request::Request;
 use disk_model::Notes;
 use fc_base::Fault;
 use messages::{Frame, Frames};
-use state_table::found_after_a_push;
-use verify_state::VerifyState;
+use verify_state::{VerifyState, found_after_a_push};
 
 impl<N: Notes> Mirror<N> {
     /// Takes a frame, and answers the client. A state of a new key is saved before it is reported as kept,

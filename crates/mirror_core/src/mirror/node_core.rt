@@ -1,6 +1,5 @@
 //! A mirror is the core of a node.
 
-ghost use Rattle.std.specs.Prelude.{List, ℕ};
 ghost use Rattle.messages.specs.declared.frame.Frame.{Frame as SentFrame};
 ghost use Rattle.mirror_core.specs.declared.note.MirrorNote.{MirrorNote};
 ghost use Rattle.mirror_core.specs.History.{Entry as MirrorEntry};
@@ -11,21 +10,26 @@ ghost use Rattle.mirror_core.specs.NodeKind.{mirror_kind};
 use super::Mirror;
 use disk_model::Notes;
 use fc_base::Fault;
+use messages::{Frame, Frames};
 use node::NodeCore;
-use std::alloc::Global;
+use std::alloc::{AllocError, Global};
 
-impl<N: Notes + Drop> NodeCore<N> for Mirror<N> {
+impl<'t, N: Notes + Drop> NodeCore<'t, N> for Mirror<N> {
     type Seed = ();
+
+    type Input = Frame;
+
+    type Outs = Frames;
 
     ghost Opening = { MirrorNote };
 
-    ghost Input = { SentFrame };
+    ghost Came = { SentFrame };
 
     ghost Entry = { MirrorEntry };
 
     ghost Addition = { MirrorAddition };
 
-    ghost Outs = { List (List ℕ) };
+    ghost came = { λ frame. frame };
 
     ghost kind = { mirror_kind N.note };
 
@@ -38,6 +42,19 @@ impl<N: Notes + Drop> NodeCore<N> for Mirror<N> {
         self.on()
     }
 
+    /// Takes a frame of the client, as [`Mirror::deliver`] says.
+    fn step(&mut self, frame: Frame) -> Result<Frames, Fault> {
+        self.deliver(&frame)
+    }
+
+    fn would_save(&self, frame: &Frame) -> Result<bool, AllocError> {
+        Ok(Mirror::would_save(self, frame))
+    }
+
+    fn notes(&self) -> &N {
+        Mirror::notes(self)
+    }
+
     fn into_notes(self) -> N {
         self.off()
     }
@@ -48,4 +65,6 @@ impl<N: Notes + Drop> NodeCore<N> for Mirror<N> {
     fn start(alloc: Global, _seed: (), notes: N) -> Result<Mirror<N>, (N, Fault)> {
         Mirror::restart(alloc, notes)
     }
+
+    fn keeps_laws() {}
 }

@@ -3,13 +3,12 @@
 ghost use Rattle.std.specs.Prelude.{◌≡◌, ◌<◌, None, length};
 ghost use Rattle.mirror_core.specs.Ends.{Stores, Writes};
 ghost use Rattle.mirror_core.specs.Saves.{Grant, Keep};
-ghost use Rattle.state_table.specs.Kept.{kept_of};
+ghost use Rattle.verify_state.specs.StateTable.{kept_of};
 
 use super::Mirror;
 use disk_model::Notes;
 use fc_base::Fault;
-use state_table::KEPT_LIMIT;
-use verify_state::VerifyState;
+use verify_state::{KEPT_LIMIT, VerifyState};
 
 impl<N: Notes> Mirror<N> {
     /// This is the greatest generation from now on.

@@ -3,7 +3,7 @@
 ghost use Rattle.std.specs.Prelude.{◌≡◌, ◌≤◌, ◌∷◌, [], List, IfOk, IsTrue};
 ghost use Rattle.fc_base.specs.declared.limits.TheConstants.{MAX_SERVERS};
 ghost use Rattle.messages.specs.Ranges.{is_generation};
-ghost use Rattle.disk_model.specs.declared.left.Left.TheVariants.{Saved};
+ghost use Rattle.disk_model.specs.declared.save_outcome.SaveOutcome.TheVariants.{Saved};
 ghost use Rattle.client_core.specs.Note.{blank};
 ghost use Rattle.client_core.specs.History.{Opening};
 ghost use Rattle.client_core.specs.Hearing.{FrameEntry, Renew};

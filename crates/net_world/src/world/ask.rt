@@ -3,22 +3,21 @@
 ghost use Rattle.std.specs.Prelude.{◌≡◌, ◌++◌, [], List};
 ghost use Rattle.net_world.specs.Setup.{Setup};
 ghost use Rattle.net_world.specs.Asking.{told_of, ClientEnds};
-ghost use Rattle.net_world.specs.Asks.{input_of};
+ghost use Rattle.client_core.specs.Answers.{input_of};
 ghost use Rattle.net_world.specs.Changes.{Change};
 ghost use Rattle.net_world.specs.Sending.{sent_in};
 ghost use Rattle.net_world.specs.Stands.{StandsFor};
 
 use super::World;
-use crate::ask::Ask;
 use crate::client_node;
-use crate::client_outs::ClientOuts;
-use crate::told::Told;
+use crate::told::{Told, WorldAnswer};
+use client_core::{Input, Outs};
 use fc_base::Fault;
 use messages::Act;
 
 impl World {
     /// The client is asked this, or a frame comes to it.
-    pub(super) fn ask(&mut self, ask: Ask<'_>) -> Result<Told, Fault>
+    pub(super) fn ask(&mut self, ask: Input<'_>) -> Result<Told, Fault>
         ensures { (w : Setup) (past : List Change) → StandsFor w past self.old →
             ClientEnds w past (input_of ask.entry) self.new result }
     {
@@ -30,17 +29,17 @@ impl World {
     }
 
     /// The frames that the client sends are added behind so many.
-    pub(super) fn send(&mut self, first: usize, asked: ClientOuts) -> Told
+    pub(super) fn send(&mut self, first: usize, asked: Outs) -> Told
         requires { self.old.sent.last ≡ [] }
         ensures told { result ≡ told_of first asked }
         ensures sent { sent_in self.new.sent ≡ sent_in self.old.sent ++ asked.frames }
         ensures rest { self.new ≡ record self.old { sent = self.new.sent } }
     {
-        let ClientOuts { answer, frames } = asked;
+        let Outs { answer, frames } = asked;
         let sent = frames.len() as u64;
         self.sent.add(frames);
         Told {
-            answer,
+            answer: WorldAnswer::of_client(answer),
             first: first as u64,
             sent,
             act: Act::None,

@@ -10,9 +10,9 @@ ghost use Rattle.net_world.specs.Frames.{to_of, frames_sent};
 ghost use Rattle.net_world.specs.Stands.{StandsFor};
 
 use super::World;
-use crate::ask::Ask;
 use crate::client_node;
 use crate::told::Told;
+use client_core::Input;
 use fc_base::{Fault, RunNo};
 use messages::Frame;
 
@@ -25,7 +25,7 @@ impl World {
         let Ok(first) = self.sent.settle() else {
             return Err(Fault::NoMemory);
         };
-        client_node::cut_in(&mut self.client, self.alloc, landed, Ask::Begin(text))?;
+        client_node::cut_in(&mut self.client, self.alloc, landed, Input::Begin(text))?;
         Ok(Told::plain(first))
     }
 
@@ -42,7 +42,12 @@ impl World {
         let Ok(first) = self.sent.settle() else {
             return Err(Fault::NoMemory);
         };
-        client_node::cut_in(&mut self.client, self.alloc, landed, Ask::Verify(run, text))?;
+        client_node::cut_in(
+            &mut self.client,
+            self.alloc,
+            landed,
+            Input::Verify(run, text),
+        )?;
         Ok(Told::plain(first))
     }
 
@@ -59,7 +64,7 @@ impl World {
         let Ok(first) = self.sent.settle() else {
             return Err(Fault::NoMemory);
         };
-        client_node::cut_in(&mut self.client, self.alloc, landed, Ask::Deliver(frame))?;
+        client_node::cut_in(&mut self.client, self.alloc, landed, Input::Deliver(frame))?;
         Ok(Told::plain(first))
     }
 }

@@ -78,7 +78,7 @@ impl World {
         match to_of(&frame) {
             Node::Server(server) => self.cut_in_at_server(landed, server, frame),
             Node::Client => self.cut_in_client_delivery(landed, frame),
-            Node::Mirror => self.cut_in_mirror_delivery(landed, &frame),
+            Node::Mirror => self.cut_in_mirror_delivery(landed, frame),
         }
     }
 

@@ -12,9 +12,9 @@ ghost use Rattle.net_world.specs.Stands.{StandsFor};
 ghost use Rattle.net_world.specs.World.{world};
 
 use super::World;
-use crate::ask::Ask;
 use crate::told::{Told, WorldAnswer};
 use crate::world_law::sent_frames_are_read;
+use client_core::Input as ClientInput;
 use fc_base::{Fault, ServerNo};
 use messages::{Frame, Node, decode_frame};
 use server_core::Input;
@@ -28,8 +28,8 @@ impl World {
         let frame = self.frame(number)?;
         match to_of(&frame) {
             Node::Server(server) => self.deliver_to_server(server, frame),
-            Node::Client => self.ask(Ask::Deliver(frame)),
-            Node::Mirror => self.deliver_to_mirror(&frame),
+            Node::Client => self.ask(ClientInput::Deliver(frame)),
+            Node::Mirror => self.deliver_to_mirror(frame),
         }
     }
 

@@ -10,19 +10,19 @@ ghost use Rattle.net_world.specs.Happenings.{Deliver, Cut, Restart, CutIn};
 ghost use Rattle.net_world.specs.Stands.{StandsFor};
 
 use super::World;
-use crate::client_outs::ClientOuts;
 use crate::mirror_node;
-use crate::told::{Told, WorldAnswer};
+use crate::told::Told;
+use client_core::{Answer, Outs};
 use fc_base::Fault;
 use messages::Frame;
 
 /// `NoMirror`: there is none.
 impl World {
     /// A frame comes to it.
-    pub(super) fn deliver_to_mirror(&mut self, frame: &Frame) -> Result<Told, Fault>
+    pub(super) fn deliver_to_mirror(&mut self, frame: Frame) -> Result<Told, Fault>
         ensures { (w : Setup) (past : List Change) (number : ℕ) → StandsFor w past self.old →
-            slice_get (frames_sent w (steps past)) number ≡ Some frame.now →
-            to_of frame.now ≡ OfMirror →
+            slice_get (frames_sent w (steps past)) number ≡ Some frame →
+            to_of frame ≡ OfMirror →
             Ends w past (Deliver number) self.new result }
     {
         let Ok(first) = self.sent.settle() else {
@@ -32,8 +32,8 @@ impl World {
             return Err(Fault::NoMirror);
         };
         let frames = mirror_node::deliver(node, frame)?;
-        let answer = WorldAnswer::Plain;
-        Ok(self.send(first, ClientOuts { answer, frames }))
+        let answer = Answer::Plain;
+        Ok(self.send(first, Outs { answer, frames }))
     }
 
     /// It loses its power.
@@ -73,11 +73,11 @@ impl World {
     pub(super) fn cut_in_mirror_delivery(
         &mut self,
         landed: bool,
-        frame: &Frame,
+        frame: Frame,
     ) -> Result<Told, Fault>
         ensures { (w : Setup) (past : List Change) (number : ℕ) → StandsFor w past self.old →
-            slice_get (frames_sent w (steps past)) number ≡ Some frame.now →
-            to_of frame.now ≡ OfMirror →
+            slice_get (frames_sent w (steps past)) number ≡ Some frame →
+            to_of frame ≡ OfMirror →
             Ends w past (CutIn landed (Deliver number)) self.new result }
     {
         let Ok(first) = self.sent.settle() else {

@@ -11,7 +11,7 @@ ghost use Rattle.net_world.specs.Frames.{client_entries};
 
 use crate::client_node::ClientNode;
 use crate::config::Config;
-use crate::mirror_node::Mirrored;
+use crate::mirror_node::MirrorSlot;
 use crate::server_node::ServerNode;
 use crate::{client_node, mirror_node, server_node};
 use disk_model::MemDisk;
@@ -19,17 +19,17 @@ use fc_base::ServerNo;
 use std::alloc::{AllocError, Global};
 
 /// The mirror, on a blank note, and the generation of the client.
-pub(super) fn open_mirror(alloc: Global, config: Config) -> Result<Mirrored, AllocError>
+pub(super) fn open_mirror(alloc: Global, config: Config) -> Result<MirrorSlot, AllocError>
     ensures { IfOk result (λ m. HasOpened config m) }
 {
     if !config.mirror {
-        return Ok(Mirrored {
+        return Ok(MirrorSlot {
             node: None,
             greatest: 0,
         });
     }
     let node = mirror_node::open(alloc)?;
-    Ok(Mirrored {
+    Ok(MirrorSlot {
         node: Some(node),
         greatest: 1,
     })

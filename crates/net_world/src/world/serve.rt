@@ -8,7 +8,7 @@ ghost use Rattle.net_world.specs.Stands.{StandsFor};
 ghost use Rattle.net_world.specs.Serving.{ServerEnds};
 
 use super::World;
-use crate::served::Served;
+use crate::sent_reply::SentReply;
 use engine::Ticket;
 use fc_base::{Fault, ServerNo};
 use messages::{Act, Frame};
@@ -20,7 +20,11 @@ impl World {
     /// `NoServer`, `NodeOff`, `NoMemory`, or the server's own refusal.
     // Inlined with the way of writes, so that their caller makes no room for packets and frames.
     #[inline(always)]
-    pub(super) fn serve(&mut self, server: ServerNo, input: Input<Frame>) -> Result<Served, Fault>
+    pub(super) fn serve(
+        &mut self,
+        server: ServerNo,
+        input: Input<Frame>,
+    ) -> Result<SentReply, Fault>
         ensures { (w : Setup) (past : List Change) → StandsFor w past self.old →
             ServerEnds w past server input self.new result }
     {
@@ -34,7 +38,7 @@ impl World {
         let Outs { frames, issue, act } = outs;
         let sent = frames.len() as u64;
         self.sent.add(frames);
-        Ok(Served {
+        Ok(SentReply {
             first: first as u64,
             sent,
             issue,
@@ -49,7 +53,7 @@ impl World {
         server: ServerNo,
         ticket: Ticket,
         end: WriteEnd,
-    ) -> Result<Served, Fault>
+    ) -> Result<SentReply, Fault>
         ensures { (w : Setup) (past : List Change) → StandsFor w past self.old →
             ServerEnds w past server (WriteDone ticket end) self.new result }
     {
@@ -62,7 +66,7 @@ impl World {
         self.servers[server.0 as usize]
             .on()?
             .end_write(ticket, end)?;
-        Ok(Served {
+        Ok(SentReply {
             first: first as u64,
             sent: 0,
             issue: None,

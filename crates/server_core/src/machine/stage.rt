@@ -20,7 +20,7 @@ use crate::staged::StagedSet;
 use crate::texts::jobs_for;
 use fc_base::{Fault, RunNo, ServerNo};
 use job_file::Phase;
-use messages::{Asked, Body, Frames, Reason};
+use messages::{Body, Frames, Reason, RefusedRequest};
 use std::alloc::{AllocError, Global};
 
 impl Machine {
@@ -36,13 +36,13 @@ impl Machine {
         ensures same { OnErr result (self.new ≡ self.old) }
         ensures memory { OnErr result (result ≡ Err NoMemory) }
     {
-        let Staging { frames, new } = self.staging(run, text)?;
+        let StagePlan { frames, new } = self.staging(run, text)?;
         keep(&mut self.staged, new);
         Ok(frames)
     }
 
     /// What is sent in answer to a text, and what is staged by it.
-    fn staging(&self, run: RunNo, text: &[u8]) -> Result<Staging, Fault>
+    fn staging(&self, run: RunNo, text: &[u8]) -> Result<StagePlan, Fault>
         requires { IsTrue (is_run run) }
         ensures sent { EachNow self.now (λ now. IfOk result
             (λ s. s.frames ≡ frames_to_client now.server (replies now (ToStage run text.now)))) }
@@ -51,19 +51,29 @@ impl Machine {
         ensures memory { OnErr result (result ≡ Err NoMemory) }
     {
         if run <= self.last_run || run < self.staged_run() {
-            return unstaged(self.refuse(Asked::Jobs, Reason::Old, run, self.greatest_run()));
+            return unstaged(self.refuse(
+                RefusedRequest::Jobs,
+                Reason::Old,
+                run,
+                self.greatest_run(),
+            ));
         }
         if let Some(jobs) = self.staged_jobs(run) {
             return unstaged(only(self.alloc, self.me, Body::JobsOk { run, jobs }));
         }
         if self.is_open() {
-            return unstaged(self.refuse(Asked::Jobs, Reason::Busy, run, 0));
+            return unstaged(self.refuse(RefusedRequest::Jobs, Reason::Busy, run, 0));
         }
         match jobs_for(self.alloc, Phase::Write, text) {
             Ok(jobs) => staged(self.alloc, self.me, StagedSet::new(run, jobs)),
             Err(Fault::NoMemory) => Err(Fault::NoMemory),
             Err(fault) => {
-                unstaged(self.refuse(Asked::Jobs, Reason::BadJobs, run, u64::from(fault.number())))
+                unstaged(self.refuse(
+                    RefusedRequest::Jobs,
+                    Reason::BadJobs,
+                    run,
+                    u64::from(fault.number()),
+                ))
             }
         }
     }
@@ -99,7 +109,7 @@ impl Machine {
 }
 
 /// What a text leads to.
-struct Staging {
+struct StagePlan {
     frames: Frames,
     /// What is staged in place of what was, if anything.
     new: Option<StagedSet>,
@@ -115,17 +125,17 @@ fn keep(slot: &mut Option<StagedSet>, new: Option<StagedSet>)
 }
 
 /// These frames, and nothing is staged.
-fn unstaged(frames: Result<Frames, AllocError>) -> Result<Staging, Fault>
+fn unstaged(frames: Result<Frames, AllocError>) -> Result<StagePlan, Fault>
     ensures { result ≡ frames_without_staging frames }
 {
     match frames {
-        Ok(frames) => Ok(Staging { frames, new: None }),
+        Ok(frames) => Ok(StagePlan { frames, new: None }),
         Err(_) => Err(Fault::NoMemory),
     }
 }
 
 /// This set is staged, and the client is told.
-fn staged(alloc: Global, me: ServerNo, set: StagedSet) -> Result<Staging, Fault>
+fn staged(alloc: Global, me: ServerNo, set: StagedSet) -> Result<StagePlan, Fault>
     requires { me < MAX_SERVERS }
     ensures ok { IfOk result (λ s.
         (s.frames ≡ frames_to_client me (JobsOk set.run (length set.jobs) ∷ []))
@@ -137,7 +147,7 @@ fn staged(alloc: Global, me: ServerNo, set: StagedSet) -> Result<Staging, Fault>
         jobs: set.len(),
     };
     match only(alloc, me, body) {
-        Ok(frames) => Ok(Staging {
+        Ok(frames) => Ok(StagePlan {
             frames,
             new: Some(set),
         }),

@@ -18,7 +18,7 @@ use crate::input::Input;
 use crate::job_run::JobRun;
 use crate::replies::only;
 use fc_base::{Fault, RunNo};
-use messages::{Asked, Body, Frames, Packet, Reason};
+use messages::{Body, Frames, Packet, Reason, RefusedRequest};
 use std::alloc::AllocError;
 
 impl Machine {
@@ -70,13 +70,13 @@ impl Machine {
             return lacking(only(self.alloc, self.me, Body::Started { run }));
         }
         if run <= self.last_run {
-            return lacking(self.refuse(Asked::Start, Reason::Old, run, self.last_run.0));
+            return lacking(self.refuse(RefusedRequest::Start, Reason::Old, run, self.last_run.0));
         }
         if self.staged_jobs(run).is_none() {
-            return lacking(self.refuse(Asked::Start, Reason::NoJobs, run, 0));
+            return lacking(self.refuse(RefusedRequest::Start, Reason::NoJobs, run, 0));
         }
         if self.is_open() {
-            return lacking(self.refuse(Asked::Start, Reason::Busy, run, 0));
+            return lacking(self.refuse(RefusedRequest::Start, Reason::Busy, run, 0));
         }
         lacking(only(self.alloc, self.me, Body::Started { run }))
     }

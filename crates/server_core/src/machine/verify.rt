@@ -4,7 +4,7 @@ ghost use Rattle.std.specs.Prelude.{◌≡◌, ◌<◌, IsTrue, IfOk, OnErr, Err
 ghost use Rattle.std.specs.Option.{option_map, option_or};
 ghost use Rattle.fc_base.specs.declared.fault.Fault.TheVariants.{NoMemory};
 ghost use Rattle.messages.specs.Ranges.{is_attempt as in_range, is_run};
-ghost use Rattle.messages.specs.declared.refusal.Asked.TheVariants.{Verify};
+ghost use Rattle.messages.specs.declared.refusal.RefusedRequest.TheVariants.{Verify};
 ghost use Rattle.server_core.specs.Request.{ToVerify};
 ghost use Rattle.server_core.specs.Check.{opens};
 ghost use Rattle.server_core.specs.KeptCheck.{CheckKept};
@@ -21,7 +21,7 @@ use crate::replies::only;
 use crate::texts::jobs_for;
 use fc_base::{Attempt, Fault, JobNo, RunNo};
 use job_file::{Jobs, Phase};
-use messages::{Asked, Body, Frames, Reason, Refusal};
+use messages::{Body, Frames, Reason, Refusal, RefusedRequest};
 use std::alloc::AllocError;
 
 impl Machine {
@@ -43,13 +43,13 @@ impl Machine {
         ensures same { OnErr result (self.new ≡ self.old) }
         ensures memory { OnErr result (result ≡ Err NoMemory) }
     {
-        let Verifying { frames, new } = self.verifying(run, attempt, text)?;
+        let VerifyPlan { frames, new } = self.verifying(run, attempt, text)?;
         keep(&mut self.check, new);
         Ok(frames)
     }
 
     /// What is sent in answer to a Verify, and the check that it opens.
-    fn verifying(&self, run: RunNo, attempt: Attempt, text: &[u8]) -> Result<Verifying, Fault>
+    fn verifying(&self, run: RunNo, attempt: Attempt, text: &[u8]) -> Result<VerifyPlan, Fault>
         requires run { IsTrue (is_run run) }
         requires attempt { IsTrue (in_range attempt) }
         ensures sent { EachNow self.now (λ now. IfOk result
@@ -77,7 +77,7 @@ impl Machine {
     }
 
     /// The same of an attempt above that of the open check.
-    fn verify_anew(&self, run: RunNo, attempt: Attempt, text: &[u8]) -> Result<Verifying, Fault>
+    fn verify_anew(&self, run: RunNo, attempt: Attempt, text: &[u8]) -> Result<VerifyPlan, Fault>
         requires run { IsTrue (is_run run) }
         requires attempt { IsTrue (in_range attempt) }
         ensures sent { EachNow self.now (λ now. IfOk result
@@ -101,7 +101,7 @@ impl Machine {
     }
 
     /// A check of these jobs is opened.
-    fn opened(&self, run: RunNo, attempt: Attempt, jobs: Jobs) -> Result<Verifying, Fault>
+    fn opened(&self, run: RunNo, attempt: Attempt, jobs: Jobs) -> Result<VerifyPlan, Fault>
         requires run { IsTrue (is_run run) }
         requires attempt { IsTrue (in_range attempt) }
         requires jobs { IsSet jobs }
@@ -114,7 +114,7 @@ impl Machine {
         };
         let check = OpenCheck::new(run, attempt, jobs, progress);
         match check.frames(self.alloc, self.me) {
-            Ok(frames) => Ok(Verifying {
+            Ok(frames) => Ok(VerifyPlan {
                 frames,
                 new: Some(check),
             }),
@@ -133,7 +133,7 @@ impl Machine {
     }
 
     /// The open check is told again.
-    fn check_again(&self) -> Result<Verifying, Fault>
+    fn check_again(&self) -> Result<VerifyPlan, Fault>
         ensures sent { EachNow self.now (λ now. IfOk result
             (λ v. v.frames ≡ frames_to_client now.server (checked_again now.check))) }
         ensures opened { IfOk result (λ v. v.new ≡ None) }
@@ -152,7 +152,7 @@ impl Machine {
         run: RunNo,
         attempt: Attempt,
         value: u64,
-    ) -> Result<Verifying, Fault>
+    ) -> Result<VerifyPlan, Fault>
         requires run { IsTrue (is_run run) }
         requires attempt { IsTrue (in_range attempt) }
         requires reason { IsOfText reason }
@@ -163,7 +163,7 @@ impl Machine {
         ensures memory { OnErr result (result ≡ Err NoMemory) }
     {
         let refusal = Refusal {
-            asked: Asked::Verify,
+            asked: RefusedRequest::Verify,
             reason,
             job: JobNo(0),
             jobs: 0,
@@ -176,18 +176,18 @@ impl Machine {
 }
 
 /// What a Verify leads to.
-struct Verifying {
+struct VerifyPlan {
     frames: Frames,
     /// The check that takes the place of the open one, if one does.
     new: Option<OpenCheck>,
 }
 
 /// These frames, and no check is opened.
-fn unopened(frames: Result<Frames, AllocError>) -> Result<Verifying, Fault>
+fn unopened(frames: Result<Frames, AllocError>) -> Result<VerifyPlan, Fault>
     ensures { result ≡ frames_without_check frames }
 {
     match frames {
-        Ok(frames) => Ok(Verifying { frames, new: None }),
+        Ok(frames) => Ok(VerifyPlan { frames, new: None }),
         Err(_) => Err(Fault::NoMemory),
     }
 }

@@ -12,7 +12,7 @@ use super::OpenCheck;
 use crate::progress::Progress;
 use crate::replies::say_if;
 use fc_base::{Fault, JobNo, ServerNo};
-use messages::{Asked, Body, Frames, Reason, Refusal};
+use messages::{Body, Frames, Reason, Refusal, RefusedRequest};
 use std::alloc::{AllocError, Global};
 
 impl OpenCheck {
@@ -65,7 +65,7 @@ impl OpenCheck {
         ensures { result ≡ misfit_of self.now job (number_of fault) }
     {
         Refusal {
-            asked: Asked::Verify,
+            asked: RefusedRequest::Verify,
             reason: Reason::Misfit,
             job,
             jobs: self.jobs.as_slice().len() as u32,

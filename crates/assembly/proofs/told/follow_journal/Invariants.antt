@@ -1,5 +1,5 @@
 use Rattle.std.proofs.Common.{◌≡◌, reverse}
-use Rattle.hub.specs.Journal.{count_sent}
+use Rattle.messages.specs.Journal.{count_sent}
 use Rattle.assembly.specs.Ran.{ran_of}
 use Rattle.assembly.specs.Order.{IsFollowed}
 use Rattle.assembly.proofs.JournalLemmas.{told_of}

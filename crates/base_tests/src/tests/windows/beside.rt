@@ -3,10 +3,10 @@
 use super::plain::PlainWindow;
 use super::step::issue;
 use super::window_of;
+use engine::{Room, Window};
 use fc_base::Seq;
 use std::alloc::Global;
 use std::test::Fail;
-use window::{Room, Window};
 
 /// Issues the next write, where there is room for it.
 fn issue_plain(plain: &mut PlainWindow) -> Option<Seq> {

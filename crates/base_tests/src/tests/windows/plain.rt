@@ -1,9 +1,9 @@
 //! The plain window: it keeps all completions and all failures, and reads each answer from them, as the
 //! manual's reader would. The tests run the other beside it.
 
+use engine::Room;
 use fc_base::{Fault, Seq};
 use std::alloc::{AllocError, Global};
-use window::Room;
 
 /// A window whose `complete` and `fail` take memory.
 #[derive(Drop)]

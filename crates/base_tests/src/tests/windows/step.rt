@@ -1,7 +1,7 @@
 //! What happens to a window, as data.
 
+use engine::{Room, Window};
 use fc_base::{Fault, Seq};
-use window::{Room, Window};
 
 /// Calls of a window that have to answer so, or what has to hold of it.
 #[derive(Clone, Copy)]

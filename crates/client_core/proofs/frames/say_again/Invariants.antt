@@ -5,7 +5,7 @@ use Rattle.client_core.specs.Framed.{frame_bytes}
 use Rattle.client_core.specs.Lives.{Each}
 use Rattle.client_core.specs.Packets.{packets_again}
 use Rattle.client_core.specs.Requests.{Request}
-use Rattle.client_core.specs.Standing.{IsRequestKept}
+use Rattle.client_core.specs.RequestStatus.{IsRequestKept}
 use Rattle.client_core.proofs.frames.say_again.Given as goal
 
 abbrev pub invariant-loop-server : goal.invariant-loop-server

@@ -1,7 +1,7 @@
 use Rattle.std.proofs.Common.{refl, ◌∙◌, ap, subst, ℕ, List, drop, arith, None, Some}
 use Rattle.std.specs.Int.{w32, w64}
 use Rattle.fc_base.specs.Layouts.{number_in}
-use Rattle.state_table.specs.Reading.{ReadsStates}
+use Rattle.verify_state.specs.TableReading.{ReadsStates}
 use Rattle.client_core.proofs.NoteLemmas.{too_short, too_many, no_states, numbers_say}
 use Rattle.client_core.proofs.note.numbers_in.Goals as goal
 

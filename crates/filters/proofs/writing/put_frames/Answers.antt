@@ -1,6 +1,6 @@
 use Rattle.filters.specs.Records.{record_bytes}
 use Rattle.filters.specs.Kinds.{said_number}
-use Rattle.filters.specs.declared.kinds.Said.TheVariants.{Send}
+use Rattle.filters.specs.declared.kinds.OutRecordKind.TheVariants.{Send}
 use Rattle.filters.proofs.WriteLemmas.{one_more}
 use Rattle.filters.proofs.writing.put_frames.Goals as goal
 

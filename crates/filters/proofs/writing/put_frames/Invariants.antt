@@ -3,7 +3,7 @@ use Rattle.std.specs.List.{flat_map}
 use Rattle.filters.specs.Written.{Puts}
 use Rattle.filters.specs.Records.{record_bytes}
 use Rattle.filters.specs.Kinds.{said_number}
-use Rattle.filters.specs.declared.kinds.Said.TheVariants.{Send}
+use Rattle.filters.specs.declared.kinds.OutRecordKind.TheVariants.{Send}
 use Rattle.filters.proofs.writing.put_frames.Given as goal
 
 abbrev pub invariant-loop-index : goal.invariant-loop-index

@@ -3,4 +3,4 @@ use Rattle.ledger.specs.Spelling.{with_runs}
 use Rattle.ledger.proofs.spelling.add_runs.Given as goal
 
 abbrev pub invariant-loop-write : goal.invariant-loop-write
-invariant-loop-write l = with_runs l.table.items (drop l.write-index l.writes) ≡ with_runs l.fn.table.items l.writes
+invariant-loop-write l = with_runs l.table (drop l.write-index l.writes) ≡ with_runs l.fn.table l.writes

@@ -3,4 +3,4 @@ use Rattle.ledger.specs.Spelling.{with_entries}
 use Rattle.ledger.proofs.spelling.table_of.Given as goal
 
 abbrev pub invariant-loop-entry : goal.invariant-loop-entry
-invariant-loop-entry l = with_entries l.table.items (drop l.entry-index l.entries) ≡ with_entries [] l.entries
+invariant-loop-entry l = with_entries l.table (drop l.entry-index l.entries) ≡ with_entries [] l.entries

@@ -3,7 +3,7 @@
 use super::play::Play;
 use disk_model::{FaultNotes, MemNotes};
 use fc_base::{Fault, ServerNo};
-use node_threads::{CallerAnswer, ClientCell, Seat, ServerCell, ServerTask};
+use node_threads::{ClientCell, Receipt, Seat, ServerCell, ServerTask};
 use server_core::Server as Core;
 use std::alloc::Global;
 
@@ -71,7 +71,7 @@ impl Cells {
     }
 
     /// What a server is asked from its seat.
-    pub fn apply(&mut self, number: u32, task: ServerTask) -> Result<CallerAnswer, Fault> {
+    pub fn apply(&mut self, number: u32, task: ServerTask) -> Result<Receipt, Fault> {
         let place = number as usize;
         let Some(server) = self.servers.get_mut(place) else {
             return Err(Fault::NoServer);

@@ -6,7 +6,7 @@ use engine::Ticket;
 use fc_base::{Fault, JobNo, Key, MAX_TEXT, RunNo, Seq, ServerNo};
 use messages::{Frames, Node as Name, Text};
 use node_threads::{
-    AssembleFault, Assembled, CallerAnswer, ClientCommand, ClientRequest, ClientTask, Hub, Node,
+    AssembleFault, Assembled, ClientCommand, ClientRequest, ClientTask, Hub, Node, Receipt,
     ServerTask, assemble,
 };
 use server_core::WriteEnd;
@@ -135,7 +135,7 @@ impl Stage {
     }
 
     /// One step at the hub elsewhere.
-    fn take_elsewhere(&mut self, step: Step) -> Result<CallerAnswer, Fault> {
+    fn take_elsewhere(&mut self, step: Step) -> Result<Receipt, Fault> {
         match step {
             Step::TickElsewhere => self
                 .clients
@@ -151,24 +151,24 @@ impl Stage {
         }
     }
 
-    fn begin(&mut self) -> Result<CallerAnswer, Fault> {
+    fn begin(&mut self) -> Result<Receipt, Fault> {
         let request = begin(self.alloc, WRITING)?;
         self.clients.client.post(&mut self.hub, request)
     }
 
-    fn rival_begins(&mut self, text: &[u8]) -> Result<CallerAnswer, Fault> {
+    fn rival_begins(&mut self, text: &[u8]) -> Result<Receipt, Fault> {
         let request = begin(self.alloc, text)?;
         self.clients.rival.post(&mut self.elsewhere, request)
     }
 
-    fn to_client(&mut self) -> Result<CallerAnswer, Fault> {
+    fn to_client(&mut self) -> Result<Receipt, Fault> {
         match self.hub.pick(Name::Client, 0) {
             Some(position) => self.clients.client.deliver(&mut self.hub, position),
             None => Err(Fault::NoFrame),
         }
     }
 
-    fn to_server(&mut self, number: u32) -> Result<CallerAnswer, Fault> {
+    fn to_server(&mut self, number: u32) -> Result<Receipt, Fault> {
         let Some(server) = self.cells.servers.get_mut(number as usize) else {
             return Err(Fault::NoServer);
         };
@@ -178,14 +178,14 @@ impl Stage {
         }
     }
 
-    fn to_twin_elsewhere(&mut self) -> Result<CallerAnswer, Fault> {
+    fn to_twin_elsewhere(&mut self) -> Result<Receipt, Fault> {
         match self.cells.servers.get_mut(TWINS) {
             Some(server) => server.deliver(&mut self.elsewhere, 0),
             None => Err(Fault::NoServer),
         }
     }
 
-    fn ask(&mut self, number: u32, task: ServerTask) -> Result<CallerAnswer, Fault> {
+    fn ask(&mut self, number: u32, task: ServerTask) -> Result<Receipt, Fault> {
         self.cells.apply(number, task)
     }
 

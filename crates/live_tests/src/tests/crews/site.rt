@@ -9,8 +9,8 @@ use disk_model::{FaultDisk, MemDisk, MemNotes};
 use fc_base::{Fault, JobNo, MAX_TEXT, RunNo, ServerNo};
 use messages::{Act, Text};
 use node_threads::{
-    CallerAnswer, ClientCell, ClientCommand, ClientRequest, History, HistoryEntry, Hub, Node,
-    NodeInput, Seat, ServerCell, ServerTask, assemble,
+    ClientCell, ClientCommand, ClientRequest, History, HistoryEntry, Hub, Node, NodeInput, Receipt,
+    Seat, ServerCell, ServerTask, assemble,
 };
 use server_core::WriteEnd;
 use std::alloc::Global;
@@ -88,31 +88,31 @@ impl Site {
     }
 
     /// The client is asked for a run of these jobs.
-    pub fn begin(&mut self, jobs: &[u8]) -> Result<CallerAnswer, Fault> {
+    pub fn begin(&mut self, jobs: &[u8]) -> Result<Receipt, Fault> {
         let request = ClientRequest::Begin(text(self.alloc, jobs)?);
         self.client
             .post(&mut self.hub, ClientCommand::Request(request))
     }
 
     /// The client is asked for the trigger of run 1.
-    pub fn trigger(&mut self) -> Result<CallerAnswer, Fault> {
+    pub fn trigger(&mut self) -> Result<Receipt, Fault> {
         let request = ClientRequest::Trigger(RunNo(1), Act::None);
         self.client
             .post(&mut self.hub, ClientCommand::Request(request))
     }
 
     /// A frame comes to the client.
-    pub fn hear(&mut self, frame: u64) -> Result<CallerAnswer, Fault> {
+    pub fn hear(&mut self, frame: u64) -> Result<Receipt, Fault> {
         self.client.deliver(&mut self.hub, frame)
     }
 
     /// A frame comes to the server.
-    pub fn serve<R: Wait>(&mut self, rt: &R, frame: u64) -> Result<CallerAnswer, Fault> {
+    pub fn serve<R: Wait>(&mut self, rt: &R, frame: u64) -> Result<Receipt, Fault> {
         self.cell.lock(rt).deliver(&mut self.hub, frame)
     }
 
     /// The server loses its power.
-    pub fn cut<R: Wait>(&mut self, rt: &R) -> Result<CallerAnswer, Fault> {
+    pub fn cut<R: Wait>(&mut self, rt: &R) -> Result<Receipt, Fault> {
         match self.seats.first_mut() {
             Some(seat) => self.cell.lock(rt).apply(seat, ServerTask::Cut),
             None => Err(Fault::WrongSeat),

@@ -4,7 +4,7 @@ use super::hands::Ended;
 use super::site::{Server, Site};
 use disk_model::FaultDisk;
 use fc_base::{Fault, JobNo, Key, RunNo, ServerNo};
-use node_threads::CallerAnswer;
+use node_threads::Receipt;
 use recheck::check_disk;
 use std::alloc::Global;
 use std::sync::Wait;
@@ -94,7 +94,7 @@ impl Site {
     }
 }
 
-fn is_told(answer: Result<CallerAnswer, Fault>) -> Result<bool, Fault> {
+fn is_told(answer: Result<Receipt, Fault>) -> Result<bool, Fault> {
     match answer {
         Ok(_) => Ok(true),
         Err(fault) => Err(fault),

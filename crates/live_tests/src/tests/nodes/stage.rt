@@ -10,7 +10,7 @@ use fc_base::{
 };
 use messages::{Act, Text};
 use node_threads::{
-    CallerAnswer, ClientCell, ClientCommand, ClientRequest, ClientTask, Hub, Node, Report, Seat,
+    ClientCell, ClientCommand, ClientRequest, ClientTask, Hub, Node, Receipt, Report, Seat,
     ServerCell, ServerTask, Turn, deliver, post,
 };
 use server_core::WriteEnd;
@@ -122,7 +122,7 @@ impl<'a> Stage<'a> {
         None
     }
 
-    fn take(&mut self, step: Step) -> Result<CallerAnswer, Fault> {
+    fn take(&mut self, step: Step) -> Result<Receipt, Fault> {
         match step {
             Step::Begin => self.request(ClientRequest::Begin(text(self.alloc, WRITING)?)),
             Step::Verify => self.request(ClientRequest::Verify(
@@ -144,12 +144,12 @@ impl<'a> Stage<'a> {
         }
     }
 
-    fn request(&mut self, request: ClientRequest) -> Result<CallerAnswer, Fault> {
+    fn request(&mut self, request: ClientRequest) -> Result<Receipt, Fault> {
         post(self.hub, self.client, ClientCommand::Request(request))
     }
 
     /// The check of the one job in this boot found nothing in its one block.
-    fn checked(&mut self, boot: u64) -> Result<CallerAnswer, Fault> {
+    fn checked(&mut self, boot: u64) -> Result<Receipt, Fault> {
         let parts = ReportParts {
             checked: 1,
             faults: 0,
@@ -168,7 +168,7 @@ impl<'a> Stage<'a> {
         post(self.hub, self.server, report)
     }
 
-    fn ask(&mut self, seat: usize, task: ServerTask) -> Result<CallerAnswer, Fault> {
+    fn ask(&mut self, seat: usize, task: ServerTask) -> Result<Receipt, Fault> {
         match self.seats.get_mut(seat) {
             Some(seat) => self.server.apply(seat, task),
             None => Err(Fault::WrongSeat),
@@ -217,7 +217,7 @@ fn turns_of<C: Node>(node: &C, seat: u32) -> u64 {
     turns
 }
 
-fn said(told: Result<CallerAnswer, Fault>) -> Said {
+fn said(told: Result<Receipt, Fault>) -> Said {
     match told {
         Ok(told) => Ok((told.answer, told.act, told.first, told.sent)),
         Err(fault) => Err(fault.number()),

@@ -1,9 +1,8 @@
 //! Live runs: what is printed, and the exit statuses.
 
 use super::text_of_length;
-use commands::FleetSize;
+use commands::{FileTrigger, FleetSize, MAX_INPUT, run_live};
 use fake_io::{Page, Source, failing, page_with, source_of};
-use live::{FileTrigger, MAX_INPUT, run_live};
 use node_threads::Trigger;
 use std::alloc::{AllocError, Global};
 use std::sync::Wait;

@@ -1,5 +1,5 @@
 use Rattle.std.proofs.Common.{sym, subst, Bool, ◌∷◌, Ok, Err}
-use Rattle.disk_model.specs.declared.left.Left.TheVariants.{Saved}
+use Rattle.disk_model.specs.declared.save_outcome.SaveOutcome.TheVariants.{Saved}
 use Rattle.server_core.specs.Hearing.{Restart}
 use Rattle.net_world.specs.ServerNodes.{CutsInRestart}
 use Rattle.net_world.proofs.CutLemmas.{restart_new, restart_fails}

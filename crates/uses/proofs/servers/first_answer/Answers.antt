@@ -1,6 +1,6 @@
 use Rattle.std.proofs.Common.{◌≡◌, List, [], ◌∷◌, refl, inr, ap, ◌∙◌, arith}
 use Rattle.disk_model.specs.MemNotes.{Saved}
-use Rattle.disk_model.specs.declared.left.Left.TheVariants as lefts
+use Rattle.disk_model.specs.declared.save_outcome.SaveOutcome.TheVariants as lefts
 use Rattle.server_core.specs.declared.input.Input.TheVariants.{Deliver}
 use Rattle.server_core.specs.FrameAnswers.{answered_entry}
 use Rattle.server_core.specs.Hearing.{FrameEntry, Restart}

@@ -2,7 +2,7 @@ use Rattle.std.proofs.Common.{refl, sym, ap, subst, ℕ, List, None}
 use Rattle.std.proofs.lemmas.Result.{err_from_is_err_and}
 use Rattle.std.specs.Prelude.{All, Result}
 use Rattle.fc_base.specs.declared.fault.Fault.{Fault}
-use Rattle.hub.specs.Network.{IsSpelled}
+use Rattle.messages.specs.Network.{IsSpelled}
 use Rattle.client_core.specs.Inputs as inputs
 use Rattle.cells.specs.declared.input.NodeInput.TheVariants as came
 use Rattle.cells.specs.declared.answer.Reply.{Reply}

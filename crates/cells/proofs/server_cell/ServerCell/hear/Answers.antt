@@ -2,7 +2,7 @@ use Rattle.std.proofs.Common.{sym, ap, subst, ℕ, List}
 use Rattle.std.specs.Prelude.{All, IfErr, Result}
 use Rattle.std.proofs.lemmas.Result.{err_from_is_err_and}
 use Rattle.fc_base.specs.declared.fault.Fault.{Fault}
-use Rattle.hub.specs.Network.{IsSpelled}
+use Rattle.messages.specs.Network.{IsSpelled}
 use Rattle.messages.specs.declared.node.Node.TheVariants.{Server as ServerNode}
 use Rattle.cells.specs.declared.answer.Reply.{Reply}
 use Rattle.cells.specs.Calls.{HasWhy}

@@ -1,6 +1,6 @@
 use Rattle.std.proofs.Common.{subst}
 use Rattle.client_core.specs.Requests.{verify_at, verify_heard}
-use Rattle.client_core.specs.Standing.{IsRequestKept}
+use Rattle.client_core.specs.RequestStatus.{IsRequestKept}
 use Rattle.client_core.proofs.PlaceLemmas.{each_set, when_true, when_false, same_number}
 use Rattle.client_core.proofs.attempt_asked.AttemptAsked.hear.Goals as goal
 

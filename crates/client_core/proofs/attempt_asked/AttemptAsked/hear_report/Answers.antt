@@ -1,6 +1,6 @@
 use Rattle.std.proofs.Common.{◌≡◌, ◌∙◌, ap, sym, true, ◌==◌}
 use Rattle.client_core.specs.Requests.{verify_at}
-use Rattle.client_core.specs.Standing.{IsRequestKept}
+use Rattle.client_core.specs.RequestStatus.{IsRequestKept}
 use Rattle.client_core.proofs.PlaceLemmas.{each_set, when_true, when_false, same_number, both_true}
 use Rattle.client_core.proofs.attempt_asked.AttemptAsked.hear_report.Goals as goal
 

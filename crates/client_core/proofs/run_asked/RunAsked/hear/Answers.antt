@@ -1,7 +1,7 @@
 use Rattle.std.proofs.Common.{◌≡◌, ◌∙◌, ap}
 use Rattle.client_core.specs.Begins.{begin_at, begin_heard}
 use Rattle.client_core.specs.Requests.{trigger_at, stop_at}
-use Rattle.client_core.specs.Standing.{IsRequestKept}
+use Rattle.client_core.specs.RequestStatus.{IsRequestKept}
 use Rattle.client_core.proofs.PlaceLemmas.{each_set, when_true, when_false, same_number}
 use Rattle.client_core.proofs.run_asked.RunAsked.hear.Goals as goal
 

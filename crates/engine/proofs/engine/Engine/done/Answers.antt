@@ -1,8 +1,8 @@
 use Rattle.std.proofs.Common.{◌≡◌, ap, sym, ◌∙◌, arith, ◌∷◌}
 use Rattle.std.proofs.Math.Logic.{∥∥₁_map}
-use Rattle.window.specs.History.{done}
-use Rattle.window.specs.Numbers.{without}
-use Rattle.window.specs.Kept.{Kept}
+use Rattle.engine.specs.History.{done}
+use Rattle.engine.specs.Numbers.{without}
+use Rattle.engine.specs.Kept.{Kept}
 use Rattle.engine.specs.Inside.{running_in}
 use Rattle.engine.proofs.WriteLemmas.{closed, without_is_shorter}
 use Rattle.engine.proofs.RunningLemmas.{done_step}

@@ -1,8 +1,8 @@
 use Rattle.std.proofs.Common.{◌≡◌, ap, sym, ◌∙◌, arith, ◌∷◌}
 use Rattle.std.proofs.Math.Logic.{∥∥₁_map}
-use Rattle.window.specs.History.{fail}
-use Rattle.window.specs.Numbers.{without}
-use Rattle.window.specs.Kept.{Kept}
+use Rattle.engine.specs.History.{fail}
+use Rattle.engine.specs.Numbers.{without}
+use Rattle.engine.specs.Kept.{Kept}
 use Rattle.fc_base.specs.Counted.{has}
 use Rattle.engine.specs.Running.{Running}
 use Rattle.engine.specs.Answers.{ticket_answer}

@@ -5,9 +5,9 @@ use Rattle.std.proofs.lemmas.List.{map-append, length_push}
 use Rattle.fc_base.specs.declared.record.JobParts.{JobParts}
 use Rattle.write_order.specs.Blocks.{block_of}
 use Rattle.write_order.specs.Progress.{Progress}
-use Rattle.window.specs.History.{issue}
-use Rattle.window.specs.Kept as window
-use Rattle.window.specs.Kept.{Kept}
+use Rattle.engine.specs.History.{issue}
+use Rattle.engine.specs.Kept as window
+use Rattle.engine.specs.Kept.{Kept}
 use Rattle.engine.specs.declared.issue.Ticket.{Ticket}
 use Rattle.engine.specs.Answers.{answer_of}
 use Rattle.engine.specs.Inside.{running_in}

@@ -1,6 +1,6 @@
 use Rattle.std.proofs.Common.{◌∷◌, [], ◌++◌, Ok, refl, ap, sym, ◌∙◌}
-use Rattle.filters.specs.declared.kinds.Told.TheVariants as told
-use Rattle.filters.specs.declared.kinds.Said.TheVariants.{Outcome}
+use Rattle.filters.specs.declared.kinds.InRecordKind.TheVariants as told
+use Rattle.filters.specs.declared.kinds.OutRecordKind.TheVariants.{Outcome}
 use Rattle.filters.specs.ClientRuns.{FilterIsAt}
 use Rattle.filters.specs.Kinds.{said_number}
 use Rattle.filters.specs.Records.{record_bytes, end_bytes}

@@ -1,7 +1,7 @@
 use Rattle.std.proofs.Common.{◌++◌, Ok, refl, ap, sym, ◌∙◌}
 use Rattle.std.specs.Prelude.{slice_get}
 use Rattle.std.specs.Option.{option_copied}
-use Rattle.filters.specs.declared.kinds.Told.TheVariants as told
+use Rattle.filters.specs.declared.kinds.InRecordKind.TheVariants as told
 use Rattle.filters.specs.ClientRuns.{FilterIsAt}
 use Rattle.filters.specs.Records.{end_bytes}
 use Rattle.filters.specs.ClientLives.{report_if, show_bytes, shown_or_bad}

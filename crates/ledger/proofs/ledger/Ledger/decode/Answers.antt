@@ -17,9 +17,9 @@ pub returns-then-ne-clause-read : goal.returns-then-ne-clause-read
 returns-then-ne-clause-read c place ranged possible is =
     let words = c.in_ok-words.ensures (numbers_of place (table_of place.entries)) (numbers_fit place ranged) (c.in_ok-body.ensures.read (body_of place) is) in
     let read = c.in_ok-ledger.ensures place ranged (c.deref.ensures.value ∙ words) in
-    let same : c.as_slice.result.now ≡ c.args.bytes.now =
-    c.as_slice.ensures.value ∙ c.in_ok-again.ensures.spelling ∙ ap spelling read ∙ sym is in
-    let equal : bytes_eq c.as_slice.result.now c.args.bytes.now ≡ true = (bytes_eq-Decides c.as_slice.result.now c.args.bytes.now).1 same in
+    let same : c.as_slice.result.now ≡ c.in_ok-body.body.now =
+    c.as_slice.ensures.value ∙ c.in_ok-again.ensures.body ∙ ap body_of read ∙ sym (c.in_ok-body.ensures.read (body_of place) is) in
+    let equal : bytes_eq c.as_slice.result.now c.in_ok-body.body.now ≡ true = (bytes_eq-Decides c.as_slice.result.now c.in_ok-body.body.now).1 same in
     let bad : true ≡ false = c.if-ne.ensures ∙ ap not equal in
     absurd cc
 

@@ -3,12 +3,12 @@ use Rattle.std.specs.Prelude.{is_some}
 use Rattle.std.proofs.lemmas.Result.{err_from_is_err_and}
 use Rattle.fc_base.specs.declared.numbers.Key.{Key}
 use Rattle.messages.specs.declared.body.Body.TheVariants.{CopyOk}
-use Rattle.state_table.specs.Kept.{kept_of}
+use Rattle.verify_state.specs.StateTable.{kept_of}
 use Rattle.mirror_core.specs.declared.request.Request.TheVariants.{Copy}
 use Rattle.mirror_core.specs.Saves.{Keep}
 use Rattle.mirror_core.specs.Packets.{to_client, frame_bytes}
 use Rattle.mirror_core.proofs.EndLemmas.{answers_plain, answers_stored, fails_stored}
-use Rattle.state_table.proofs.RefusalLemmas.{has_room}
+use Rattle.verify_state.proofs.RefusalLemmas.{has_room}
 use Rattle.mirror_core.proofs.NotedLemmas.{kept_already, kept_fits, kept_newly}
 use Rattle.mirror_core.proofs.mirror.Mirror.copy.Goals as goal
 

@@ -3,7 +3,7 @@ use Rattle.std.specs.Prelude.{codes}
 use Rattle.std.specs.Int.{w32, w64}
 use Rattle.std.proofs.lemmas.Slice.Eq.{bytes_eq-Decides}
 use Rattle.fc_base.specs.Layouts.{number_in}
-use Rattle.state_table.specs.Reading.{ReadsStates}
+use Rattle.verify_state.specs.TableReading.{ReadsStates}
 use Rattle.mirror_core.proofs.NoteLemmas.{some_bytes, no_magic, too_short, too_great, too_many, no_states, read_says}
 use Rattle.mirror_core.proofs.note.MirrorNote.decode.Goals as goal
 

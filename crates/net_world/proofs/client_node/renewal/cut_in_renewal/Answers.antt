@@ -1,8 +1,8 @@
 use Rattle.std.proofs.Common.{refl, sym, subst, Bool, ◌∷◌}
-use Rattle.disk_model.specs.declared.left.Left.TheVariants.{Saved, LostOld}
+use Rattle.disk_model.specs.declared.save_outcome.SaveOutcome.TheVariants.{Saved, LostOld}
 use Rattle.client_core.specs.Hearing.{Renew, Cut}
 use Rattle.net_world.specs.ClientNodes.{Stands}
-use Rattle.net_world.specs.Outcomes.{lost_by}
+use Rattle.node.specs.Kinds.{lost_by}
 use Rattle.net_world.proofs.ClientPowerLemmas.{is_off, none_said}
 use Rattle.net_world.proofs.RenewalLemmas.{found, fails, cut_new}
 use Rattle.net_world.proofs.client_node.renewal.cut_in_renewal.Goals as goal

@@ -1,6 +1,6 @@
 use Rattle.std.proofs.Common.{refl, sym, ◌∙◌, ap, ◌++◌, List, ℕ, length, subst, Ok}
 use Rattle.std.proofs.lemmas.Result.{err_from_is_err_and}
-use Rattle.net_world.specs.Asks.{input_of}
+use Rattle.client_core.specs.Answers.{input_of}
 use Rattle.net_world.specs.ClientNodes.{Asks}
 use Rattle.net_world.proofs.MetLemmas.{none_added}
 use Rattle.net_world.proofs.AskLemmas.{answered, unanswered}

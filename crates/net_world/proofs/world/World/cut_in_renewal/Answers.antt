@@ -1,7 +1,7 @@
 use Rattle.std.proofs.Common.{refl, sym, ◌∙◌, ap, length, List, ℕ}
 use Rattle.std.proofs.lemmas.Result.{err_from_is_err_and}
 use Rattle.net_world.specs.Happenings.{Renew, CutIn}
-use Rattle.net_world.specs.Outcomes.{lost_by}
+use Rattle.node.specs.Kinds.{lost_by}
 use Rattle.net_world.specs.Trace.{client_opening}
 use Rattle.net_world.specs.Asking.{entries}
 use Rattle.net_world.proofs.AskLemmas.{nothing_sent}

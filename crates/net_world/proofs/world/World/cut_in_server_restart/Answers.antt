@@ -5,7 +5,7 @@ use Rattle.messages.specs.declared.node.Node.TheVariants as nodes
 use Rattle.server_core.specs.Hearing as hearing
 use Rattle.net_world.specs.Trace.{opening_of}
 use Rattle.net_world.specs.Happenings.{Restart, CutIn}
-use Rattle.net_world.specs.Outcomes.{lost_by}
+use Rattle.node.specs.Kinds.{lost_by}
 use Rattle.net_world.specs.Serving.{entries}
 use Rattle.net_world.proofs.MetLemmas.{in_place, none_added}
 use Rattle.net_world.proofs.ServeLemmas.{node_at, settled}

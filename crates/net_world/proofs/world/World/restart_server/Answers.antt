@@ -5,7 +5,7 @@ use Rattle.net_world.specs.Trace.{opening_of}
 use Rattle.net_world.specs.Happenings.{Restart}
 use Rattle.net_world.specs.Serving.{entries}
 use Rattle.server_core.specs.Hearing as hearing
-use Rattle.disk_model.specs.declared.left.Left.TheVariants.{Saved}
+use Rattle.disk_model.specs.declared.save_outcome.SaveOutcome.TheVariants.{Saved}
 use Rattle.messages.specs.declared.node.Node.TheVariants as nodes
 use Rattle.net_world.proofs.MetLemmas.{in_place, none_added}
 use Rattle.net_world.proofs.ServeLemmas.{node_at, settled}

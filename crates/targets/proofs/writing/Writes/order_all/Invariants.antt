@@ -1,5 +1,5 @@
 use Rattle.std.proofs.Common.{◌≡◌, ◌≤◌, ◌-◌, List}
-use Rattle.window.specs.History.{Event}
+use Rattle.engine.specs.History.{Event}
 use Rattle.engine.specs.Running.{StandsFor}
 use Rattle.targets.specs.Writing.{steps_left, OrdersSome}
 use Rattle.targets.proofs.writing.Writes.order_all.Given as goal
@@ -8,7 +8,7 @@ use Rattle.targets.proofs.writing.Writes.order_all.Given as goal
 abbrev pub invariant-loop-ticket : goal.invariant-loop-ticket
 invariant-loop-ticket g l = record {
   orders : (h : List Event) → StandsFor l.initial.self.engine h
-      → OrdersSome l.initial.self.engine.origin h l.self.engine (g.W.Write.contents l.initial.writer) (g.W.Write.contents l.writer);
+      → OrdersSome l.head l.initial.self.engine.origin h l.self.engine (g.W.Write.contents l.initial.writer) (g.W.Write.contents l.writer);
   left : steps_left l.self.engine ≤ steps_left l.initial.self.engine;
   origin : l.self.engine.origin ≡ l.initial.self.engine.origin;
 }

@@ -1,4 +1,4 @@
-use Rattle.std.proofs.Common.{inl}
+use Rattle.std.proofs.Common.{[], inl}
 use Rattle.std.specs.Io.KnownBytes.{Keeps}
 use Rattle.std.proofs.KnownBytes.{Keeps-refl}
 use Rattle.std.proofs.lemmas.Result.{IfOk-weaker}
@@ -15,10 +15,11 @@ returns-in-Ok-clause-step g c h stands =
       | then-buffer-lt-NOTICE+in_ok-flush w ↦ rw (w.writer-is) w.in_ok-flush.ensures.bytes
       | else-buffer-lt-NOTICE w ↦ rw (w.writer-is) (Keeps-refl first)
     ] in
-    IfOk-weaker c.follow.result (FollowsBy c.in-Ok.notice h c.args.self.now.engine c.follow.new.self.engine mid (g.W.Write.contents c.follow.new.writer)) _
+    IfOk-weaker c.follow.result (FollowsBy [] c.in-Ok.notice h c.args.self.now.engine c.follow.new.self.engine mid (g.W.Write.contents c.follow.new.writer)) _
     (λ end follows. inl (
       c.in-Ok.notice,
-      c.in-Ok.ensures,
+      c.in-Ok.ensures.0,
+      c.in-Ok.ensures.1,
       flushed c.in-Ok.notice h c.args.self.now.engine c.follow.new.self.engine first mid _ end kept follows,
     ))
     (c.follow.ensures.step h stands)

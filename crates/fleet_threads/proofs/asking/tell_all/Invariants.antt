@@ -1,0 +1,10 @@
+use Rattle.std.specs.Prelude.{◌≡◌, ◌+◌}
+use Rattle.fleet_threads.specs.Seats.{IsSeatOf}
+use Rattle.fleet_threads.proofs.asking.tell_all.Given as goal
+
+abbrev pub invariant-loop-at : goal.invariant-loop-at
+invariant-loop-at g l = record {
+  seat : IsSeatOf l.fn.seat l.seat;
+  told : l.told ≡ l.at;
+  each : l.seat.applied + l.fn.told ≡ l.fn.seat.applied + l.at;
+}

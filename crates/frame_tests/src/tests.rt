@@ -1,4 +1,0 @@
-//! What no clause shows of `messages` and `hub`.
-
-mod network;
-mod packets;

@@ -1,5 +1,0 @@
-use Rattle.hub.proofs.SpelledLemmas.{frames_spelled}
-use Rattle.hub.proofs.law.frames_are_spelled.Goals as goal
-
-pub returns : goal.returns
-returns c = frames_spelled c.frames_are_readable.ensures

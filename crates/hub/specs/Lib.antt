@@ -1,5 +1,0 @@
-pub mod Network
-pub mod Waiting
-pub mod Kept
-pub mod Journal
-pub mod Laws

@@ -1,6 +1,0 @@
-use Rattle.law_examples.proofs.MirrorCutLemmas as lemmas
-use Rattle.law_examples.proofs.cuts.examples_of_cut_mirrors.Goals as goal
-
-pub returns : goal.returns
-returns c =
-    lemmas.mirror_is_cut c.lengths_are_bounded.ensures c.frames_are_read_back.ensures c.notes_are_read_back.ensures c.mirror_cut_law.ensures

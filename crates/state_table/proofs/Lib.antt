@@ -1,5 +1,0 @@
-mod EntryLemmas
-mod ReadingLemmas
-mod TableLemmas
-pub mod CountedLemmas
-pub mod RefusalLemmas

@@ -1,7 +1,0 @@
-use Rattle.std.proofs.Common.{◌≡◌, ◌-◌}
-use Rattle.std.specs.Prelude.{is_some}
-use Rattle.state_table.specs.Reading.{states_at}
-use Rattle.state_table.proofs.bytes.hold_states.Given as goal
-
-abbrev pub invariant-loop : goal.invariant-loop
-invariant-loop l = is_some (states_at l.count l.bytes) ≡ is_some (states_at (l.count - l.counter) l.rest)

@@ -1,9 +1,0 @@
-use Rattle.std.proofs.Common.{◌≡◌, ◌-◌, ◌++◌, length}
-use Rattle.std.specs.Option.{option_map}
-use Rattle.state_table.specs.Reading.{states_at}
-use Rattle.state_table.proofs.bytes.states_in.Given as goal
-
-abbrev pub invariant-loop : goal.invariant-loop
-invariant-loop l =
-    (length l.kept ≡ l.counter)
-    × (states_at l.count l.bytes ≡ option_map (λ states. l.kept ++ states) (states_at (l.count - l.counter) l.rest))

@@ -1,8 +1,0 @@
-use Rattle.state_table.proofs.TableLemmas.{stays_found, key_of_found}
-use Rattle.state_table.proofs.law.found_states.Goals as goal
-
-pub returns-clause-stays : goal.returns-clause-stays
-returns-clause-stays c = stays_found
-
-pub returns-clause-key : goal.returns-clause-key
-returns-clause-key c = key_of_found

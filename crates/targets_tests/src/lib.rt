@@ -1,5 +1,0 @@
-//! The tests of `targets`, in a crate of their own, so that the gate proves the library once.
-#![tactic(auto)]
-
-#[cfg(test)]
-mod tests;

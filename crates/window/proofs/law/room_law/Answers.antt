@@ -1,7 +1,0 @@
-use Rattle.std.proofs.Common.{refl}
-use Rattle.window.specs.Kept.{kept_of}
-use Rattle.window.proofs.StepLemmas.{room_is}
-use Rattle.window.proofs.law.room_law.Goals as goal
-
-pub returns : goal.returns
-returns c depth window h some l = room_is depth window (kept_of depth window h) h some (record { legal = l; kept_is = refl })

@@ -1,4 +1,0 @@
-pub mod Block
-pub mod Counts
-pub mod Seats
-pub mod Turns
