@@ -16,6 +16,7 @@ TEXT
 usage_of_drive() {
     cat <<'TEXT'
 usage: drive write RUN JOB                                 orders the writes of a job, as a harness tells it which are done
+       drive tour JOB                                      the same of many runs at once, one for each tile that is begun
        drive check RUN JOB                                 checks a target by the job's state
        drive map RUN JOB [--server SERVER] [--unit BYTES]  the same, and tells what each faulty block holds
        drive ledger RUN JOB [--server SERVER]              the same by what each block has to hold behind many runs and checks

@@ -14,6 +14,13 @@ WORD = re.compile(r"[A-Za-z_][\w'-]*(?:\.[A-Za-z_][\w'-]*)*")
 DEFINITION = re.compile(r"(abbrev |unfoldable )*(pub )?(record |data )?([^\s:(){}]+)(?= )")
 VARIANT = re.compile(r"  (?:pub )?([^\s:(){}]+) : ")
 BOUND = re.compile(r"(?<![\w'.-])[a-z_][\w'-]*(?![\w'.-])")
+# How a comment begins that goes on from what stands above it, and how many words one has at least.
+GOES_ON, LEAST = re.compile(r"(And|It|Its|Nor|Or|So|The same|They)\b"), 4
+
+
+def stands_alone(comment):
+    """Returns whether a comment may be read by itself: it doesn't go on from another, and is a sentence."""
+    return not GOES_ON.match(comment) and len(comment.split()) >= LEAST
 
 
 class Row:
