@@ -130,7 +130,7 @@ def threads():
     """In memory two threads take turns where there are as many processors, and on one there is but
     one; besides it the one that waits for the state, and the one that looks for a trigger."""
     for options, due in (((), 2 + min(2, len(os.sched_getaffinity(0)))), (("--cpu", "0"), 3)):
-        env = {**os.environ, "LD_PRELOAD": LIAR, "LIE_TARGET": "/killed", "LIE": "stalled:50"} # (no job ends so)
+        env = {**os.environ, "LD_PRELOAD": LIAR, "LIE_TARGET": "/killed", "LIE": "slow:50"} # (so none ends by itself)
         ran = subprocess.Popen([TARGET, "write", "deep.fio", "killed", "ks", "--cached", *options], env=env, **QUIET)
         count = lambda: len(os.listdir(f"/proc/{ran.pid}/task"))
         tell(f"how many threads there are, {options}", (comes(lambda: count() == due), count()), (True, due))
