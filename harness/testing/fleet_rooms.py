@@ -10,7 +10,7 @@ import time
 from fleet_links import hello
 from fleet_mirrors import mirror
 from serving import TOP, Servers, fleet, fleet_in_time, fleet_saying, job_file, reports
-from trying import HERE, LIAR, comes, read, tell, write
+from trying import HANG, HERE, LIAR, comes, read, tell, write
 
 sys.path.insert(0, f"{TOP}/harness/client")
 
@@ -60,9 +60,12 @@ def full_notes():
     servers.cut()
 
 
-# The notes of a fleet of one server with a mirror, and whose each is.
+# The notes of a fleet of one server with a mirror, and whose each is. A client whose note was filled is
+# answered once its mirror, which lacks these states, has kept most of them, each by itself: on a slow disk
+# that takes a while.
 NOTES = {"all.note": CLIENT, "all.kept": MIRROR, "all-0.note": 0}
-WRITE, CHECK = ("write", "all.fio", "--note", "all.note", "--after-writes", "64"), ("check", "all.fio", "--note", "all.note")
+LONG = ("--wait", str(HANG))
+WRITE, CHECK = ("write", "all.fio", "--note", "all.note", "--after-writes", "64", *LONG), ("check", "all.fio", "--note", "all.note", *LONG)
 
 
 def filled_fleet():
@@ -111,7 +114,7 @@ def full_mirrors():
     status, printed, said = fleet_saying("the note of server 0 is of another fleet", "check", "all.fio", "--note", "old.note", *mirror("old.kept"), *servers.links())
     tell("nor to its server", (status, reports(printed), "the note of server 0 is of another fleet" in said), (2, {}, True))
     fill("all.note")
-    status, printed, _ = fleet("cycle", "all.fio", "series", "--note", "all.note", "--every", "600", "--cycles", "2", "--pause", "0", "--off", "true", "--on", "true", *links)
+    status, printed, _ = fleet("cycle", "all.fio", "series", "--note", "all.note", "--every", "600", "--cycles", "2", "--pause", "0", "--off", "true", "--on", "true", *LONG, *links)
     tell("a series over a note that is full again", (status, printed.count("0 faults, status 0")), (0, 2))
     tell("all are put aside once more", [os.path.exists(f"{it}.full-{at}") for it in NOTES for at in (2, 3)], [True, False] * 3)
     servers.cut()
