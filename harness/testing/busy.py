@@ -132,7 +132,7 @@ def busy_servers():
     strange = record(ORDER, name_of(7, 3) + struct.pack(">I", 9) + stamp(7, 0, 4, 9))
     servers = taken("strange", order(7, 0, 0) + strange + state_frame(7, 4, 0, done=[1, 2]))
     await_that(lambda: (9, 4) in rows("strange.made"), "the order with another write's bytes")
-    await_more("strange", 10)
+    await_more("strange", 500) # (by all threads that there may be)
     tell("an order with another write's bytes isn't written again", rows("strange.made").count((9, 4)), 1)
     servers.cut()
     servers = taken("other", order(7, 0, 0) + state_frame(6, 1, 0) + order(7, 1, 1))

@@ -7,6 +7,7 @@ import subprocess
 import sys
 import time
 
+from failing import ended
 from serving import FEW, FLEET, MORE, Servers, fleet, fleet_in_time, fleet_saying, job_file
 from trying import HANG, HERE, LIAR, await_text, await_that, comes, read, run, tell, write
 
@@ -112,7 +113,7 @@ def stopped_fleets():
         if signals == 2:
             await_text("said", "triggered")
             writing.send_signal(signal.SIGINT)
-        tell(f"{signals} signals", (writing.wait(HANG), b"is stopped" in read("said")), (due, signals == 2))
+        tell(f"{signals} signals", (ended(writing, HANG), b"is stopped" in read("said")), (due, signals == 2))
         servers.signal(signal.SIGCONT)
         fleet("stop", "--note", "stop.note", *servers.links())
     servers.cut()
