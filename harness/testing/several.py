@@ -39,7 +39,7 @@ def one_cut_for_all():
     events()
     words = ("cycle", "endless.fio", "pair", *way(1, "p1"), *way(2, "p2", "sleep 0.4; "), *POWER, "--every", "0.2..0.3")
     status, printed, _ = witness(*words, "--cycles", "3")
-    tell("two drives", (status, printed.splitlines()[-1]), (0, "sound: drive 1, 2"))
+    tell("two drives", (status, printed.splitlines()[-1:]), (0, ["sound: drive 1, 2"]))
     cycle = ["off", *["ended"] * 2, "on", *["begins", "ended"] * 2]
     seen = [it.split()[0] for it in events()]
     turns = " ".join(seen).split("off")
