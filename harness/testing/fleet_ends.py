@@ -43,8 +43,8 @@ def unkept_states():
 
 
 def left_by_one(servers, wait, *words):
-    """A run of which a server is killed behind its begin: its status, and what it printed; nothing where the
-    servers hadn't begun it in so many seconds. Behind that both are there again."""
+    """A run of which a server is killed behind its begin: its status, and what it printed; nothing
+    where the servers hadn't begun it in so many seconds. Behind that both are there again."""
     with open("said", "wb") as said:
         writing = subprocess.Popen([FLEET, *words, "--wait", str(wait), "--trigger-file", "pulled", *servers.links()], stdin=subprocess.DEVNULL, stdout=subprocess.PIPE, stderr=said, text=True)
     await_that(lambda: b" is begun: " in read("said") or writing.poll() is not None, "the begin of a run")

@@ -36,8 +36,8 @@ class Listening:
         return [it for command in commands for it in ("--server", command)]
 
     def break_some(self, chance):
-        """Kills connections as they are, again and again, and ever less often: on a slow machine they are to
-        come to something, too."""
+        """Kills connections as they are, again and again, and ever less often: on a slow machine
+        they are to come to something, too."""
         pause = 0.5
         while not self.is_closed.wait(chance.uniform(pause / 5, pause)):
             pause *= 1.02

@@ -60,9 +60,9 @@ def full_notes():
     servers.cut()
 
 
-# The notes of a fleet of one server with a mirror, and whose each is. A client whose note was filled is
-# answered once its mirror, which lacks these states, has kept most of them, each by itself: on a slow disk
-# that takes a while.
+# The notes of a fleet of one server with a mirror, and whose each is. A client whose note was
+# filled is answered once its mirror, which lacks these states, has kept most of them, each by
+# itself: on a slow disk that takes a while.
 NOTES = {"all.note": CLIENT, "all.kept": MIRROR, "all-0.note": 0}
 LONG = ("--wait", str(HANG))
 WRITE, CHECK = ("write", "all.fio", "--note", "all.note", "--after-writes", "64", *LONG), ("check", "all.fio", "--note", "all.note", *LONG)

@@ -111,13 +111,15 @@ def shut_out():
     place."""
     write("shut-0-0", bytes(4 << 20))
     servers = Servers("shut", 1, jobs=1)
-    # (on a slow machine any turn may take a while; one that is kept out is so for five seconds in each)
+    # (on a slow machine any turn may take a while; one that is kept out is so for five seconds in
+    # each)
     tell("the next link is welcome at once", any(beside_a_slow_one() < 3 for _ in range(5)), True)
     servers.cut()
 
 
 def beside_a_slow_one():
-    """How many seconds a link takes to be welcome while another one is served that takes nearly nothing."""
+    """How many seconds a link takes to be welcome while another one is served that takes nearly
+    nothing."""
     slow, ended = door("shut-0.note.socket"), threading.Event()
 
     def read_slowly():

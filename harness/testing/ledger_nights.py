@@ -131,7 +131,8 @@ def nights_of_honest_drives():
         for it in folders:
             rows = rows_of(f"{folder}/{it}")
             tell(f"{what}: no fault", [(row["faults"], row["at_rest"]) for row in rows], [(0, 0)] * 3)
-            # (what was in flight, and wasn't told, may have come all the same; and where a second pass began, some of the first may be in flight)
+            # (what was in flight, and wasn't told, may have come all the same; and where a second
+            # pass began, some of the first may be in flight)
             least, most = ([max(of(it) for it in rows[: at + 1]) for at in range(3)] for of in (lambda it: min(it["told"], 4096 - it["in_flight"]), lambda it: min(it["told"] + it["in_flight"], 4096)))
             tell(f"{what}: what was at rest is checked, too", [low <= row["checked"] <= high for low, row, high in zip(least, rows, most)], [True] * 3)
             tell(f"{what}: its ledger", taken(f"{folder}/{it}/ledger"), (int(rows[2]["run"]), True))

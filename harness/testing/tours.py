@@ -27,7 +27,8 @@ def cut_behind(tour, ends, then=""):
 
 
 def all_ended(tour, ends):
-    """A command that waits until so many runs of tiles have come to an end since their tour began."""
+    """A command that waits until so many runs of tiles have come to an end since their tour
+    began."""
     return f"until [ $(wc -c <{tour}/tiles) -ge $((8 + {ends} * 208)) ]; do sleep 0.02; done"
 
 

@@ -39,13 +39,14 @@ def kill_agent():
 
 
 def until_told(agent="agent", calls=60):
-    """A command that waits until an agent has made so many calls that write, to its link or, by threads, to
-    the target: as soon as it has some writes were told, on a slow machine, too."""
+    """A command that waits until an agent has made so many calls that write, to its link or, by
+    threads, to the target: as soon as it has some writes were told, on a slow machine, too."""
     made = f"/proc/$(cat {agent})/io" # (not every kernel has it)
     return f"i=0; until [ ! -e {made} ] || [ $(sed -n 's/^syscw: //p' {made}) -ge {calls} ] || [ $((i += 1)) -gt {5 * HANG} ]; do sleep 0.02; done"
 
 
-# A command that cuts once some writes were told; and how many calls write all of two.fio by threads.
+# A command that cuts once some writes were told; and how many calls write all of two.fio by
+# threads.
 KILL, ALL_OF_TWO = "kill -KILL $(cat agent)", 2 * 128 + 1
 KILL_TOLD = f"{until_told()}; {KILL}"
 
