@@ -195,13 +195,13 @@ def stopped_answers():
         ("another block that can't be read", f"{answers} other"),
     ):
         command = (once + way).format(shlex.quote(AGENT))
-        status, printed, said = witness("check", "two.fio", "as", "--link", command, "--wait", "30", "--quiet", "5000")
+        status, printed, said = witness("check", "two.fio", "as", "--link", command, "--wait", str(HANG), "--quiet", "5000")
         tell(what, (status, printed, "the check begins anew" in said), (0, report([]), True))
         os.remove("once")
     tell("a longer run", witness("write", "long.fio", "ls", *link("lt"))[0], 0)
     killed = f"(sh -c 'echo $PPID' >victim; exec {{0}} lt) | ({PASS_ON} 3000000; kill -KILL $(cat victim))"
     command = (once.replace(" at", " lt") + killed).format(shlex.quote(AGENT))
-    status, printed, said = witness("check", "long.fio", "ls", "--link", command, "--wait", "30", "--quiet", "5000")
+    status, printed, said = witness("check", "long.fio", "ls", "--link", command, "--wait", str(HANG), "--quiet", "5000")
     tell("an agent that is killed within an answer", (status, printed, "the check begins anew" in said), (0, report([], 4096), True))
 
 

@@ -10,8 +10,8 @@ import time
 from atomic import lying
 from fleet_links import FLEET_NUMBER, door, hello
 from fleet_servers import BLOCKS, DONE, ORDER, name_of, order, record, told, want
-from serving import Servers, fleet, job_file, reports
-from trying import BLOCK, HERE, LIAR, as_often, await_that, job, read, run, stamp, state_in, tell, tell_has, write
+from serving import Servers, fleet, fleet_until_done, job_file, reports
+from trying import BLOCK, HANG, HERE, LIAR, as_often, await_that, comes, job, read, run, stamp, state_in, tell, tell_has, write
 from witness import counted
 
 SEND, STATE = 66, 6
@@ -39,7 +39,7 @@ def busy_targets():
             if os.path.exists(it):
                 os.remove(it)
         more = "until [ $(wc -l <bt.log) -gt $(($(wc -l <before) + 40)) ]; do sleep 0.02; done"
-        cut = f"cp bt.log before; timeout 10 sh -c '{more}'; cp bt.log behind"
+        cut = f"cp bt.log before; timeout {HANG // 2} sh -c '{more}'; cp bt.log behind"
         status, _, said = run("write", "busy.fio", "bt", "bs", "--after", "200", "--torn", *way.split(), "--cut", cut, env=env)
         due, done = in_flight(state_in("bs")), counted(state_in("bs"))[1]
         before, all_ = rows("before"), rows("bt.log")
@@ -126,12 +126,13 @@ def busy_servers():
     servers = taken("gone", orders + state_frame(7, 300, 0, done=range(1, 255)))
     await_that(lambda: "in flight" in read(servers.said(0)).decode(), "what is in flight")
     await_more("gone", 20)
-    tell("what isn't there any more is left out, and what is done isn't written", [it for it in set(rows("gone.made")) if rows("gone.made").count(it) > 1 and it[1] < 255], [])
+    # (the place of write 0 may be taken by a later one, or be as it was)
+    tell("of what isn't there any more, and what is done, nothing is written", [it for it in set(rows("gone.made")) if rows("gone.made").count(it) > 1 and 0 < it[1] < 255], [])
     servers.cut()
     strange = record(ORDER, name_of(7, 3) + struct.pack(">I", 9) + stamp(7, 0, 4, 9))
     servers = taken("strange", order(7, 0, 0) + strange + state_frame(7, 4, 0, done=[1, 2]))
     await_that(lambda: (9, 4) in rows("strange.made"), "the order with another write's bytes")
-    await_more("strange", 10)
+    await_more("strange", 500) # (by all threads that there may be)
     tell("an order with another write's bytes isn't written again", rows("strange.made").count((9, 4)), 1)
     servers.cut()
     servers = taken("other", order(7, 0, 0) + state_frame(6, 1, 0) + order(7, 1, 1))
@@ -202,7 +203,7 @@ def busy_fleets():
     servers = Servers("bf", 2)
     for turn in range(2 * as_often["killed"]):
         for how in ("cut", "not cut", "no check"):
-            status, printed, _ = fleet("write", "bf.fio", "--note", "bf.note", "--after", "0.4", *servers.links())
+            status, printed, _ = fleet_until_done(servers, "bf.fio", "--note", "bf.note", *servers.links())
             tell(f"turn {turn}, {how}: a run", (status, "the states are kept" in printed), (0, True))
             if how == "cut":
                 servers.cut()
@@ -210,9 +211,10 @@ def busy_fleets():
             if how != "no check":
                 status, printed, _ = fleet("check", "bf.fio", "--note", "bf.note", *servers.links())
                 tell(f"turn {turn}, {how}: its check", (status, [it[1] for it in reports(printed).values()]), (0, [0] * 4))
-    said = read(servers.said(0)).decode()
     runs = 6 * as_often["killed"]
-    tell("that they are busy is said of each job of each run", len(re.findall(f"job [01]: (of \\d+ writes in flight [1-9]\\d* {AGAIN}|{IDLE})", said)), 2 * runs)
+    busy = lambda: len(re.findall(f"job [01]: (of \\d+ writes in flight [1-9]\\d* {AGAIN}|{IDLE})", read(servers.said(0)).decode()))
+    tell("that they are busy is said of each job of each run", (comes(lambda: busy() >= 2 * runs), busy()), (True, 2 * runs))
+    said = read(servers.said(0)).decode()
     for line, due in ((r"fleet-server: run \d+ is begun", runs), (r"the state of run \d+ job [01] is taken: \d+ ordered, \d+ done, \d+ in flight", 2 * runs), (r"a check of run \d+ is begun", runs * 2 // 3), (r"the check of run \d+ job [01] has ended: \d+ checked, 0 faults", runs * 4 // 3)):
         tell(f"a server says `{line}`", len(re.findall(line, said)), due)
     servers.cut()

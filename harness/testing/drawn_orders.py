@@ -12,7 +12,7 @@ from ledger_nights import LONG, SHORT, TRUSTED, Model, cycle_of
 from ledgers import taken
 from nights import rows_of
 from trying import BLOCK, LIAR, QUIET, WITNESS, await_that, job, read, report, run, run_of, state_in, tell, write
-from witness import cycles_in, link, witness
+from witness import cycles_in, link, until_told, witness
 
 FRONT = b"# drawn by drive-witness cycle, for this run\n[global]\nrandseed="
 SAID = "says randseed itself: all runs have that order"
@@ -206,7 +206,7 @@ def long_files(random):
 def drawn_on_several():
     """An agent with a `drive` of its own has the order of the run, and each of several drives its own series
     of orders: no fault is told."""
-    two = ("--link", link("d1")[1].replace("agent;", "agent1;"), "--link", link("d2")[1].replace("agent;", "agent2;"), "--off", "kill -KILL $(cat agent1) $(cat agent2)", "--on", "true", "--trust-off")
+    two = ("--link", link("d1")[1].replace("agent;", "agent1;"), "--link", link("d2")[1].replace("agent;", "agent2;"), "--off", f"{until_told('agent1')}; {until_told('agent2')}; kill -KILL $(cat agent1) $(cat agent2)", "--on", "true", "--trust-off")
     for name, words, folders in (("local", (*link("dl"), *TRUSTED, "--local"), ["."]), ("two", two, ["1", "2"]), ("two-local", (*two, "--local"), ["1", "2"])):
         for turn, every in enumerate((LONG, SHORT, SHORT)):
             more = ("--resume",) if turn else ()

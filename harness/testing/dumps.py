@@ -4,7 +4,7 @@ import re
 
 from nights import written
 from trying import BLOCK, read, run, run_of, stamp, tell
-from witness import link, witness
+from witness import ALL_OF_TWO, KILL, link, until_told, witness
 
 
 def wanted_of(lines, block):
@@ -28,8 +28,8 @@ def tell_kept(what, place, lines, run_number, data, blocks):
 def kept_blocks():
     """The bytes of the first faulty blocks are kept, with those of the writes that they may hold: of a cycle
     before the next one writes over them, and of a check where that is asked for."""
-    harm = "kill -KILL $(cat agent); for b in 3 7 9; do printf abc | dd of=kb bs=1 seek=$((b * 4096 + 8)) conv=notrunc 2>/dev/null; done; cp kb as-it-was"
-    status, _, _ = witness("cycle", "two.fio", "blocks", *link("kb"), "--off", harm, "--on", "true", "--every", "1.5..1.5", "--cycles", "1", "--trust-off")
+    harm = f"{until_told(calls=ALL_OF_TWO)}; {KILL}; for b in 3 7 9; do printf abc | dd of=kb bs=1 seek=$((b * 4096 + 8)) conv=notrunc 2>/dev/null; done; cp kb as-it-was"
+    status, _, _ = witness("cycle", "two.fio", "blocks", *link("kb", "--by", "threads"), "--off", harm, "--on", "true", "--every", "0.1..0.1", "--cycles", "1", "--trust-off")
     state = "blocks/cycle-000001.state"
     tell("a cycle with faults", status, 1)
     tell_kept("a cycle", state.removesuffix(".state"), read("blocks/cycle-000001.report").decode(), run_of(state), read("as-it-was"), (3, 7, 9))

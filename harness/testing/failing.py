@@ -6,7 +6,7 @@ import signal
 import subprocess
 import time
 
-from trying import HANG, LIAR, QUIET, TARGET, await_file, await_that, job, read, run, tell, tell_has, whole_run, write
+from trying import HANG, LIAR, QUIET, TARGET, await_file, await_text, await_that, comes, job, read, run, tell, tell_has, whole_run, write
 
 
 # Has the liar's own io_uring in the place of none.
@@ -58,9 +58,7 @@ def held_back():
             os.remove("log")
         ran = subprocess.Popen([TARGET, "write", "fail.fio", "failing", "fs", "--queue", str(queue)], env=env, **QUIET)
         await_file("log")
-        until = time.time() + 20
-        while len(read("log").splitlines()) < due and time.time() < until:
-            time.sleep(0.002)
+        comes(lambda: len(read("log").splitlines()) >= due)
         time.sleep(0.2)
         tell(f"writes at the target with --queue {queue}", len(read("log").splitlines()), due)
         ran.terminate()
@@ -69,12 +67,13 @@ def held_back():
 
 def stalled(options, ring):
     """A write that never comes back keeps neither the state nor the cut."""
-    env = {**os.environ, **ring, "LD_PRELOAD": LIAR, "LIE_TARGET": "/failing", "LIE": "stalled:50"}
+    env = {**os.environ, **ring, "LD_PRELOAD": LIAR, "LIE_TARGET": "/failing", "LIE": "stalled:50", "LIE_LOG": os.path.abspath("stalled.log")}
     for what, words in (("SIGTERM", []), ("a cut", ["--after", "45", "--cut", "touch cut-at-once"])):
+        write("stalled.log", "")
         ran = subprocess.Popen([TARGET, "write", "fail.fio", "failing", "fs", *options, *words], env=env, **QUIET)
         what = " ".join((what, *options, *ring))
         if not words:
-            time.sleep(1)
+            await_text("stalled.log", "stalled")
             ran.terminate()
         tell(f"a write that never comes back, and {what}: the status", ended(ran, HANG), 0)
         _, printed, _ = run("check", "fail.fio", "failing", "fs")
@@ -131,11 +130,10 @@ def threads():
     """In memory two threads take turns where there are as many processors, and on one there is but
     one; besides it the one that waits for the state, and the one that looks for a trigger."""
     for options, due in (((), 2 + min(2, len(os.sched_getaffinity(0)))), (("--cpu", "0"), 3)):
-        ran = subprocess.Popen([TARGET, "write", "deep.fio", "killed", "ks", "--cached", *options], **QUIET)
-        until = time.time() + 10
-        while len(os.listdir(f"/proc/{ran.pid}/task")) != due and time.time() < until:
-            time.sleep(0.002)
-        tell(f"how many threads there are, {options}", len(os.listdir(f"/proc/{ran.pid}/task")), due)
+        env = {**os.environ, "LD_PRELOAD": LIAR, "LIE_TARGET": "/killed", "LIE": "slow:50"} # (so none ends by itself)
+        ran = subprocess.Popen([TARGET, "write", "deep.fio", "killed", "ks", "--cached", *options], env=env, **QUIET)
+        count = lambda: len(os.listdir(f"/proc/{ran.pid}/task"))
+        tell(f"how many threads there are, {options}", (comes(lambda: count() == due), count()), (True, due))
         ran.terminate()
         tell(f"SIGTERM, {options}: the status", ended(ran, HANG), 0)
         _, printed, _ = run("check", "deep.fio", "killed", "ks")

@@ -11,13 +11,14 @@ from types import SimpleNamespace
 
 from fleet_links import bare
 from fleet_mirrors import number_in
-from serving import FLEET, TOP, Servers, fleet, job_file, reports
+from serving import FLEET, TOP, Servers, fleet, fleet_saying, job_file, reports
 from trying import HERE, comes, read, tell, tell_has, write
 
 sys.path.insert(0, f"{TOP}/harness/client")
 
 import links
 import note
+import stopping
 import stories
 from fleet import Fleet
 from mirror import Copies
@@ -44,8 +45,8 @@ def copies_not_kept():
     job_file("copies.fio", jobs=1, blocks=64, writes=64)
     servers = Servers("copies", 1, jobs=1)
     command = f"exec env DROPS={COPY_OK} {sys.executable} {shlex.quote(f'{HERE}/tapped.py')} mirror.tap {shlex.quote(f'exec {FLEET} mirror --note mirror.note')}"
-    words = ["write", "copies.fio", "--note", "copies.note", "--after", "0.2", "--wait", "6", "--mirror", command, *servers.links()]
-    status, printed, said = fleet(*words)
+    words = ["write", "copies.fio", "--note", "copies.note", "--after", "0.2", "--mirror", command, *servers.links()]
+    status, printed, said = fleet_saying("the mirror keeps 0 of 1 states", *words)
     tell("states that the mirror doesn't keep", (status, number_in(printed) != "", "not all states are kept" in printed), (2, True, True))
     tell_has("how many it keeps", said, "the mirror keeps 0 of 1 states")
     servers.cut()
@@ -54,18 +55,25 @@ def copies_not_kept():
 def slow_copies():
     """Copies that a mirror sends one behind the other for longer than a grace are waited for; where some are
     lost, no longer than that behind the last."""
+    whole, clock = stopping.time, [0.0]
+    stopping.time = SimpleNamespace(monotonic=lambda: clock[0]) # (which goes on by what is brought alone)
     for what, count, due in (("all of them", 6, True), ("one is lost", 5, False)):
-        copies, begun = Copies(), time.monotonic()
+        copies, found = Copies(), []
+        copies.hear(bare(struct.pack(">Q", 3), kind=GRANTED))
+        copies.hear(query(COPIES, COPIES_SENT.pack(3, 6)))
+        threading.Thread(target=lambda: found.append(copies.await_all(3, 30, 1)), daemon=True).start()
+        for at in range(count):
+            time.sleep(0.2)
+            clock[0] += 0.3
+            copies.hear(bare(bytes(4) + struct.pack(">QII", 1, 0, at), kind=COPY))
+        until = clock[0] + 5
 
-        def bring():
-            copies.hear(bare(struct.pack(">Q", 3), kind=GRANTED))
-            copies.hear(query(COPIES, COPIES_SENT.pack(3, 6)))
-            for at in range(count):
-                time.sleep(0.3)
-                copies.hear(bare(bytes(4) + struct.pack(">QII", 1, 0, at), kind=COPY))
+        def is_over():
+            clock[0] = min(clock[0] + 0.01, until)
+            return bool(found)
 
-        threading.Thread(target=bring, daemon=True).start()
-        tell(f"copies that come slowly, {what}", (copies.await_all(3, 30, 1), time.monotonic() - begun < 10), (due, True))
+        tell(f"copies that come slowly, {what}", (comes(is_over), found), (True, [due]))
+    stopping.time = whole
 
 
 def lost_copies():

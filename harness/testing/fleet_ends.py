@@ -7,7 +7,8 @@ import subprocess
 import sys
 import time
 
-from serving import FLEET, Servers, fleet, job_file
+from failing import ended
+from serving import FEW, FLEET, MORE, Servers, fleet, fleet_in_time, fleet_saying, job_file
 from trying import HANG, HERE, LIAR, await_text, await_that, comes, read, run, tell, write
 
 CUT = ("--cut", "touch cut-was-made")
@@ -26,27 +27,35 @@ def unkept_states():
     tell why; unless that is asked for. The run's end says so."""
     job_file("unkept.fio", jobs=1, blocks=64, writes=100_000)
     servers = Servers("unkept", 2, jobs=1)
-    words = ["write", "unkept.fio", "--note", "unkept.note", "--wait", "2", *CUT]
+    words = ["write", "unkept.fio", "--note", "unkept.note", *CUT]
     for anyway in ((), ("--cut-anyway",)):
-        with open("said", "wb") as said:
-            writing = subprocess.Popen([FLEET, *words, *anyway, "--trigger-file", "pulled", *servers.links()], stdin=subprocess.DEVNULL, stdout=subprocess.PIPE, stderr=said, text=True)
-        await_text("said", "is begun")
-        servers.kill(1)
-        write("pulled", "")
-        printed = writing.communicate(timeout=HANG)[0]
-        os.remove("pulled")
-        tell(f"a server is gone at the trigger {anyway}", (writing.returncode, "not all states are kept" in printed, was_cut()), (2, True, bool(anyway)))
+        status, printed = next(came for came in (left_by_one(servers, wait, *words, *anyway) for wait in (FEW, MORE)) if came)
+        tell(f"a server is gone at the trigger {anyway}", (status, "not all states are kept" in printed, was_cut()), (2, True, bool(anyway)))
         tell("which is said", "there is no cut: not all states are kept" in read("said").decode(), not anyway)
-        servers.start(1)
-        fleet("stop", "--note", "unkept.note", "--wait", "5", *servers.links())
     servers.cut()
     servers.start(0)
     servers.start(1, {"LD_PRELOAD": LIAR, "LIE": "failed:5", "LIE_TARGET": "unkept-1-0"})
-    status, printed, said = fleet(*words, "--after", "30", *servers.links())
+    status, printed, said = fleet(*words, *servers.links())
     tell("a write fails", (status, was_cut(), "the states are kept" in printed), (2, False, True))
     for what, text in (("the trigger", said), ("the last line", printed)):
         tell(f"{what} says why", bool(re.search(r"a write has failed: server 1: unkept-1-0: write \d+ to block \d+ failed: Input/output error", text)), True)
     servers.cut()
+
+
+def left_by_one(servers, wait, *words):
+    """A run of which a server is killed behind its begin: its status, and what it printed; nothing
+    where the servers hadn't begun it in so many seconds. Behind that both are there again."""
+    with open("said", "wb") as said:
+        writing = subprocess.Popen([FLEET, *words, "--wait", str(wait), "--trigger-file", "pulled", *servers.links()], stdin=subprocess.DEVNULL, stdout=subprocess.PIPE, stderr=said, text=True)
+    await_that(lambda: b" is begun: " in read("said") or writing.poll() is not None, "the begin of a run")
+    is_begun = b" is begun: server 0 good, server 1 good\n" in read("said")
+    servers.kill(1)
+    write("pulled", "")
+    printed = writing.communicate(timeout=HANG)[0]
+    os.remove("pulled")
+    servers.start(1)
+    fleet("stop", "--note", "unkept.note", *servers.links())
+    return (writing.returncode, printed) if is_begun else None
 
 
 def unfit_jobs():
@@ -61,7 +70,7 @@ def unfit_jobs():
     ):
         servers.places = places
         servers.start(0)
-        status, printed, said = fleet("write", "unfit.fio", "--note", "unfit.note", "--after", "1", "--wait", "5", *CUT, *servers.links())
+        status, printed, said = fleet("write", "unfit.fio", "--note", "unfit.note", *CUT, *servers.links())
         tell(what, (status, printed, was_cut(), f"fleet: server 0: {why}" in said), (2, "", False, True))
         tell(f"{what}: nothing is written", [it for it in places if any(read(it.split("@")[0]))], [])
         servers.cut()
@@ -78,21 +87,21 @@ def stopped_fleets():
     one whose client is gone. Till then the servers say that they are busy, and with which run."""
     job_file("stop.fio", jobs=1, blocks=64, writes=1_000_000)
     servers = Servers("stop", 2, jobs=1)
-    words = [FLEET, "write", "stop.fio", "--note", "stop.note", "--after", "600", "--wait", "3", *servers.links()]
+    words = [FLEET, "write", "stop.fio", "--note", "stop.note", "--after", "600", *servers.links()]
     with open("said", "wb") as said:
         writing = subprocess.Popen(words, stdin=subprocess.DEVNULL, stdout=subprocess.DEVNULL, stderr=said)
     await_text("said", "is begun")
     writing.kill()
     writing.wait()
-    status, printed, said = fleet(*words[1:])
     number = re.search(r"run (\d+) is begun", read("said").decode())[1]
+    status, _, said = fleet_in_time(lambda _, __, said: said.count(f"busy with run {number}") >= 2, *words[1:])
     tell("a client behind one that was killed", (status, said.count(f"busy with run {number}") >= 2), (2, True))
-    status, printed, _ = fleet("status", "--note", "stop.note", "--wait", "3", *servers.links())
-    tell("the status of each", (status, [f"writes run {number}" in it for it in printed.splitlines()]), (0, [True] * 2))
-    status, _, said = fleet("stop", "--run", number, "--note", "stop.note", "--wait", "10", *servers.links())
+    told = lambda: fleet("status", "--note", "stop.note", *servers.links())[:2]
+    tell("the status of each", comes(lambda: [(it[0], it[1].count(f"writes run {number}")) for it in [told()]] == [(0, 2)]), True)
+    status, _, said = fleet("stop", "--run", number, "--note", "stop.note", *servers.links())
     tell("it is stopped", (status, f"run {number} is stopped: server 0 good, server 1 good" in said), (0, True))
     servers.kill(1)
-    status, _, said = fleet(*words[1:])
+    status, _, said = fleet_saying("server 1 doesn't answer", *words[1:])
     tell("a server is absent at the begin: the others are stopped", (status, "server 1 doesn't answer" in said), (2, True))
     servers.start(1)
     for signals, due in ((1, 0), (2, 2)):
@@ -104,9 +113,9 @@ def stopped_fleets():
         if signals == 2:
             await_text("said", "triggered")
             writing.send_signal(signal.SIGINT)
-        tell(f"{signals} signals", (writing.wait(HANG), b"is stopped" in read("said")), (due, signals == 2))
+        tell(f"{signals} signals", (ended(writing, HANG), b"is stopped" in read("said")), (due, signals == 2))
         servers.signal(signal.SIGCONT)
-        fleet("stop", "--note", "stop.note", "--wait", "5", *servers.links())
+        fleet("stop", "--note", "stop.note", *servers.links())
     servers.cut()
 
 
@@ -115,9 +124,14 @@ def signals_within_locks():
     job_file("locks.fio", jobs=1, blocks=64, writes=1_000_000)
     servers = Servers("locks", 2, jobs=1)
     words = [FLEET, "write", "locks.fio", "--note", "locks.note", "--after", "600", "--wait", str(HANG), *servers.links()]
+    stops = ",".join(str(it.pid) for it in servers.running)
     for turns, due in (*((str(at), 0) for at in range(200, 208)), ("200,201", 2), ("200,203", 2), ("201,206", 2)):
-        status, _, said = run(f"{HERE}/signalled.py", turns, *words, program=sys.executable)
+        # (else the states are kept before the second)
+        status, _, said = run(f"{HERE}/signalled.py", turns, *words, program=sys.executable, env={"STOPS": stops} if due else {})
         tell(f"signals at the locks {turns}", (status, "is stopped" in said), (due, due == 2))
+        servers.signal(signal.SIGCONT)
+        if due:
+            fleet("stop", "--note", "locks.note", *servers.links())
     servers.cut()
 
 
@@ -158,11 +172,11 @@ def orphans():
     job_file("orphan.fio", jobs=1, blocks=64, writes=1_000_000)
     servers = Servers("orphan", 0, jobs=1)
     servers.count, servers.running = 1, [None]
-    servers.start(0, options=["--orphan", "2"])
+    servers.start(0, options=["--orphan", "10"]) # (so long no client is silent that is there)
     with open("said", "wb") as said:
         writing = subprocess.Popen([FLEET, "write", "orphan.fio", "--note", "orphan.note", "--after", "600", *servers.links()], stdin=subprocess.DEVNULL, stdout=subprocess.DEVNULL, stderr=said)
     await_text("said", "writes a second")
-    time.sleep(3)
+    time.sleep(11)
     tell("while its client is there a run goes on", read(servers.said(0)).count(b"starts anew"), 0)
     writing.kill()
     writing.wait()
@@ -170,6 +184,6 @@ def orphans():
     tell("then it ends by itself", comes(lambda: "no client is there, and a run goes on: the server starts anew" in said()), True)
     tell("and begins anew", comes(lambda: said().count("server 0 is up") == 2), True)
     tell("it is the same process", servers.running[0].poll(), None)
-    tell("the next run", fleet("write", "orphan.fio", "--note", "orphan.note", "--after", "0.5", *servers.links())[0], 0)
+    tell("the next run", fleet("write", "orphan.fio", "--note", "orphan.note", "--after-writes", "64", *servers.links())[0], 0)
     tell("and its check", fleet("check", "orphan.fio", "--note", "orphan.note", *servers.links())[0], 0)
     servers.cut()

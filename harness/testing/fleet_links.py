@@ -85,7 +85,7 @@ def cut_links():
 
 def frames_given(log, count):
     """The frames that a logging node was given, once they are so many, in hexadecimal."""
-    until = time.monotonic() + HANG / 4
+    until = time.monotonic() + HANG
     while read(log).count(b"\n2 ") < count and time.monotonic() < until:
         time.sleep(0.05)
     return [line.split()[1] for line in read(log).decode().splitlines() if line.startswith("2 ")]
@@ -110,16 +110,20 @@ def full_pipes():
 def next_links():
     """The client's links end in the middle of a frame, again and again."""
     os.mkdir("fronts")
-    sent = [bare(b"%034d" % at) for at in range(300)]
+    sent = [bare(b"%034d" % 0)]
     link = Link("head -c 165 >fronts/$$; true", lambda _: None, lambda: sent[0])
-    for it in sent:
+    fronts = lambda: [data for data in map(read, glob.glob("fronts/*")) if len(data) == 165]
+
+    def have_ended():
+        sent.append(bare(b"%034d" % len(sent)))
         link.stream.is_welcome = True
-        link.send(it)
+        link.send(sent[-1])
         time.sleep(0.015) # (a link that brings nothing is begun anew less and less often)
+        return len(fronts()) > 2
+
+    tell("links that ended in the middle of a frame", comes(have_ended), True)
     link.close()
-    time.sleep(0.3)
-    fronts = [data for data in map(read, glob.glob("fronts/*")) if len(data) == 165]
-    tell("links that ended in the middle of a frame", len(fronts) > 2, True)
+    fronts = fronts()
     tell("each began with a frame, and had whole ones", [data for data in fronts if not set(frames_in(data)) <= set(map(enveloped, sent)) or len(frames_in(data)) != 2], [])
 
 
@@ -165,7 +169,6 @@ def strangers():
         ("a query that is cut", frame(bytes(15), b"FH", 3)),
     ):
         with door("strange-0.note.socket") as link:
-            link.settimeout(8)
             tell(f"{what} ends the link", ended_by(link, data), True)
     said = read(servers.said(0))
     tell("and is said, where it is no frame, and where it isn't what was sent", (said.count(b"is no frame"), said.count(b"isn't what was sent")), (3, 4))
@@ -175,9 +178,10 @@ def strangers():
     servers.cut()
 
 
-def brought(of, count=300):
+def brought(of, least=0, count=300):
     """What comes back of so many frames over a bad link, whose other end gives each back: their
-    numbers, in the order in which they come, and whether the link has ended in the middle of one."""
+    numbers, in the order in which they come, and whether the link has ended in the middle of one. Of so
+    many each is waited for, and more than these until none comes for some seconds."""
     shares = [it for name in ("lose", "repeat", "late", "cut", "hang") for it in (f"--{name}", str(of.get(name, 0)))]
     with subprocess.Popen([f"{TOP}/tools/bad-link", *shares, "cat"], stdin=subprocess.PIPE, stdout=subprocess.PIPE) as link:
         try:
@@ -185,7 +189,7 @@ def brought(of, count=300):
         except BrokenPipeError:
             pass
         data = b""
-        while select.select([link.stdout], [], [], 3)[0] and (more := os.read(link.stdout.fileno(), 65536)):
+        while select.select([link.stdout], [], [], HANG if len(frames_in(data)) < least else 3)[0] and (more := os.read(link.stdout.fileno(), 65536)):
             data += more
         link.kill()
     found = frames_in(data)
@@ -195,12 +199,12 @@ def brought(of, count=300):
 def harmed_links():
     """A bad link loses, repeats, brings late and ends in the middle of a frame, each by its share, on
     the way there and back; without any it brings all."""
-    tell("a link that does no harm", brought({}), ([*range(300)], False))
+    tell("a link that does no harm", brought({}, 300), ([*range(300)], False))
     tell("each frame is lost", brought({"lose": 1}), ([], False))
-    tell("each frame comes twice, both ways", brought({"repeat": 1}), ([at for at in range(300) for _ in range(4)], False))
-    numbers, _ = brought({"lose": 0.3})
+    tell("each frame comes twice, both ways", brought({"repeat": 1}, 1200), ([at for at in range(300) for _ in range(4)], False))
+    numbers, _ = brought({"lose": 0.3}, 61)
     tell("some are lost, and the others come in their order", (60 < len(numbers) < 240, numbers == sorted({*numbers})), (True, True))
-    numbers, _ = brought({"late": 0.3})
+    numbers, _ = brought({"late": 0.3}, 151)
     tell("some come late, and none twice", (numbers != sorted(numbers), len(numbers) == len({*numbers}), len(numbers) > 150), (True, True, True))
     numbers, is_cut = brought({"hang": 0.05})
     tell("a link hangs behind some frames, whole", (numbers == [*range(len(numbers))], len(numbers) < 300, is_cut), (True, True, False))

@@ -13,8 +13,8 @@ import time
 
 from fleet_links import frame, hello
 from note import CLIENT, MIRROR, KeptNote
-from serving import FLEET, TOP, Servers, earliest, fleet, job_file, jobs_left_out, reports
-from trying import BLOCK, HANG, QUIET, as_often, comes, read, tell, tell_has, write
+from serving import FLEET, TOP, Servers, earliest, fleet, fleet_saying, job_file, jobs_left_out, reports, turns
+from trying import BLOCK, HANG, QUIET, as_often, await_file, comes, read, tell, tell_has, write
 
 BAD_LINK = f"exec {shlex.quote(f'{TOP}/tools/bad-link')}"
 
@@ -35,7 +35,7 @@ def lost_with_a_mirror():
     lost, too, there is no verdict."""
     job_file("mirror.fio", blocks=64, writes=64)
     servers, kept = Servers("mirror", 2), mirror("mirror.kept")
-    status, printed, said = fleet("write", "mirror.fio", "--note", "mirror.note", "--after-writes", "256", "--after", "60", *kept, *servers.links())
+    status, printed, said = fleet("write", "mirror.fio", "--note", "mirror.note", "--after-writes", "256", *kept, *servers.links())
     tell("a fleet with a mirror writes", (status, "the states are kept" in printed), (0, True))
     tell_has("its mirror", said, "the mirror keeps 4 of 4 states")
     number = number_in(printed)
@@ -61,7 +61,7 @@ def lost_with_a_mirror():
     tell_has("where both notes are lost", fleet("check", "mirror.fio", "--note", "mirror.note", *kept, *servers.links())[2], "no run was begun yet")
     servers.cut()
     servers.restart() # (till then they serve the fleet that is forgotten)
-    status, printed, said = fleet("check", "mirror.fio", "--run", number, "--note", "mirror.note", "--wait", "3", *kept, *servers.links())
+    status, printed, said = fleet_saying("is of another fleet", "check", "mirror.fio", "--run", number, "--note", "mirror.note", *kept, *servers.links())
     tell("another fleet with a mirror isn't served by their notes", (status, reports(printed), "is of another fleet" in said), (2, {}, True))
     status, printed, said = fleet("check", "mirror.fio", "--run", number, "--note", "plain.note", *servers.links())
     tell("its run has no verdict", (status, reports(printed), "" if status == 3 else said), (3, {}, ""))
@@ -107,11 +107,11 @@ def killed_mirrors():
     job_file("losses.fio", jobs=2, blocks=256, writes=100_000)
     servers, chance, whole, losses, kills = Servers("losses", 2), random.Random(11), 0, 0, 0
     links = servers.links(f"{BAD_LINK} --lose 0.02 --repeat 0.02 --late 0.02 --cut 0.005 --garble 0.005 --hang 0.0005")
-    for turn in range(8 * as_often["killed"]):
+    for turn, slow in turns(8 * as_often["killed"], lambda: whole >= 2 and losses >= 2):
         kept = mirror("losses.kept", f"{BAD_LINK} --cut 0.02")
-        writing = subprocess.Popen([FLEET, "write", "losses.fio", "--note", "losses.note", "--after", f"{chance.uniform(0.2, 0.6):.2f}", "--wait", "4", *kept, *links], **QUIET)
+        writing = subprocess.Popen([FLEET, "write", "losses.fio", "--note", "losses.note", "--after", f"{slow * chance.uniform(0.2, 0.6):.2f}", "--wait", str(4 * slow), *kept, *links], **QUIET)
         for _ in range(chance.randrange(5)):
-            time.sleep(chance.uniform(0.1, 0.8))
+            time.sleep(slow * chance.uniform(0.1, 0.8))
             kill_one(chance.randrange(6), servers, writing, "losses.kept")
             kills += 1
         writing.wait()
@@ -120,11 +120,11 @@ def killed_mirrors():
             os.remove("losses.note")
             losses += 1
         servers.restart()
-        status, printed, _ = fleet("check", "losses.fio", "--note", "losses.note", "--wait", "10", *kept, *links)
+        status, printed, _ = fleet("check", "losses.fio", "--note", "losses.note", "--wait", str(10 * slow), *kept, *links)
         tell(f"killed mirrors, turn {turn}: no false fault", [at for at, it in reports(printed).items() if it[1]], [])
         whole += status == 0
         tell(f"killed mirrors, turn {turn}: its check ends, and what is sound is whole", (status is not None, jobs_left_out(printed, 2, 2) if status == 0 else []), (True, []))
-    print(f"killed_mirrors: {kills} kills at random and {2 * 8 * as_often['killed']} of servers at their cuts, {losses} notes lost, {whole} checks by all states")
+    print(f"killed_mirrors: {kills} kills at random and {2 * (turn + 1)} of servers at their cuts, {losses} notes lost, {whole} checks by all states")
     tell("notes were lost, and checks came to their end", (losses >= 2, whole >= 2), (True, True))
     servers.cut()
 
@@ -156,9 +156,7 @@ def taken_places():
     is refused; a later client keeps the earlier one from beginning."""
     words = {"stdin": subprocess.PIPE, "stdout": subprocess.PIPE, "stderr": subprocess.DEVNULL}
     first = subprocess.Popen([FLEET, "mirror", "--note", "place.kept"], **words)
-    until = time.monotonic() + 10
-    while not os.path.exists("place.kept.place") and time.monotonic() < until:
-        time.sleep(0.01)
+    await_file("place.kept.place")
     second = subprocess.Popen([FLEET, "mirror", "--note", "place.kept"], **words)
     tell("who was there before has ended", first.wait(HANG), 0)
     second.stdin.close()
@@ -167,7 +165,7 @@ def taken_places():
     servers, kept = Servers("place", 1, jobs=1), mirror("place.kept")
     for note in ("early.note", "late.note"):
         tell(f"a client on {note} begins", fleet("write", "place.fio", "--note", note, "--after", "0.2", *kept, *servers.links())[0], 0)
-    status, _, said = fleet("write", "place.fio", "--note", "early.note", "--after", "0.2", "--wait", "3", *kept, *servers.links())
+    status, _, said = fleet_saying("a later client has begun", "write", "place.fio", "--note", "early.note", "--after", "0.2", *kept, *servers.links())
     tell("the earlier one begins no more", (status, "a later client has begun" in said), (2, True))
     servers.cut()
     for what, note, why in (("the client's note", "late.note", "another node's note"), ("a torn note", "torn.kept", "aren't those that were kept")):

@@ -12,8 +12,8 @@ import threading
 
 from fleets import written
 from hosts import Hosts
-from serving import FLEET, SERVER, TOP, Servers, earliest, fleet, job_file, reports
-from trying import BLOCK, LIAR, QUIET, read, run, skip, tell, write
+from serving import FLEET, SERVER, TOP, Servers, earliest, fleet, fleet_until_done, job_file, reports
+from trying import BLOCK, HANG, LIAR, QUIET, read, run, skip, tell, write
 
 BAD_LINK = f"{TOP}/tools/bad-link"
 
@@ -36,8 +36,11 @@ class Listening:
         return [it for command in commands for it in ("--server", command)]
 
     def break_some(self, chance):
-        """Kills connections as they are, again and again."""
-        while not self.is_closed.wait(chance.uniform(0.1, 0.5)):
+        """Kills connections as they are, again and again, and ever less often: on a slow machine
+        they are to come to something, too."""
+        pause = 0.5
+        while not self.is_closed.wait(chance.uniform(pause / 5, pause)):
+            pause *= 1.02
             pid = self.running[chance.randrange(len(self.running))].pid
             for child in read(f"/proc/{pid}/task/{pid}/children").split():
                 try:
@@ -62,7 +65,7 @@ def over_tcp():
     listening = Listening(servers)
     breaking = threading.Thread(target=listening.break_some, args=(random.Random(4),), daemon=True)
     breaking.start()
-    status, printed, said = fleet("write", "tcp.fio", "--note", "tcp.note", "--after-writes", "2000", "--after", "10", *listening.links())
+    status, printed, said = fleet_until_done(servers, "tcp.fio", "--note", "tcp.note", *listening.links())
     tell("a fleet writes over TCP", (status, "the states are kept" in printed), (0, True))
     servers.cut()
     data = bytearray(read("tcp-2-1"))
@@ -126,11 +129,11 @@ def lies_on_hosts(hosts):
     lie = {"LD_PRELOAD": LIAR, "LIE": "lost:37", "LIE_TARGET": "hosts-2-1", "LIE_LOG": "hosts.log"}
     for at in range(3):
         servers.start(at, lie if at == 2 else None)
-    status, printed, _ = servers.fleet("write", "hosts.fio", "--note", "hosts.note", "--after-writes", "1200", "--after", "30")
+    status, printed, _ = servers.fleet("write", "hosts.fio", "--note", "hosts.note", "--after-writes", "1200")
     tell("a fleet of hosts writes", (status, "the states are kept" in printed), (0, True))
     servers.cut()
     servers.restart()
-    status, printed, _ = servers.fleet("check", "hosts.fio", "--note", "hosts.note", "--map")
+    status, printed, _ = servers.fleet("check", "hosts.fio", "--note", "hosts.note", "--map", "--wait", str(HANG))
     due = written(read("hosts.log"))
     tell("its check", (status, {at: it[:2] for at, it in reports(printed).items()}), (1, {(s, j): (200, len(due) if (s, j) == (2, 1) else 0) for s in range(3) for j in range(2)}))
     tell("the blocks that were lost", [int(it) for it in re.findall(r"server 2 job 1: block (\d+) (?:unwritten|lost): ", printed)], due)

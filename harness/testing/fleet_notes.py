@@ -17,7 +17,7 @@ NODE = f"{HERE}/sending_node.py"
 def note_at(link, note):
     """What a note holds as a frame comes over a link: its last bytes, and none where there is none."""
     link.settimeout(HANG)
-    came = link.recv(HEAD + 2)
+    came = link.recv(HEAD + 2, socket.MSG_WAITALL)
     return came[HEAD:], read(note)[-len(SAVED) :] if os.path.exists(note) else b""
 
 
@@ -66,7 +66,7 @@ def synced_notes():
     mirror = f"exec env LD_PRELOAD={shlex.quote(LIAR)} LIE_SYNCS=1 LIE_LOG=mirror.log {shlex.quote(FLEET)} mirror --note mirror.note"
     status, printed, said = fleet("write", "synced.fio", "--note", "synced.note", "--after", "0.5", "--mirror", mirror, *servers.links(), env={**way, "LIE_LOG": "client.log"})
     tell("a fleet with a mirror writes", status, 0)
-    fleet("status", "--note", "synced.note", "--mirror", mirror.replace("mirror.log", "again.log"), "--wait", "3", *servers.links(), env={**way, "LIE_LOG": "next.log"})
+    fleet("status", "--note", "synced.note", "--mirror", mirror.replace("mirror.log", "again.log"), *servers.links(), env={**way, "LIE_LOG": "next.log"})
     servers.cut()
     for log, note in (("next.log", "synced.note"), ("again.log", "mirror.note")):
         lines = [f"synced {os.path.abspath(note)}", f"synced {os.getcwd()}"]

@@ -9,8 +9,8 @@ import time
 
 from fleet_links import hello
 from fleet_mirrors import mirror
-from serving import TOP, Servers, fleet, job_file, reports
-from trying import HERE, LIAR, comes, read, tell, write
+from serving import TOP, Servers, fleet, fleet_in_time, fleet_saying, job_file, reports
+from trying import HANG, HERE, LIAR, comes, read, tell, write
 
 sys.path.insert(0, f"{TOP}/harness/client")
 
@@ -60,9 +60,12 @@ def full_notes():
     servers.cut()
 
 
-# The notes of a fleet of one server with a mirror, and whose each is.
+# The notes of a fleet of one server with a mirror, and whose each is. A client whose note was
+# filled is answered once its mirror, which lacks these states, has kept most of them, each by
+# itself: on a slow disk that takes a while.
 NOTES = {"all.note": CLIENT, "all.kept": MIRROR, "all-0.note": 0}
-WRITE, CHECK = ("write", "all.fio", "--note", "all.note", "--after-writes", "64"), ("check", "all.fio", "--note", "all.note")
+LONG = ("--wait", str(HANG))
+WRITE, CHECK = ("write", "all.fio", "--note", "all.note", "--after-writes", "64", *LONG), ("check", "all.fio", "--note", "all.note", *LONG)
 
 
 def filled_fleet():
@@ -106,12 +109,12 @@ def full_mirrors():
         tell(f"{note}: it is said", f"{note}.full-1" in where, True)
     tell_new_fleet("a new fleet", before, links)
     shutil.copy("all.note.full-1", "old.note")
-    status, printed, said = fleet("check", "all.fio", "--note", "old.note", "--wait", "3", *links)
+    status, printed, said = fleet_saying("this mirror keeps the states of another fleet", "check", "all.fio", "--note", "old.note", *links)
     tell("the old fleet's client", (status, reports(printed), "this mirror keeps the states of another fleet" in said), (2, {}, True))
-    status, printed, said = fleet("check", "all.fio", "--note", "old.note", "--wait", "3", *mirror("old.kept"), *servers.links())
+    status, printed, said = fleet_saying("the note of server 0 is of another fleet", "check", "all.fio", "--note", "old.note", *mirror("old.kept"), *servers.links())
     tell("nor to its server", (status, reports(printed), "the note of server 0 is of another fleet" in said), (2, {}, True))
     fill("all.note")
-    status, printed, _ = fleet("cycle", "all.fio", "series", "--note", "all.note", "--every", "0.2", "--cycles", "2", "--pause", "0", "--off", "true", "--on", "true", *links)
+    status, printed, _ = fleet("cycle", "all.fio", "series", "--note", "all.note", "--every", "600", "--cycles", "2", "--pause", "0", "--off", "true", "--on", "true", *LONG, *links)
     tell("a series over a note that is full again", (status, printed.count("0 faults, status 0")), (0, 2))
     tell("all are put aside once more", [os.path.exists(f"{it}.full-{at}") for it in NOTES for at in (2, 3)], [True, False] * 3)
     servers.cut()
@@ -204,7 +207,8 @@ def killed_within():
             servers.start(0, lie if victim == "server" else None)
             once = f"[ -e died ] || {{ touch died; export LD_PRELOAD={shlex.quote(LIAR)} LIE_LEAVES={step}; }}; {links[1]}"
             ways = [links[0], once if victim == "mirror" else links[1], *links[2:]]
-            status = fleet(*WRITE, "--wait", "10" if victim == "server" else "60", *ways, env=lie if victim == "client" else {})[0]
+            way = lie if victim == "client" else {}
+            status = fleet_in_time(lambda *_: servers.running[0].poll() is not None, *WRITE, *ways)[0] if victim == "server" else fleet(*WRITE, *ways, env=way)[0]
             tell(f"{what}: the write", status, due)
             tell(f"{what}: the server", servers.running[0].poll(), -9 if victim == "server" else None)
             tell(f"{what}: one note at least is put aside", any(os.path.exists(f"{it}.full-1") for it in NOTES), True)

@@ -4,7 +4,7 @@ import os
 import re
 
 from fleet_mirrors import mirror
-from serving import Servers, earliest, fleet, job_file
+from serving import Servers, earliest, fleet, fleet_until_done, job_file
 from trying import BLOCK, TARGET, read, run, tell, tell_has, write
 
 COMMAND = re.compile(r"^server (\d+) job (\d+): drive-target (check \S+ TARGET (\S+) --job \d+)$", re.M)
@@ -23,7 +23,7 @@ def checked(words, target, *more):
 
 def written_out(name, servers, *links):
     """Has a fleet write, and its servers cut; then writes its states out. Returns their commands."""
-    status, _, _ = fleet("write", f"{name}.fio", "--note", f"{name}.note", "--after", "0.4", *links, *servers.links())
+    status, _, _ = fleet_until_done(servers, f"{name}.fio", "--note", f"{name}.note", *links, *servers.links())
     tell(f"{name}: a fleet writes", status, 0)
     servers.cut()
     status, printed, said = fleet("states", f"{name}.fio", f"{name}.states", "--note", f"{name}.note")

@@ -31,13 +31,13 @@ def triggers():
         servers.start(0)
         servers.start(1, stalled)
         own = [*words, "--after-writes", str(writes), *servers.links()]
-        status, printed, said = fleet("write", *own, "--after", "60") if writes < 128 else fleet_until(idle, "fleet.said", *own)
+        status, printed, said = fleet("write", *own) if writes < 128 else fleet_until(idle, "fleet.said", *own)
         tell(f"a trigger after {writes} writes", (status, re.findall("fleet: triggered: (.*)", said)), (0, [why]))
         tell(f"the table after {writes} writes", rows(printed), {(0, 0): [64, 64, 0], (1, 0): [64, 63, 1]})
         tell(f"how far they are after {writes} writes", len(re.findall(r": server 0 64(?: of 64)? done; server 1 63(?: of 64)? done$", said, re.M)), 1)
         servers.cut()
-    speeds = [(int(a) > 0, int(b) > 0) for a, b in re.findall(r"^fleet: \d+ s: server 0 (\d+) writes a second, \d+(?: of 64)? done; server 1 (\d+) writes a second, \d+(?: of 64)? done$", said, re.M)]
-    tell("what is said each second", ([any(it) for it in zip(*speeds)], speeds[-1]), ([True, True], (False, False)))
+    speeds = [[int(it) for it in re.findall(rf"^fleet: \d+ s: .*\bserver {at} (\d+) writes a second, ", said, re.M)] for at in range(2)]
+    tell("what is said each second", [(any(it), it[-1:]) for it in speeds], [(True, [0])] * 2)
     servers.restart()
     status, printed, _ = fleet("check", "after.fio", "--note", "after.note", "--json", *servers.links())
     told = [json.loads(it) for it in printed.splitlines()]

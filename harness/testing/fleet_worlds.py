@@ -69,17 +69,16 @@ class Story:
 
     def play(self, reading):
         fleet = client.Fleet("world.note", [self.link])
-        written = stories.write(fleet, "world.fio", stories.Trigger(writes=2), wait=10, acts=True)
-        stories.cut(fleet, written, None, True, False, 10)
+        stories.write(fleet, "world.fio", stories.Trigger(writes=2), wait=HANG, acts=True)
         self.servers.running[0].wait(HANG)
         self.servers.start(0, options=["--cached"])
         self.await_link(fleet)
         texts.reading = lambda _: reading
-        self.verdict, self.reports = stories.check(fleet, "world.fio", wait=10)
+        self.verdict, self.reports = stories.check(fleet, "world.fio", wait=HANG)
         fleet.close()
 
     def await_link(self, fleet):
-        until, came = time.monotonic() + 10, fleet.servers[0].came
+        until, came = time.monotonic() + HANG, fleet.servers[0].came
         while fleet.servers[0].came == came and time.monotonic() < until:
             fleet.servers[0].ask_ends()
             time.sleep(0.05)

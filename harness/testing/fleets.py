@@ -11,7 +11,7 @@ import struct
 import subprocess
 import time
 
-from serving import FLEET, SERVER, TOP, Servers, earliest, fleet, fleet_until, job_file, jobs_left_out, reports
+from serving import FLEET, SERVER, TOP, Servers, earliest, fleet, fleet_in_time, fleet_until, fleet_until_done, job_file, jobs_left_out, reports, turns
 from trying import BLOCK, HANG, LIAR, QUIET, as_often, read, run, tell, tell_has, write
 
 
@@ -19,7 +19,7 @@ def whole_story():
     """Three servers with two jobs each are cut behind a trigger, and checked."""
     job_file("fleet.fio")
     servers = Servers("story", 3)
-    status, printed, said = fleet("write", "fleet.fio", "--note", "story.note", "--after", "2", *servers.links())
+    status, printed, said = fleet_until_done(servers, "fleet.fio", "--note", "story.note", *servers.links())
     tell("a fleet writes", (status, "the states are kept" in printed), (0, True))
     servers.cut()
     servers.restart()
@@ -40,7 +40,7 @@ def whole_story():
     write("story-1-0", bytes(data))
     servers.start(0)
     servers.start(1)
-    status, printed, said = fleet("check", "fleet.fio", "--note", "story.note", "--wait", "3", *servers.links())
+    status, printed, said = fleet_in_time(lambda _, printed, __: len(reports(printed)) == 4, "check", "fleet.fio", "--note", "story.note", *servers.links())
     tell("one server never comes back, and the others are sound", (status, [it[1] for it in reports(printed).values()]), (2, [0] * 4))
     tell_has("what is said of the run", printed.splitlines()[-1], "not checked whole")
     servers.kill(0)
@@ -64,7 +64,7 @@ def lying_target():
     lie = {"LD_PRELOAD": LIAR, "LIE": "lost:37", "LIE_TARGET": "lies-1-0", "LIE_LOG": "lies.log"}
     servers.start(0)
     servers.start(1, lie)
-    status, _, _ = fleet("write", "lies.fio", "--note", "lies.note", "--after-writes", "800", "--after", "60", *servers.links())
+    status, _, _ = fleet("write", "lies.fio", "--note", "lies.note", "--after-writes", "800", *servers.links())
     servers.cut()
     servers.restart()
     found = reports(fleet("check", "lies.fio", "--note", "lies.note", *servers.links())[1])
@@ -79,10 +79,10 @@ def killed_nodes():
     its end, it has no false fault."""
     job_file("kills.fio", jobs=2, blocks=512, writes=100_000)
     servers, chance, whole, kills = Servers("kills", 3), random.Random(7), 0, 0
-    for turn in range(10 * as_often["killed"]):
-        writing = subprocess.Popen([FLEET, "write", "kills.fio", "--note", "kills.note", "--after", f"{chance.uniform(0.1, 0.6):.2f}", "--wait", "3", *servers.links()], **QUIET)
+    for turn, slow in turns(10 * as_often["killed"], lambda: whole >= 2):
+        writing = subprocess.Popen([FLEET, "write", "kills.fio", "--note", "kills.note", "--after", f"{slow * chance.uniform(0.1, 0.6):.2f}", "--wait", str(3 * slow), *servers.links()], **QUIET)
         for _ in range(chance.randrange(4)):
-            time.sleep(chance.uniform(0, 0.3))
+            time.sleep(slow * chance.uniform(0, 0.3))
             victim, kills = chance.randrange(4), kills + 1
             if victim == 3:
                 writing.kill()
@@ -92,12 +92,12 @@ def killed_nodes():
         writing.wait()
         servers.cut()
         servers.restart()
-        status, printed, _ = fleet("check", "kills.fio", "--note", "kills.note", "--wait", "10", *servers.links())
+        status, printed, _ = fleet("check", "kills.fio", "--note", "kills.note", "--wait", str(10 * slow), *servers.links())
         by_state = {at: it for at, it in reports(printed).items()}
         tell(f"killed nodes, turn {turn}: no false fault", [at for at, it in by_state.items() if it[1]], [])
         tell(f"killed nodes, turn {turn}: its check ends, and what is sound is whole", (status is not None, jobs_left_out(printed, 3, 2) if status == 0 else []), (True, []))
         whole += status == 0
-    print(f"killed_nodes: {kills} kills at random and {3 * 10 * as_often['killed']} of servers at their cuts, {whole} checks by all states")
+    print(f"killed_nodes: {kills} kills at random and {3 * (turn + 1)} of servers at their cuts, {whole} checks by all states")
     tell("checks came to their end", whole >= 2, True)
     servers.cut()
 
@@ -112,7 +112,7 @@ def lost_notes():
     """The client's note is lost, torn, or another node's; two clients, two servers of one note."""
     job_file("notes.fio", jobs=1, blocks=64, writes=512)
     servers = Servers("notes", 2, jobs=1)
-    status, printed, _ = fleet("write", "notes.fio", "--note", "notes.note", "--after", "0.4", *servers.links())
+    status, printed, _ = fleet_until_done(servers, "notes.fio", "--note", "notes.note", *servers.links())
     tell("a fleet of one job writes", status, 0)
     number = re.search(r"run (\d+)", printed)[1]
     servers.cut()
@@ -148,7 +148,7 @@ def bad_links():
     job_file("bad.fio", jobs=2, blocks=128, writes=20_000)
     servers = Servers("bad", 3)
     links = servers.links(f"exec {shlex.quote(f'{TOP}/tools/bad-link')} --cut 0.03")
-    status, printed, said = fleet("write", "bad.fio", "--note", "bad.note", "--after", "0.5", *links)
+    status, printed, said = fleet_until_done(servers, "bad.fio", "--note", "bad.note", *links)
     tell("a fleet writes over bad links", (status, "the states are kept" in printed), (0, True))
     servers.cut()
     servers.restart()
@@ -164,8 +164,8 @@ def own_cuts():
     servers.count, servers.running = 2, [None, None]
     for server in range(2):
         servers.start(server, options=["--cut", "kill -9 $PPID"])
-    status, _, _ = fleet("write", "own.fio", "--note", "own.note", "--after", "0.4", "--act-cut", *servers.links())
-    tell("each server was cut", (status, [it.poll() for it in servers.running]), (0, [-signal.SIGKILL] * 2))
+    status, _, _ = fleet_until_done(servers, "own.fio", "--note", "own.note", "--act-cut", *servers.links())
+    tell("each server was cut", (status, [it.wait(HANG) for it in servers.running]), (0, [-signal.SIGKILL] * 2))
     servers.restart()
     status, printed, _ = fleet("check", "own.fio", "--note", "own.note", *servers.links())
     tell("and is sound", (status, [it[1] for it in reports(printed).values()]), (0, [0] * 4))
@@ -176,10 +176,10 @@ def full_disk():
     """A note that can't be kept ends its node: what was kept before is what it has."""
     job_file("disk.fio", jobs=1, blocks=64, writes=200)
     servers = Servers("disk", 1, jobs=1)
-    fleet("write", "disk.fio", "--note", "disk.note", "--after", "0.3", *servers.links())
+    fleet("write", "disk.fio", "--note", "disk.note", *servers.links())
     before = read("disk.note")
     os.mkdir("disk.note.new") # (a note is written there first)
-    status, _, said = fleet("write", "disk.fio", "--note", "disk.note", "--after", "0.3", *servers.links())
+    status, _, said = fleet("write", "disk.fio", "--note", "disk.note", *servers.links())
     tell("the client ends", (status, "disk.note" in said), (2, True))
     os.rmdir("disk.note.new")
     tell("its note is as it was", read("disk.note"), before)
@@ -193,7 +193,7 @@ def places_of_jobs():
     servers = Servers("places", 0)
     servers.count, servers.running, servers.places = 1, [None], ["one@0/8192", "one@4096/8192"]
     servers.start(0)
-    fleet("write", "places.fio", "--note", "places.note", "--after-writes", "128", "--after", "60", *servers.links())
+    fleet("write", "places.fio", "--note", "places.note", "--after-writes", "128", *servers.links())
     servers.cut()
     data = bytearray(read("one"))
     front = lambda job, block: struct.unpack(">QIIQQ", data[job * BLOCK + block * 2 * BLOCK :][:32])
@@ -211,11 +211,11 @@ def full_server_disk():
     job_file("note.fio", jobs=1, blocks=64, writes=200)
     servers = Servers("note", 1, jobs=1)
     os.mkdir("note-0.note.new")
-    status, _, said = fleet("write", "note.fio", "--note", "c.note", "--after", "0.1", "--wait", "2", *servers.links())
+    status, _, said = fleet("write", "note.fio", "--note", "c.note", "--wait", "10", *servers.links())
     tell("the run isn't begun", (status, re.findall(r"is begun: (.*)", said), servers.running[0].wait(HANG)), (2, ["server 0 no answer"], 2))
     os.rmdir("note-0.note.new")
     servers.start(0)
-    tell("and then it is", fleet("write", "note.fio", "--note", "c.note", "--after", "0.5", *servers.links())[0], 0)
+    tell("and then it is", fleet("write", "note.fio", "--note", "c.note", *servers.links())[0], 0)
     tell("and sound", fleet("check", "note.fio", "--note", "c.note", *servers.links())[0], 0)
     servers.cut()
 

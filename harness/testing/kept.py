@@ -3,8 +3,8 @@ their blocks lie, and the lines of a series."""
 import os
 import subprocess
 
-from trying import LIAR, QUIET, await_text, job, read, run, run_of, tell, tell_has, whole_run, write
-from witness import cycles_in, link, witness
+from trying import LIAR, QUIET, WITNESS, await_text, job, read, run, run_of, tell, tell_has, whole_run, write
+from witness import ALL_OF_TWO, KILL, KILL_TOLD, cycles_in, link, until_told, witness
 
 SYNCS = {"LD_PRELOAD": LIAR, "LIE_SYNCS": "1"}
 
@@ -31,8 +31,8 @@ def stopped_witness():
     tell("a run", witness("write", "two.fio", "ss", *link("st"))[0], 0)
     before = read("ss")
     env = {**os.environ, "LD_PRELOAD": LIAR, "LIE": "stalled:1", "LIE_TARGET": "/st", "LIE_LOG": os.path.abspath("stopped.log")}
-    ran = subprocess.Popen([f"{os.path.dirname(LIAR)}/drive-witness", "write", "two.fio", "ss", *link("st")], env=env, **QUIET)
     write("stopped.log", "")
+    ran = subprocess.Popen([WITNESS, "write", "two.fio", "ss", *link("st")], env=env, **QUIET)
     await_text("stopped.log", "stalled")
     ran.kill()
     ran.wait()
@@ -53,7 +53,7 @@ def killed_behind_flushes():
         tell(f"killed behind flush {flushes}: what was told is there", (status, " faults 0 " in printed), (0, True))
 
 
-OFF = ("--off", "kill -KILL $(cat agent)", "--on", "true", "--every", "0.2..0.2", "--seed", "7", "--trust-off")
+OFF = ("--off", KILL_TOLD, "--on", "true", "--every", "0.2..0.2", "--seed", "7", "--trust-off")
 
 
 def kept_series():
@@ -66,6 +66,6 @@ def kept_series():
     behind = [lines[at + 1] for at, line in enumerate(lines[:-1]) if line == f"synced {file}"]
     tell("each line is synced, and its folder behind it", behind, [f"synced {os.path.dirname(file)}"] * 2)
     env = {"LD_PRELOAD": LIAR, "LIE_TARGET": "/cu", "LIE_UNREADABLE": "0"}
-    status, printed, said = witness("cycle", "two.fio", "unread", *link("cu"), *OFF, "--every", "1.5..1.5", "--cycles", "2", "--keep-going", env=env)
+    status, printed, said = witness("cycle", "two.fio", "unread", *link("cu"), *OFF, "--off", f"{until_told(calls=ALL_OF_TWO)}; {KILL}", "--cycles", "2", "--keep-going", env=env)
     tell("cycles of which a block can't be read", (status, [it.partition(" checked, ")[2].partition(",")[0] for it in cycles_in(printed)]), (1, ["1 faults: unread 1"] * 2))
     tell_has("which block", said, "block 0 can't be read: Input/output error")

@@ -10,7 +10,7 @@ import subprocess
 from ledgers import taken
 from nights import CUT, last_lines, rows_of
 from trying import BLOCK, HANG, LIAR, QUIET, WITNESS, as_often, await_file, await_that, job, read, run_of, stamp, state_in, tell, tell_has, write
-from witness import counted, cycles_in, endless, link, witness
+from witness import counted, cycles_in, endless, link, until_told, witness
 
 TRUSTED = (*CUT[:4], "--trust-off", "--seed", "7")
 STOPS = ("before/begun", "behind/begun", "before/cycle-000002.state", "behind/cycle-000002.state", "before/checked", "behind/checked", "before/ledger", "behind/ledger")
@@ -120,8 +120,8 @@ def nights_of_honest_drives():
     for what, words, env, folders in (
         ("by flushes", (*link("hc", "--flush", "8"), *TRUSTED), cache, ["."]),
         ("with --local", (*link("hl"), *TRUSTED, "--local"), {}, ["."]),
-        ("of a drive that falls", (*link("hf"), "--off", "touch fell", "--on", "rm -f fell", "--drive-only"), fallen, ["."]),
-        ("of two drives", ("--link", link("h1")[1].replace("agent;", "agent1;"), "--link", link("h2")[1].replace("agent;", "agent2;"), "--off", "kill -KILL $(cat agent1) $(cat agent2)", "--on", "true", "--trust-off"), {}, ["1", "2"]),
+        ("of a drive that falls", (*link("hf"), "--off", f"{until_told()}; touch fell", "--on", "rm -f fell", "--drive-only"), fallen, ["."]),
+        ("of two drives", ("--link", link("h1")[1].replace("agent;", "agent1;"), "--link", link("h2")[1].replace("agent;", "agent2;"), "--off", f"{until_told('agent1')}; {until_told('agent2')}; kill -KILL $(cat agent1) $(cat agent2)", "--on", "true", "--trust-off"), {}, ["1", "2"]),
     ):
         folder = f"honest {what}"
         for turn, every in enumerate((LONG, SHORT, SHORT)):
@@ -131,7 +131,10 @@ def nights_of_honest_drives():
         for it in folders:
             rows = rows_of(f"{folder}/{it}")
             tell(f"{what}: no fault", [(row["faults"], row["at_rest"]) for row in rows], [(0, 0)] * 3)
-            tell(f"{what}: what was at rest is checked, too", [row["checked"] for row in rows], [max(min(it["told"], 4096) for it in rows[: at + 1]) for at in range(3)])
+            # (what was in flight, and wasn't told, may have come all the same; and where a second
+            # pass began, some of the first may be in flight)
+            least, most = ([max(of(it) for it in rows[: at + 1]) for at in range(3)] for of in (lambda it: min(it["told"], 4096 - it["in_flight"]), lambda it: min(it["told"] + it["in_flight"], 4096)))
+            tell(f"{what}: what was at rest is checked, too", [low <= row["checked"] <= high for low, row, high in zip(least, rows, most)], [True] * 3)
             tell(f"{what}: its ledger", taken(f"{folder}/{it}/ledger"), (int(rows[2]["run"]), True))
 
 
@@ -209,7 +212,8 @@ def stopped_by_signal():
     tell("a cycle", witness(*series, *SHORT, *off, "--cycles", "1")[0], 0)
     for name, harms, due in (("sound", False, (0, [0, 0])), ("harmed", True, (1, [0, 1, 0]))):
         shutil.rmtree(name, ignore_errors=True)
-        ran = subprocess.Popen([WITNESS, *series, "--every", "60..60", "--cycles", "9", "--resume"], **QUIET)
+        slow = {**os.environ, "LD_PRELOAD": LIAR, "LIE": "slow:9", "LIE_TARGET": "/ri"} # (so that most is at rest by then)
+        ran = subprocess.Popen([WITNESS, *series, "--every", "60..60", "--cycles", "9", "--resume"], env=slow, **QUIET)
         number = len(rows_of("int")) + 1
         stopped = f"int/cycle-{number:06d}.stopped"
         before = os.stat("ri").st_mtime_ns # (a page that is read while it is written might stay as it was)
@@ -241,7 +245,7 @@ def agents_that_flush():
         tell(f"a check {words}: what the agent does first", read("agent.log").decode().splitlines()[: len(due)], due)
     tell("its ledger is kept", taken("L"), (run_of("as"), True))
     kept = read("L")
-    status, printed, said = witness("check", "two.fio", "as", *link("af"), "--ledger", "L", "--wait", "3", env={**env, "LIE_SYNC_FAILS": "1"})
+    status, printed, said = witness("check", "two.fio", "as", *link("af"), "--ledger", "L", "--wait", "10", env={**env, "LIE_SYNC_FAILS": "1"})
     tell("a flush that fails", (status, printed, "af: it can't be flushed: Input/output error" in said, read("L") == kept), (2, "", True, True))
     write("agent.log", "")
     status, _, _ = witness("cycle", "two.fio", "flushing", *link("af"), *TRUSTED, "--every", "1..1", "--cycles", "1", env=env)

@@ -114,7 +114,7 @@ def local_pairs():
     """An agent whose `drive` isn't there, or orders other writes."""
     def refused(what, drive, part):
         command = link("lp")[1].replace("exec ", f"exec env DRIVE={shlex.quote(drive)} ")
-        status, printed, said = witness("write", "pair.fio", "ps", "--local", "--link", command, "--wait", "3")
+        status, printed, said = witness("write", "pair.fio", "ps", "--local", "--link", command)
         tell(f"{what}: the status", (status, printed), (2, ""))
         tell_has(f"{what}: what is said", said, part)
 

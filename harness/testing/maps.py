@@ -6,7 +6,7 @@ import re
 import subprocess
 
 from trying import BLOCK, HANG, LIAR, TARGET, job, put, read, report, run, run_of, stamp, state_in, tell, tell_has, write
-from witness import counted, link, witness
+from witness import KILL_TOLD, counted, link, witness
 
 
 def mapped(faults, checked, kinds, unchecked=""):
@@ -136,7 +136,7 @@ def unchecked():
     count = 4096 - int(re.match(r"report checked (\d+) ", told[1])[1])
     tell("many of them are told by a number, and listed by a map", (told[0], len(listed[0]) > 200), (f"unchecked {count} blocks, which a map tells", True))
     env = {"LD_PRELOAD": LIAR, "LIE": "lost:3", "LIE_TARGET": "/cm"}
-    off = ("--off", "kill -KILL $(cat agent)", "--on", "true", "--every", "0.2..0.3", "--seed", "5", "--trust-off")
+    off = ("--off", KILL_TOLD, "--on", "true", "--every", "0.2..0.3", "--seed", "5", "--trust-off")
     _, printed, _ = witness("cycle", "long.fio", "kinds", *link("cm"), *off, "--cycles", "1", "--json", env=env)
     row = json.loads(printed)
     tell("a cycle tells the kinds of its faults", (sum(row["kinds"].values()), row["kinds"].get("unwritten", 0) > 0), (row["faults"], True))

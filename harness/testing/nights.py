@@ -12,9 +12,9 @@ import termios
 
 from crc32c import crc32c
 from trying import AGENT, BLOCK, HANG, LIAR, TARGET, WITNESS, await_file, await_that, check, job, read, report, run, run_of, skip, state_in, tell, tell_has, write
-from witness import PASS_ON, counted, cycles_in, endless, kill_agent, link, witness
+from witness import ALL_OF_TWO, KILL, KILL_TOLD, PASS_ON, counted, cycles_in, endless, kill_agent, link, until_told, witness
 
-CUT = ("--off", "kill -KILL $(cat agent)", "--on", "true", "--every", "0.1..0.2", "--seed", "7")
+CUT = ("--off", KILL_TOLD, "--on", "true", "--every", "0.1..0.2", "--seed", "7")
 
 
 def at_terminal(words):
@@ -46,7 +46,7 @@ def stopped_at_terminal():
             if os.path.exists(written):
                 os.remove(written)
             ran, ours = at_terminal(words)
-            await_that(lambda: os.path.exists(written) and any(read(written)), "a write")
+            await_that(lambda: os.path.exists(written) and blocks_in(written) > 64, "more writes than are in flight at once")
             if how == "Ctrl-C":
                 os.write(ours, b"\x03")
             else:
@@ -59,6 +59,12 @@ def stopped_at_terminal():
             tell(f"{what}, {how}: no false fault", run("check", "endless.fio", written, "ss")[0] if os.path.exists("ss") else None, 0)
             if os.path.exists("ss"):
                 os.remove("ss")
+
+
+def blocks_in(target):
+    """How many blocks of a target hold something."""
+    data = read(target)
+    return sum(any(data[at : at + 16]) for at in range(0, len(data), BLOCK))
 
 
 def last_lines(printed):
@@ -102,10 +108,10 @@ def no_cuts():
     words = ("cycle", "long.fio", "mixed", *link("nm"), "--no-ledger")
     tell("a cycle without a cut, which is checked", witness(*words, *CUT, "--every", "1..1.2", "--cycles", "1")[0], 3)
     env = {"LD_PRELOAD": LIAR, "LIE": "stalled:1", "LIE_TARGET": "/nm"}
-    status, _, _ = witness(*words, *CUT, "--cycles", "2", "--trust-off", "--resume", env=env)
+    status, _, _ = witness(*words, *CUT, "--off", KILL, "--cycles", "2", "--trust-off", "--resume", env=env)
     tell("and a cut behind which nothing is", (status, [(it["cut"], it["checked"] > 0) for it in rows_of("mixed")]), (3, [("none", True), ("word", False)]))
     ends = link("ne", behind=f"| {PASS_ON} 20000")
-    status, printed, said = witness("cycle", "endless.fio", "ends", *ends, *CUT[:4], "--every", "60..60", "--cycles", "1", "--trust-off", "--wait", "5")
+    status, printed, said = witness("cycle", "endless.fio", "ends", *ends, *CUT[:4], "--every", "60..60", "--cycles", "1", "--trust-off", "--wait", "10")
     tell("a link that ends by itself, and isn't there for a check", (status, "by itself" in said, cycles_in(printed)), (2, True, []))
     once = f"[ -e once ] && exec {shlex.quote(AGENT)} na; touch once; {link('na', behind=f'| {PASS_ON} 20000')[1]}"
     status, printed, said = witness("cycle", "endless.fio", "again", "--link", once, *CUT[:4], "--every", "60..60", "--cycles", "1", "--trust-off")
@@ -120,7 +126,7 @@ def started_anew():
     if subprocess.run(apart, stdout=subprocess.DEVNULL, stderr=subprocess.DEVNULL).returncode:
         return skip("boot id", "a machine that is started anew: nothing is mounted over its number here")
     own = link("sa")[1].replace("exec ", "exec unshare -m sh -c 'mount --bind boot /proc/sys/kernel/random/boot_id; exec \"$@\"' sh ")
-    off = ("--off", "kill -KILL $(cat agent)", "--on", "cat /proc/sys/kernel/random/uuid >boot", "--every", "0.1..0.2")
+    off = ("--off", KILL_TOLD, "--on", "cat /proc/sys/kernel/random/uuid >boot", "--every", "0.1..0.2")
     status, printed, _ = witness("cycle", "long.fio", "anew", "--link", own, *off, "--cycles", "2")
     tell("two cuts that are shown", (status, [it["cut"] for it in rows_of("anew")]), (0, ["start", "start"]))
     tell_has("the last line", last_lines(printed)[0], "; 2 cuts, ")
@@ -132,11 +138,13 @@ def fallen_drives():
     failed write. Before that it is one."""
     endless()
     env = {"LD_PRELOAD": LIAR, "LIE": "fallen:1", "LIE_TARGET": "/fd", "LIE_UNTIL": os.path.abspath("fell")}
-    off = ("--off", "touch fell", "--on", "rm -f fell", "--every", "0.2..0.3", "--drive-only")
+    off = ("--off", f"{until_told()}; touch fell", "--on", "rm -f fell", "--every", "0.2..0.3", "--drive-only")
     status, printed, said = witness("cycle", "endless.fio", "fallen", *link("fd"), *off, "--cycles", "2", env=env)
     tell("a drive that falls", (status, [(it["cut"], it["failed"], it["faults"]) for it in rows_of("fallen")]), (0, [("fall", 0, 0)] * 2))
-    slowly = ("--off", "touch slow-on", "--on", "(sleep 2; rm -f slow-on) >/dev/null 2>&1 &", *off[4:])
-    late = {**env, "LIE_TARGET": "/sl", "LIE_UNTIL": os.path.abspath("slow-on"), "LIE_READS_FALL": "1"}
+    log = os.path.abspath("slow.log")
+    ready = f": >{log}; (until grep -q ^read {log}; do sleep 0.02; done; sleep 0.5; rm -f slow-on) >/dev/null 2>&1 &"
+    slowly = ("--off", f"{until_told()}; touch slow-on", "--on", ready, *off[4:])
+    late = {**env, "LIE_TARGET": "/sl", "LIE_UNTIL": os.path.abspath("slow-on"), "LIE_READS_FALL": "1", "LIE_READS": "1", "LIE_LOG": log}
     status, printed, said = witness("cycle", "endless.fio", "slowly", *link("sl"), *slowly, "--cycles", "1", env=late)
     tell("a drive that answers no read until some time behind --on", (status, [(it["cut"], it["faults"]) for it in rows_of("slowly")], "may not be ready yet" in said), (0, [("fall", 0)], True))
     hangs = {**env, "LIE_TARGET": "/hd", "LIE_FALLS_SLOWLY": "1"}
@@ -166,7 +174,7 @@ def other_drives():
     tell("another drive", (status, printed, "--other-drive takes it" in said), (2, "", True))
     os.mkdir("apart") # (where no later run's state lies beside it)
     tell("which is asked for", run("check", "two.fio", "od2", written("apart/od1.state", read("od1.state")), "--other-drive")[0], 1)
-    status, printed, said = witness("check", "two.fio", "od1.state", *link("od2"), "--wait", "3")
+    status, printed, said = witness("check", "two.fio", "od1.state", *link("od2"))
     tell("another drive at an agent", (status, printed, "it is another drive" in said), (2, "", True))
     bytes_, refused = read("od1.state"), 0
     for at in range(len(bytes_)):
@@ -176,10 +184,10 @@ def other_drives():
     tell("a state with a flipped bit is refused", refused, len(bytes_))
     status, _, _ = witness("cycle", "long.fio", "moved", *link("om1"), *CUT, "--cycles", "1", "--trust-off")
     tell("a series", status, 0)
-    status, printed, said = witness("cycle", "long.fio", "moved", *link("om2"), *CUT, "--cycles", "2", "--trust-off", "--resume", "--wait", "3")
+    status, printed, said = witness("cycle", "long.fio", "moved", *link("om2"), *CUT, "--cycles", "2", "--trust-off", "--resume", "--wait", "10")
     tell("that is resumed on another drive", (status, cycles_in(printed), "No such file" in said), (2, [], True))
     write("om3", bytes(4096 * BLOCK))
-    status, printed, said = witness("cycle", "long.fio", "moved", *link("om3"), *CUT, "--cycles", "2", "--trust-off", "--resume", "--wait", "3")
+    status, printed, said = witness("cycle", "long.fio", "moved", *link("om3"), *CUT, "--cycles", "2", "--trust-off", "--resume")
     tell("or on another file", (status, cycles_in(printed), "it is another drive" in said), (2, [], True))
 
 
@@ -241,17 +249,17 @@ def nights_that_go_on():
     for what, behind in (("breaks", f"| {PASS_ON} 100000"), ("falls silent", f"| {{ {PASS_ON} 100000; exec sleep {9 * HANG}; }}")):
         once = f"[ -e once ] && exec {shlex.quote(AGENT)} gt; touch once; "
         own = link("gt", behind=behind)[1]
-        status, printed, said = witness("check", "two.fio", "gs", "--link", once + own, "--quiet", "500", "--wait", "30")
+        status, printed, said = witness("check", "two.fio", "gs", "--link", once + own, "--quiet", "3000", "--wait", str(HANG))
         tell(f"a link that {what} once within a check", (status, printed, "the check begins anew" in said), (0, report([]), True))
         os.remove("once")
-    off = f"kill -KILL $(cat agent); mv gl gone; (sleep 2; mv gone gl) >/dev/null 2>&1 &"
+    off = f"{KILL_TOLD}; mv gl gone; (sleep 2; mv gone gl) >/dev/null 2>&1 &"
     status, printed, _ = witness("cycle", "long.fio", "late", *link("gl"), "--off", off, *CUT[2:], "--cycles", "2", "--trust-off")
     tell("a target that comes back late", (status, len(cycles_in(printed))), (0, 2))
-    status, printed, said = witness("cycle", "long.fio", "gone", *link("gg"), "--off", "kill -KILL $(cat agent); rm gg", *CUT[2:], "--cycles", "2", "--trust-off", "--wait", "3")
+    status, printed, said = witness("cycle", "long.fio", "gone", *link("gg"), "--off", f"{KILL_TOLD}; rm gg", *CUT[2:], "--cycles", "2", "--trust-off", "--wait", "10")
     rows = rows_of("gone")
     tell("one that doesn't come back", (status, len(rows), rows[0]["faults"] == rows[0]["checked"] > 0, [*rows[0]["kinds"]]), (1, 1, True, ["unread"]))
-    harm = "kill -KILL $(cat agent); printf abc | dd of=gb bs=1 seek=100 conv=notrunc 2>/dev/null"
-    status, printed, _ = witness("cycle", "two.fio", "bytes", *link("gb"), "--off", harm, *CUT[2:], "--cycles", "2", "--trust-off", "--keep-going")
+    harm = f"{until_told(calls=ALL_OF_TWO)}; {KILL}; printf abc | dd of=gb bs=1 seek=100 conv=notrunc 2>/dev/null"
+    status, printed, _ = witness("cycle", "two.fio", "bytes", *link("gb", "--by", "threads"), "--off", harm, *CUT[2:], "--cycles", "2", "--trust-off", "--keep-going")
     tell("bytes that the cut has left in its first block", (status, len(cycles_in(printed))), (1, 2))
     job("pattern.fio", blocks=64, writes=4096, more="verify=pattern\nverify_pattern=0x5a\n")
     status, printed, said = witness("cycle", "pattern.fio", "patterns", *link("gp"), *CUT, "--cycles", "2", "--trust-off")
@@ -270,7 +278,7 @@ def kept_nights():
     tell("its lines are whole again", [it.get("cycle") for it in rows_of("kn")], [1, 2])
     tell("what was ordered and told is known", [rows_of("kn")[1].get(it) for it in ("run", "ordered", "told", "in_flight")], [rows[1][it] for it in ("run", "ordered", "told", "in_flight")])
     powered = ("--link", f"[ -e power ] || exit; {link('kp')[1]}")
-    off = ("--off", "rm power; kill -KILL $(cat agent)", "--on", "touch power", *CUT[4:], "--trust-off", "--wait", "10")
+    off = ("--off", f"{until_told()}; rm power; {KILL}", "--on", "touch power", *CUT[4:], "--trust-off")
     write("power", "")
     tell("a cycle on a machine that has power", witness("cycle", "long.fio", "kp-series", *powered, *off, "--cycles", "1")[0], 0)
     os.remove("power")

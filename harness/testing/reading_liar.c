@@ -1,7 +1,7 @@
 /* How a target is read, a part of the liar. LIE_READS tells each read of it: `read NAME`, and LIE_PLACES where:
  * `read at BYTE, LENGTH`. LIE_UNREADABLE=BYTE,BYTE.. fails each read of the target that has one of these bytes, and
  * LIE_READS_FALL each one while the file LIE_UNTIL is there. LIE_TOGETHER=N has the first N reads wait for each
- * other, up to two seconds, and end in the opposite order; a line `alone` tells where one of them hasn't
+ * other, up to eight seconds, and end in the opposite order; a line `alone` tells where one of them hasn't
  * N - 1 others. */
 #include "liar.h"
 
@@ -14,7 +14,7 @@
 #include <time.h>
 #include <unistd.h>
 
-enum { LONGEST = 2000, A_STEP = 2000 };
+enum { LONGEST = 8000, A_STEP = 2000 };
 
 static pthread_mutex_t lock = PTHREAD_MUTEX_INITIALIZER;
 static long begun, ended;

@@ -15,7 +15,8 @@ def run_numbers():
     tell("two runs have two numbers", first != run_of("tue"), True)
     check("the lost run", "two.fio", "named", "tue", list(range(64)))
     tell("numbers of many bits", all(it > 2**32 for it in (first, run_of("tue"))), True)
-    ran = subprocess.Popen([TARGET, "write", "long.fio", "named2", "mon"], **QUIET)
+    endless = {**os.environ, "LD_PRELOAD": LIAR, "LIE": "stalled:1", "LIE_TARGET": "/named2"}
+    ran = subprocess.Popen([TARGET, "write", "long.fio", "named2", "mon"], env=endless, **QUIET)
     await_file("mon.old")
     ran.kill()
     ran.wait()

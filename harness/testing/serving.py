@@ -1,19 +1,26 @@
 """What the tests of fleets share: job files, servers over files, and what a check printed."""
+import collections
 import os
 import re
 import shlex
 import struct
 import subprocess
 
-from trying import BLOCK, HANG, OUT, await_file, await_text, read, run, write
+from trying import BLOCK, HANG, OUT, await_file, await_text, await_that, read, run, write
 
 TOP = os.path.dirname(os.path.dirname(OUT))
 FLEET, SERVER = f"{TOP}/harness/fleet", f"{OUT}/fleet-server"
+# So many writes of a job are in flight at once, at most, where a test says no other depth.
+DEPTH = 8
+# For how many seconds a client waits for its servers, where they never give it all that it waits
+# for. What they do give has to come within that: on a slow machine it is asked again, with more of
+# them.
+FEW, MORE = 3, HANG // 3
 # (The report of a map has the kinds behind it, and is none of these.)
 LINE = re.compile(r"^server (\d+) job (\d+): report checked (\d+) faults (\d+) end (\w+).* first ([\d -]*)$", re.M)
 
 
-def job_file(name, jobs=2, blocks=256, writes=4096, depth=8):
+def job_file(name, jobs=2, blocks=256, writes=4096, depth=DEPTH):
     """Makes a job file of so many jobs."""
     text = "".join(f"[j{at}]\nrw=randwrite\nbs={BLOCK}\nsize={blocks * BLOCK}\nio_size={writes * BLOCK}\niodepth={depth}\n" for at in range(jobs))
     write(name, text)
@@ -80,16 +87,63 @@ def fleet(*words, **more):
     return run(*words, program=FLEET, **more)
 
 
-def fleet_until(part, said_by, *words):
-    """Has a fleet write, and pulls its trigger once this file has that part: its status, what it
-    printed, and what it said, which is in "fleet.said"."""
+def fleet_in_time(holds, *words, **more):
+    """Runs a client that doesn't get all that it waits for: its status, what it printed and what it
+    said, of which this has to hold. Where it doesn't, the client has more time, once."""
+    found = fleet(*words, "--wait", str(FEW), **more)
+    return found if holds(*found) else fleet(*words, "--wait", str(MORE), **more)
+
+
+def fleet_saying(part, *words, **more):
+    """The same where it has to say this part, or parts."""
+    parts = [part] if isinstance(part, str) else part
+    return fleet_in_time(lambda status, printed, said: all(it in said for it in parts), *words, **more)
+
+
+def fleet_once(awaits, *words):
+    """Has a fleet write, and pulls its trigger once this has waited: its status, what it printed,
+    and what it said, which is in "fleet.said"."""
     with open("fleet.said", "wb") as said:
         writing = subprocess.Popen([FLEET, "write", *words, "--trigger-file", "pulled"], stdin=subprocess.DEVNULL, stdout=subprocess.PIPE, stderr=said, text=True)
-    await_text(said_by, part)
+    awaits()
     write("pulled", "")
     printed = writing.communicate(timeout=HANG)[0]
     os.remove("pulled")
     return writing.returncode, printed, read("fleet.said").decode()
+
+
+def fleet_until(part, said_by, *words):
+    """Has a fleet write until this file has that part."""
+    return fleet_once(lambda: await_text(said_by, part), *words)
+
+
+def fleet_until_done(servers, *words):
+    """Has a fleet write until each job at each server has a write that is done: so a check has
+    blocks to check, however late a server comes to write."""
+    files = {place.split("@")[0] for at in range(servers.count) for place in servers.places or servers.targets(at)}
+    return fleet_once(lambda: await_done(files, servers.count * len(servers.places or servers.targets(0))), *words)
+
+
+def await_done(files, places):
+    """Waits until so many jobs at servers have more writes of the run that is begun than are in
+    flight at once, in these files."""
+    await_text("fleet.said", " is begun")
+    number = int(re.search(r"run (\d+) is begun", read("fleet.said").decode())[1])
+
+    def are_done():
+        fronts = [struct.unpack_from(">QII", data, at) for data in map(read, files) for at in range(0, len(data) - BLOCK + 1, BLOCK)]
+        counts = collections.Counter((server, job) for run_number, server, job in fronts if run_number == number)
+        return sum(it > DEPTH for it in counts.values()) == places
+
+    await_that(are_done, "a write of each job that is done")
+
+
+def turns(least, is_enough):
+    """The numbers of turns, and how many times as slow each is: so many, and slower ones behind
+    them where too little has come to its end by then, as on a slow machine."""
+    for turn in range(least + 6):
+        if turn < least or not is_enough():
+            yield turn, 1 if turn < least else 5
 
 
 def earliest(data):

@@ -6,10 +6,10 @@ import subprocess
 
 from nights import rows_of
 from trying import HANG, LIAR, WITNESS, await_file, await_that, read, run, tell, write
-from witness import AGENT, QUIET, cycles_in, endless, witness
+from witness import AGENT, QUIET, cycles_in, endless, until_told, witness
 
 # The cut ends both agents at once, and says so; what gives the power back says that.
-OFF = "echo off >>events; kill -KILL $(cat agent1) $(cat agent2)"
+OFF = f"echo off >>events; {until_told('agent1')}; {until_told('agent2')}; kill -KILL $(cat agent1) $(cat agent2)"
 POWER = ("--off", OFF, "--on", "echo on >>events", "--trust-off", "--seed", "7")
 
 
@@ -39,7 +39,7 @@ def one_cut_for_all():
     events()
     words = ("cycle", "endless.fio", "pair", *way(1, "p1"), *way(2, "p2", "sleep 0.4; "), *POWER, "--every", "0.2..0.3")
     status, printed, _ = witness(*words, "--cycles", "3")
-    tell("two drives", (status, printed.splitlines()[-1]), (0, "sound: drive 1, 2"))
+    tell("two drives", (status, printed.splitlines()[-1:]), (0, ["sound: drive 1, 2"]))
     cycle = ["off", *["ended"] * 2, "on", *["begins", "ended"] * 2]
     seen = [it.split()[0] for it in events()]
     turns = " ".join(seen).split("off")
@@ -68,7 +68,7 @@ def one_of_them():
         tell("so many cycles", [len(rows_of(f"{name}/{it}")) for it in (1, 2)], [cycles] * 2)
     gone = ("--link", "sleep 0.1; true")
     for name, more, cycles in (("waits", (), 1), ("leaves", ("--keep-going",), 2)):
-        status, printed, said = witness(*words[:2], name, *way(1, "l1"), *gone, *words[2:3], "kill -KILL $(cat agent1)", *words[4:], "--wait", "3", *more)
+        status, printed, said = witness(*words[:2], name, *way(1, "l1"), *gone, *words[2:3], f"{until_told('agent1')}; kill -KILL $(cat agent1)", *words[4:], "--wait", "10", *more)
         tell(f"a drive that isn't there: the other {name}", (status, printed.splitlines()[-1], "drive-witness 2: " in said), (2, "not checked whole: drive 2; sound: drive 1", True))
         tell("so many cycles of the other", len(rows_of(f"{name}/1")), cycles)
 

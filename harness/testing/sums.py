@@ -4,7 +4,7 @@ import shlex
 import subprocess
 
 from crc32c import crc32c
-from trying import AGENT, BLOCK, HERE, report, tell, write
+from trying import AGENT, BLOCK, HANG, HERE, report, tell, write
 from witness import CHUNK, PASS_ON, WELCOME, endless, link, witness
 
 COMMON = f"{os.path.dirname(HERE)}/common"
@@ -41,14 +41,14 @@ def changed_bytes():
     tell("a run", witness("write", "two.fio", "cs", *link("ct"))[0], 0)
     for what, at in (("a welcome", 100), ("the head of a piece", WELCOME + 12), ("a block", WELCOME + CHUNK + 5 * BLOCK + 700)):
         once = f"[ -e once ] && exec {shlex.quote(AGENT)} ct; touch once; {link('ct', behind=f'| {PASS_ON} {at} flip')[1]}"
-        tell(f"{what} of a check", witness("check", "two.fio", "cs", "--link", once, "--wait", "30")[:2], (0, report([])))
+        tell(f"{what} of a check", witness("check", "two.fio", "cs", "--link", once, "--wait", str(HANG))[:2], (0, report([])))
         os.remove("once")
     endless()
     for what, way, said_of_it in (
         ("an order", {"before": f"{PASS_ON} 300700 flip |"}, "an order came otherwise than it was sent"),
         ("a notice", {"behind": f"| {PASS_ON} {WELCOME + 24 * 300 + 5} flip"}, "the link said what no agent says"),
     ):
-        status, printed, said = witness("write", "endless.fio", "es", *link("et", **way), "--quiet", "2000")
+        status, printed, said = witness("write", "endless.fio", "es", *link("et", **way), "--quiet", "10000")
         tell(f"{what}: the cut", (status, "at the cut" in printed, said_of_it in said), (0, True, True))
         status, printed, _ = witness("check", "endless.fio", "es", *link("et"))
         tell(f"{what}: no false fault", (status, "faults 0 end whole" in printed), (0, True))

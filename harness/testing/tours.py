@@ -13,7 +13,7 @@ import time
 from nights import last_line, last_lines, rows_of
 from tour_records import BEGUN, ENDED, counted, records, stamp_in, tiles_in
 from trying import BLOCK, HANG, HERE, LIAR, QUIET, WITNESS, as_often, await_that, job, read, stamp, tell, tell_has, write
-from witness import link, witness
+from witness import KILL, link, until_told, witness
 
 TILE, TILES, LARGE = 64, 24, 4096
 SPAN = TILE * BLOCK
@@ -23,7 +23,13 @@ HARM = f"{shlex.quote(sys.executable)} -B {shlex.quote(f'{HERE}/tour_records.py'
 def cut_behind(tour, ends, then=""):
     """A command that cuts once so many more tiles have come to an end, or none does any more."""
     size = f"$(wc -c <{tour}/tiles)"
-    return f"n={size}; i=0; until [ {size} -ge $((n + {ends} * 208)) ] || [ $((i += 1)) -gt 100 ]; do sleep 0.01; done; kill -KILL $(cat agent){then}"
+    return f"n={size}; i=0; until [ {size} -ge $((n + {ends} * 208)) ] || [ $((i += 1)) -gt 300 ]; do sleep 0.01; done; {KILL}{then}"
+
+
+def all_ended(tour, ends):
+    """A command that waits until so many runs of tiles have come to an end since their tour
+    began."""
+    return f"until [ $(wc -c <{tour}/tiles) -ge $((8 + {ends} * 208)) ]; do sleep 0.02; done"
 
 
 def behind_two(tour, log, command):
@@ -161,8 +167,8 @@ def cut_short(tour, target, tiles, *words, then="", env=None):
     """A tour of large tiles, whose runs are cut before they are whole."""
     job("tile.fio", blocks=LARGE, depth=4, more="x_window=16\n")
     words = [*words_of(tour, target, "--tiles", "2", *words, cover=tiles * LARGE * BLOCK, then=then), "--every", "0.1..0.15"]
-    words[words.index("--off") + 1] = f"kill -KILL $(cat agent){then}"
-    return witness(*words, env=env or {})
+    words[words.index("--off") + 1] = f"{until_told()}; {KILL}{then}"
+    return witness(*words, env={**slowly(target), **(env or {})})
 
 
 def tours_refused():

@@ -9,9 +9,9 @@ import time
 
 from nights import last_line, last_lines, rows_of
 from tour_records import BEGUN, records, tiles_in
-from tours import HARM, LARGE, SPAN, TILE, TILES, covered_line, cut_short, harmed, lines_in, lost_by, slowly, told_in, tour_of, words_of
+from tours import HARM, LARGE, SPAN, TILE, TILES, all_ended, covered_line, cut_short, harmed, lines_in, lost_by, slowly, told_in, tour_of, words_of
 from trying import BLOCK, HANG, LIAR, QUIET, WITNESS, as_often, await_that, job, read, tell, write
-from witness import witness
+from witness import KILL, until_told, witness
 
 
 def older_writes():
@@ -30,7 +30,7 @@ def older_writes_of_few():
     to stay, too."""
     job("tile.fio", blocks=LARGE, writes=400, depth=4, more="x_window=16\n")
     words = [*words_of("few", "fw", "--tiles", "2", "--tries", "9", "--keep-going", cover=24 * LARGE * BLOCK)]
-    words[words.index("--off") + 1] = "kill -KILL $(cat agent)"
+    words[words.index("--off") + 1] = f"{until_told()}; {KILL}"
     with subprocess.Popen([WITNESS, *words, "--every", "0.8..0.8"], env={**os.environ, **slowly("fw")}, **QUIET) as ran:
         await_that(lambda: rows_of("few"), "a cycle")
         ran.terminate()
@@ -46,7 +46,7 @@ def lost_tiles():
     wrote: that is asked for no more."""
     job("tile.fio", blocks=4 * LARGE, depth=4, more="x_window=16\n")
     words = [*words_of("lt", "tk", "--tiles", "2", "--tries", "99", cover=8 * LARGE * BLOCK)]
-    words[words.index("--off") + 1] = "kill -KILL $(cat agent)"
+    words[words.index("--off") + 1] = f"{until_told()}; {KILL}"
     with subprocess.Popen([WITNESS, *words, "--every", "0.15..0.15"], **QUIET) as ran:
         await_that(lambda: rows_of("lt"), "a cycle")
         ran.kill()
@@ -80,9 +80,9 @@ def told_before_forgotten():
 def tiles_behind_no_cut():
     """What was whole before the first cut was shown is no part of what is covered, until a cut came behind it:
     there has to be one more."""
-    words = [*words_of("late", "tc", cover=2 * SPAN), "--every", "0.8..0.8"]
+    words = [*words_of("late", "tc", cover=2 * SPAN), "--every", "0.1..0.1"]
     job("tile.fio", blocks=TILE, depth=4, more="x_window=16\n")
-    words[words.index("--off") + 1] = "[ -e again ] || { touch again; kill -KILL $PPID; }; kill -KILL $(cat agent)"
+    words[words.index("--off") + 1] = f"{all_ended('late', 2)}; [ -e again ] || {{ touch again; kill -KILL $PPID; }}; {KILL}"
     status, _, _ = witness(*words)
     tell("a tour whose witness is killed within the first cut", (status, rows_of("late")), (-signal.SIGKILL, []))
     status, printed, _ = witness(*words, "--resume")
@@ -120,12 +120,11 @@ def tours_of_a_drive_alone():
     job("tile.fio", blocks=TILE, depth=4, more="x_window=16\n")
     fell = os.path.abspath("alone-fell")
     env = {"LD_PRELOAD": LIAR, "LIE": "fallen:1", "LIE_TARGET": "/ta", "LIE_UNTIL": fell}
-    words = [*words_of("alone", "ta", cover=4 * SPAN), "--off", f"touch {fell}", "--on", f"rm -f {fell}", "--every", "0.8..0.9", "--drive-only"]
+    words = [*words_of("alone", "ta", cover=4 * SPAN), "--off", f"{all_ended('alone', 4)}; touch {fell}", "--on", f"rm -f {fell}", "--every", "0.1..0.2", "--drive-only"]
     words.remove("--trust-off")
-    began = time.monotonic()
     status, printed, said = witness(*words, env=env)
     rows = rows_of("alone")
-    tell("a tour whose drive alone is cut", (status, {it["cut"] for it in rows}, time.monotonic() - began < 60), (0, {"fall"}, True))
+    tell("a tour whose drive alone is cut", (status, {it["cut"] for it in rows}), (0, {"fall"}))
     tell("all of it was written before the cut, and is covered", ([it["in_flight"] for it in rows], last_line(printed).split(",")[0]), ([0], "sound: covered 1.0 of 1.0 MB"))
     tell("what was told and ordered", [(it["told"], it["ordered"], it["failed"]) for it in rows], [(4 * TILE, 4 * TILE, 0)])
 

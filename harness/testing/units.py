@@ -5,8 +5,8 @@ import re
 import shutil
 import subprocess
 
-from serving import SERVER, TOP, fleet, job_file, reports
-from trying import OUT, QUIET, await_file, await_text, read, skip, tell, write
+from serving import SERVER, TOP, await_done, fleet, fleet_once, job_file, reports
+from trying import HANG, OUT, QUIET, await_file, await_text, read, skip, tell, write
 
 UNIT = f"{TOP}/harness/server/fleet-server@.service"
 
@@ -41,7 +41,7 @@ def units():
     for turn in range(2):
         stopped(words, links, turn)
     server = start(words)
-    tell("and then a run", fleet("write", "unit.fio", "--note", "unit.note", "--after", "0.3", *links)[0], 0)
+    tell("and then a run", fleet_once(lambda: await_done(("unit-a", "unit-b"), 2), "unit.fio", "--note", "unit.note", *links)[0], 0)
     stop(server)
     server = start(words)
     status, printed, _ = fleet("check", "unit.fio", "--note", "unit.note", *links)
@@ -60,14 +60,14 @@ def start(words):
 
 def stop(server):
     server.terminate()
-    return server.wait(60)
+    return server.wait(HANG)
 
 
 def stopped(words, links, turn):
     """A server is stopped in the middle of a run, as systemd stops it: by SIGTERM."""
     server = start(words)
     write("unit.said", "")
-    writing = subprocess.Popen([f"{TOP}/harness/fleet", "write", "unit.fio", "--note", "unit.note", "--after", "30", "--wait", "2", *links], **QUIET)
+    writing = subprocess.Popen([f"{TOP}/harness/fleet", "write", "unit.fio", "--note", "unit.note", "--after", "600", *links], **QUIET)
     await_text("unit.said", "is begun")
     tell(f"turn {turn}: a stop in a run", stop(server), -15)
     writing.kill()

@@ -38,6 +38,19 @@ def kill_agent():
         tell("the agent is there until it is killed", False, True)
 
 
+def until_told(agent="agent", calls=60):
+    """A command that waits until an agent has made so many calls that write, to its link or, by
+    threads, to the target: as soon as it has some writes were told, on a slow machine, too."""
+    made = f"/proc/$(cat {agent})/io" # (not every kernel has it)
+    return f"i=0; until [ ! -e {made} ] || [ $(sed -n 's/^syscw: //p' {made}) -ge {calls} ] || [ $((i += 1)) -gt {5 * HANG} ]; do sleep 0.02; done"
+
+
+# A command that cuts once some writes were told; and how many calls write all of two.fio by
+# threads.
+KILL, ALL_OF_TWO = "kill -KILL $(cat agent)", 2 * 128 + 1
+KILL_TOLD = f"{until_told()}; {KILL}"
+
+
 def put_earlier_state(state):
     """Puts one there that the next run puts aside once its agent has answered: then STATE.old is
     there."""
@@ -164,7 +177,9 @@ def broken_links():
         "a notice that nobody gave": {"behind": f"| {PASS_ON} {LIED} lie"},
     }
     for what, way in ends.items():
-        status, printed, told = witness("write", "long.fio", "bs", "--quiet", "500", *link("bl", **way))
+        # (of what is to be said nothing may come before it)
+        quiet = () if str(LIED) in way.get("behind", "") else ("--quiet", "500")
+        status, printed, told = witness("write", "long.fio", "bs", *quiet, *link("bl", **way))
         tell(f"a link that ends within {what}", (status, "at the cut" in printed), (0, True))
         status, printed, _ = witness("check", "long.fio", "bs", *link("bl"))
         tell(f"a link that ends within {what}: the check", (status in (0, 3), "faults 0 end whole" in printed), (True, True))
@@ -174,7 +189,7 @@ def broken_links():
     tell("a link that falls silent", (status, "at the cut" in printed, "nothing was heard" in said), (0, True, True))
 
     def refused(what, words, part, command="write", state="br"):
-        status, printed, said = witness(command, "two.fio", state, *words, "--wait", "3")
+        status, printed, said = witness(command, "two.fio", state, *words, "--wait", "10")
         tell(f"{what}: the status", (status, printed), (2, ""))
         tell_has(f"{what}: what is said", said, part)
 
@@ -217,7 +232,7 @@ def cycles_in(printed):
 
 def cycles():
     """A series of cycles, stopped and resumed."""
-    off = ("--off", "kill -KILL $(cat agent)", "--on", "true", "--every", "0.15..0.4", "--seed", "7", "--trust-off")
+    off = ("--off", KILL_TOLD, "--on", "true", "--every", "0.15..0.4", "--seed", "7", "--trust-off")
     status, printed, said = witness("cycle", "long.fio", "series", *link("ct"), *off, "--cycles", "5", "--json")
     rows = [json.loads(line) for line in printed.splitlines()]
     tell("five cycles", (status, [it["cycle"] for it in rows]), (0, [1, 2, 3, 4, 5]))
@@ -229,10 +244,8 @@ def cycles():
     tell("a series that is there", (refuse[0], "--resume" in refuse[2]), (2, True))
     refuse = witness("cycle", "two.fio", "series", *link("ct"), *off, "--cycles", "6", "--resume")
     tell("another job", (refuse[0], "another job" in refuse[2]), (2, True))
-    ran = subprocess.Popen([WITNESS, "cycle", "long.fio", "series", *link("ct"), *off, "--cycles", "9", "--resume"], **QUIET)
-    await_file("series/cycle-000006.state")
-    ran.kill()
-    ran.wait()
+    stops = {"LD_PRELOAD": LIAR, "LIE_STOPS": "behind/cycle-000006.state"}
+    tell("it is killed behind a cut", witness("cycle", "long.fio", "series", *link("ct"), *off, "--cycles", "9", "--resume", env=stops)[0], -signal.SIGKILL)
     left = run_of("series/cycle-000006.state")
     status, printed, _ = witness("cycle", "long.fio", "series", *link("ct"), *off, "--cycles", "8", "--resume")
     lines = read("series/cycles.jsonl").splitlines()
@@ -245,7 +258,7 @@ def cycles():
     tell("but not with --keep-going", (status, len(cycles_in(printed))), (1, 3))
     status, printed, _ = witness("cycle", "long.fio", "faulty", *link("cf"), *off, "--cycles", "2", "--resume", "--keep-going")
     tell("a series that is resumed behind faults", (status, len(cycles_in(printed))), (1, 1))
-    status, printed, _ = witness("cycle", "long.fio", "short", *link("cs"), *off[:4], "--trust-off", "--every", "0.1..0.1", "--cycles", "2", env={**env, "LIE": "stalled:1", "LIE_TARGET": "/cs"})
+    status, printed, _ = witness("cycle", "long.fio", "short", *link("cs"), "--off", KILL, *off[2:4], "--trust-off", "--every", "0.1..0.1", "--cycles", "2", env={**env, "LIE": "stalled:1", "LIE_TARGET": "/cs"})
     tell("a series in which nothing was checked", (status, len(cycles_in(printed))), (3, 2))
     status, _, said = witness("cycle", "long.fio", "failing2", *link("ct"), "--off", "false", "--on", "true", "--every", "0.1..0.1")
     tell("a command that doesn't cut", (status, "it didn't cut the power" in said), (2, True))
