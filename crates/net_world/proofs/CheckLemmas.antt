@@ -17,7 +17,6 @@ use Rattle.server_core.specs.declared.input.Input.TheVariants as inputs
 use Rattle.server_core.specs.Check.{Check, progress_after}
 use Rattle.server_core.specs.Hearing.{packets_heard}
 use Rattle.net_world.specs.declared.ready.Ready.{Ready}
-use Rattle.net_world.specs.declared.sent_reply.SentReply.{SentReply}
 use Rattle.net_world.specs.declared.told.WorldAnswer.TheVariants.{Checked}
 use Rattle.net_world.specs.declared.told.Told.{Told}
 use Rattle.net_world.specs.declared.world.World.{World}
@@ -29,7 +28,6 @@ use Rattle.net_world.specs.Contents.{content}
 use Rattle.net_world.specs.Checks.{key_of, report_of, report_by, report_for, check_end, end_of_check_in, end_of_check}
 use Rattle.net_world.specs.Outcomes.{outcome_of_step, met_by_server, end_of_check_met, brings}
 use Rattle.net_world.specs.World.{report_in}
-use Rattle.net_world.specs.Telling.{told_of}
 use Rattle.net_world.specs.Stands.{StandsFor, file}
 use Rattle.net_world.specs.Ends.{Ends}
 use Rattle.net_world.specs.Serving.{entries, ServerEnds}
@@ -38,7 +36,7 @@ use Rattle.net_world.proofs.ServeLemmas.{heard_is}
 use Rattle.net_world.proofs.OutcomeLemmas.{met_ok, met_err}
 use Rattle.net_world.proofs.FileStepLemmas.{HasWritten, file_kept}
 use Rattle.net_world.proofs.FilePlaceLemmas.{IsRead}
-use Rattle.net_world.proofs.EndsLemmas.{ComesTo, goes, stops, refuses, served_ends, unserved_ends}
+use Rattle.net_world.proofs.EndsLemmas.{ComesTo, goes, stops, refuses, told_ends, unserved_ends}
 
 -- ---- the report
 
@@ -115,18 +113,18 @@ check_comes w past s j ready h r is =
     ap (λ x. outcome_of_step (end_of_check_met (trace w past) s x)) (checked_is w past s j ready h r is) in
     record {
       bar = refl;
-      ok = λ served new g. meets ∙ ap outcome_of_step (met_ok (trace w past) s e (packets_heard (opening_of s) (entries past s)) (heard_is w past s) g.free);
+      ok = λ t new g. meets ∙ ap outcome_of_step (met_ok (trace w past) s e (packets_heard (opening_of s) (entries past s)) (heard_is w past s) g.free);
       err = λ fault new g. meets ∙ ap outcome_of_step (met_err (trace w past) s e (packets_heard (opening_of s) (entries past s)) fault
           (heard_is w past s) g.why);
       keeps = refl;
     }
 
-pub check_ends : (w : Setup) (past : List Change) (s j : ℕ) (ready : Ready) (h : IsReady w past s j ready) (r : ReportParts) (served : SentReply) (t : Told)
+pub check_ends : (w : Setup) (past : List Change) (s j : ℕ) (ready : Ready) (h : IsReady w past s j ready) (r : ReportParts) (served t : Told)
     (new : World) → r ≡ report_of (key_of h.now j) h.job ready.state (content w past s j)
-    → ServerEnds w past s (inputs.CheckDone ready.boot ready.attempt j r) new (Ok served) → t ≡ told_of served (Checked r)
+    → ServerEnds w past s (inputs.CheckDone ready.boot ready.attempt j r) new (Ok served) → t ≡ record served { answer = Checked r }
     → Ends w past (happenings.Check s j) new (Ok t)
 check_ends w past s j ready h r served t new is g tells =
-    served_ends w past s (happenings.Check s j) (inputs.CheckDone ready.boot ready.attempt j r) served (Checked r) t new (check_comes w past s j ready h r is) g
+    told_ends w past s (happenings.Check s j) (inputs.CheckDone ready.boot ready.attempt j r) served (Checked r) t new (check_comes w past s j ready h r is) g
     (sym (ap report_in (checked_is w past s j ready h r is))) tells
 
 pub check_fails : (w : Setup) (past : List Change) (s j : ℕ) (ready : Ready) (h : IsReady w past s j ready) (r : ReportParts) (fault : Fault) (new : World)

@@ -1,11 +1,10 @@
 -- How what comes to a server ends, as an event of a world.
-use Rattle.std.proofs.Common.{◌≡◌, refl, sym, ◌∙◌, ap, subst, inl, inr, ◌⊎◌, ℕ, Bool, true, false, ◌&&◌, List, ◌∷◌, length, Option, Some, None, Ok, Err}
+use Rattle.std.proofs.Common.{◌≡◌, refl, sym, ◌∙◌, ap, subst, inl, inr, ◌⊎◌, ℕ, Bool, true, false, ◌&&◌, List, ◌∷◌, Option, Some, None, Result, Ok, Err}
 use Rattle.fc_base.specs.declared.fault.Fault.{Fault}
 use Rattle.fc_base.specs.declared.fault.Fault.TheVariants.{NoSave}
 use Rattle.fc_base.specs.declared.fault.FaultSort.{FaultSort}
 use Rattle.fc_base.specs.declared.fault.FaultSort.TheVariants as sorts
 use Rattle.fc_base.specs.Fault.{sort_of}
-use Rattle.messages.specs.declared.refusal.Act.{Act}
 use Rattle.messages.specs.declared.node.Node.{Node}
 use Rattle.messages.specs.declared.node.Node.TheVariants as nodes
 use Rattle.messages.specs.Senses.{is_drop}
@@ -17,11 +16,10 @@ use Rattle.engine.specs.declared.issue.Ticket.{Ticket}
 use Rattle.server_core.specs.declared.input.WriteEnd.{WriteEnd}
 use Rattle.server_core.specs.declared.input.WriteEnd.TheVariants as write_ends
 use Rattle.server_core.specs.Hearing.{packets_heard}
+use Rattle.server_core.specs.FrameAnswers as framed
 use Rattle.server_core.specs.FrameAnswers.{sense}
 use Rattle.server_core.specs.Answers as answers
-use Rattle.net_world.specs.declared.sent_reply.SentReply.{SentReply}
 use Rattle.net_world.specs.declared.told.WorldAnswer.{WorldAnswer}
-use Rattle.net_world.specs.declared.told.WorldAnswer.TheVariants as answers_told
 use Rattle.net_world.specs.declared.told.Told.{Told}
 use Rattle.net_world.specs.declared.world.World.{World}
 use Rattle.net_world.specs.Setup.{Setup}
@@ -38,15 +36,14 @@ use Rattle.net_world.specs.Events.{happening_of_end}
 use Rattle.net_world.specs.Finding.{IsOpen, FindsWrite}
 use Rattle.net_world.specs.Outcomes.{Does, Refuses, outcome_of_step, where_saved, met_by_server, comes_to_server}
 use Rattle.net_world.specs.Outcomes.{said_to_server, lost_by, comes_to, delivery, end_of_write, brings, unless_barred, outcome}
-use Rattle.net_world.specs.World.{answer, and_outcome, told_by, told_of_happening, answer_of_issue, act, frame_count}
-use Rattle.net_world.specs.Telling.{told_of, issue_told}
+use Rattle.net_world.specs.World.{answer, and_outcome, told_by, told_of_happening, answer_of_issue, act}
 use Rattle.net_world.specs.Stands.{StandsFor}
 use Rattle.net_world.specs.Ends as ends
 use Rattle.net_world.specs.Ends.{Ends, changes_after}
 use Rattle.net_world.specs.Serving as serving
 use Rattle.net_world.specs.Serving.{entries, step_by, Serves, IsBarred, Refuses as ServerRefuses, ServerEnds}
-use Rattle.net_world.proofs.ServeLemmas.{heard_is, up_of}
-use Rattle.net_world.proofs.OutcomeLemmas.{DroppedOr, met_ok, met_err, act_is, frame_ok, frame_err}
+use Rattle.net_world.proofs.ServeLemmas.{same_told, heard_is, up_of}
+use Rattle.net_world.proofs.OutcomeLemmas.{DroppedOr, met_ok, met_err, act_is, frame_ok, frame_err, frame_answer}
 
 -- ---- how an event ends, by what comes of it
 
@@ -96,29 +93,41 @@ no_answer false x landed = refl
 -- What happens comes to the server as this, and is barred as all that asks for the server to be on.
 pub record ComesTo (w : Setup) (past : List Change) (s : ℕ) (e : Happening) (i : FrameInput) : Type 0 where
   pub bar : barring_fault w (trace w past) (frames_sent w (steps past)) e ≡ unless_on w (trace w past) (nodes.Server s)
-  pub ok : (served : SentReply) (new : World) → Serves w past s i new served → brings w past e ≡ Does (Met (step_by past s i))
+  pub ok : (t : Told) (new : World) → Serves w past s i new t → brings w past e ≡ Does (Met (step_by past s i))
   pub err : (fault : Fault) (new : World) → ServerRefuses w past s i fault new → brings w past e ≡ Refuses fault
   pub keeps : is_drop (sense (opening_of s) (entries past s) i) ≡ false
 
-same_told : (served : SentReply) (a b : WorldAnswer) (first sent : ℕ) (asked : Act) → a ≡ b → served.first ≡ first → served.sent ≡ sent → served.act ≡ asked
-    → told_of served a ≡ record { answer = b; first = first; sent = sent; act = asked }
-same_told served a b first sent asked e f k x = rw (e, f, k, x) refl
-
-told_is : (w : Setup) (past : List Change) (s : ℕ) (e : Happening) (i : FrameInput) (served : SentReply) (a : WorldAnswer) (new : World) → Serves w past s i new served
+-- What a step is told with this answer.
+told_is : (w : Setup) (past : List Change) (s : ℕ) (e : Happening) (i : FrameInput) (served : Told) (a : WorldAnswer) (new : World) → Serves w past s i new served
     → a ≡ answer w past e
-    → told_by w past e (Does (Met (step_by past s i))) ≡ Ok (told_of served a)
+    → told_by w past e (Does (Met (step_by past s i))) ≡ Ok (record served { answer = a })
 told_is w past s e i served a new h is =
-    ap (λ t. Ok t)
-    (sym (same_told served a (answer w past e) (length (frames_sent w (steps past))) (frame_count w past (Met (step_by past s i)))
-    (act w past (Met (step_by past s i))) is h.first_is h.sent_is (h.act_is ∙ sym (act_is w past s i))))
+    ap (λ x. Ok x)
+    (sym (same_told (record served { answer = a }) _ _ _ _ is (ap (λ (t : Told). t.first) h.told_is) (ap (λ (t : Told). t.sent) h.told_is)
+    (ap (λ (t : Told). t.act) h.told_is ∙ sym (act_is w past s i))))
 
--- What is answered.
-pub served_ends : (w : Setup) (past : List Change) (s : ℕ) (e : Happening) (i : FrameInput) (served : SentReply) (a : WorldAnswer) (t : Told) (new : World)
+-- What is told with an answer of the world's own.
+pub told_ends : (w : Setup) (past : List Change) (s : ℕ) (e : Happening) (i : FrameInput) (served : Told) (a : WorldAnswer) (t : Told) (new : World)
     → ComesTo w past s e i → Serves w past s i new served → a ≡ answer w past e
-    → t ≡ told_of served a → Ends w past e new (Ok t)
-served_ends w past s e i served a t new c h is tells =
+    → t ≡ record served { answer = a } → Ends w past e new (Ok t)
+told_ends w past s e i served a t new c h is tells =
     does w past e (Met (step_by past s i)) t new (goes w past e (c.bar ∙ h.on) ∙ c.ok served new h)
     (told_is w past s e i served a new h is ∙ ap (λ x. Ok x) (sym tells)) h.stands
+
+-- The event is answered what the server answers of writes.
+Answers : Setup → List Change → ℕ → Happening → FrameInput → Type 0
+Answers w past s e i = answer_of_issue (framed.issue (opening_of s) (entries past s) i) ≡ answer w past e
+
+-- What is told as the server's step.
+served_as : (w : Setup) (past : List Change) (s : ℕ) (e : Happening) (i : FrameInput) (t : Told) (new : World) → Serves w past s i new t → Answers w past s e i
+    → told_by w past e (Does (Met (step_by past s i))) ≡ Ok t
+unfolding Answers
+served_as w past s e i t new h is = told_is w past s e i t t.answer new h (ap (λ (x : Told). x.answer) h.told_is ∙ is)
+
+served_ends : (w : Setup) (past : List Change) (s : ℕ) (e : Happening) (i : FrameInput) (t : Told) (new : World)
+    → ComesTo w past s e i → Serves w past s i new t → Answers w past s e i → Ends w past e new (Ok t)
+served_ends w past s e i t new c h is =
+    does w past e (Met (step_by past s i)) t new (goes w past e (c.bar ∙ h.on) ∙ c.ok t new h) (served_as w past s e i t new h is) h.stands
 
 refused_ends : (w : Setup) (past : List Change) (s : ℕ) (e : Happening) (i : FrameInput) (fault : Fault) (new : World) → ComesTo w past s e i
     → IsBarred w past s fault new ⊎ ServerRefuses w past s i fault new
@@ -147,7 +156,7 @@ pub record Meets (w : Setup) (past : List Change) (s : ℕ) (e : Happening) (eve
 issue_comes : (w : Setup) (past : List Change) (s j : ℕ) (e : Happening) → Meets w past s e (inputs.Issue j) → ComesTo w past s e (inputs.Issue j)
 issue_comes w past s j e m = record {
   bar = m.bar;
-  ok = λ served new h. m.meets ∙ ap outcome_of_step (met_ok (trace w past) s (inputs.Issue j) (packets_heard (opening_of s) (entries past s))
+  ok = λ t new h. m.meets ∙ ap outcome_of_step (met_ok (trace w past) s (inputs.Issue j) (packets_heard (opening_of s) (entries past s))
       (heard_is w past s) h.free);
   err = λ fault new h. m.meets ∙ ap outcome_of_step (met_err (trace w past) s (inputs.Issue j) (packets_heard (opening_of s) (entries past s)) fault
       (heard_is w past s) h.why);
@@ -156,22 +165,18 @@ issue_comes w past s j e m = record {
 
 -- ---- a worker asks for a write
 
-issue_answer : (w : Setup) (past : List Change) (s j : ℕ) (served : SentReply) (new : World) → Serves w past s (inputs.Issue j) new served
-    → answer_of_issue served.issue ≡ answer w past (happenings.Issue s j)
-issue_answer w past s j served new h = ap answer_of_issue (h.issue_is ∙ ap (λ list. answers.issue (opening_of s) list (inputs.Issue j)) (heard_is w past s))
+issue_answer : (w : Setup) (past : List Change) (s j : ℕ) → Answers w past s (happenings.Issue s j) (inputs.Issue j)
+unfolding Answers
+issue_answer w past s j = ap (λ list. answer_of_issue (answers.issue (opening_of s) list (inputs.Issue j))) (heard_is w past s)
 
 asks : (w : Setup) (past : List Change) (s j : ℕ) → Meets w past s (happenings.Issue s j) (inputs.Issue j)
 asks w past s j = record { bar = refl; meets = refl }
 
-pub issue_ends : (w : Setup) (past : List Change) (s j : ℕ) (served : SentReply) (t : Told) (new : World) → ServerEnds w past s (inputs.Issue j) new (Ok served)
-    → t ≡ issue_told served → Ends w past (happenings.Issue s j) new (Ok t)
-issue_ends w past s j served t new h tells =
-    served_ends w past s (happenings.Issue s j) (inputs.Issue j) served (answer_of_issue served.issue) t new
-    (issue_comes w past s j (happenings.Issue s j) (asks w past s j)) h (issue_answer w past s j served new h) tells
-
-pub issue_fails : (w : Setup) (past : List Change) (s j : ℕ) (fault : Fault) (new : World) → ServerEnds w past s (inputs.Issue j) new (Err fault)
-    → Ends w past (happenings.Issue s j) new (Err fault)
-issue_fails w past s j fault new h =
+pub issue_ends : (w : Setup) (past : List Change) (s j : ℕ) (result : Result Told Fault) (new : World) → ServerEnds w past s (inputs.Issue j) new result
+    → Ends w past (happenings.Issue s j) new result
+issue_ends w past s j (Ok t) new h =
+    served_ends w past s (happenings.Issue s j) (inputs.Issue j) t new (issue_comes w past s j (happenings.Issue s j) (asks w past s j)) h (issue_answer w past s j)
+issue_ends w past s j (Err fault) new h =
     unserved_ends w past s (happenings.Issue s j) (inputs.Issue j) fault new (issue_comes w past s j (happenings.Issue s j) (asks w past s j)) h
 
 -- ---- a write has ended
@@ -186,9 +191,11 @@ brings_is : (w : Setup) (past : List Change) (s j k : ℕ) (end : WriteEnd)
 brings_is w past s j k write_ends.Done = refl
 brings_is w past s j k write_ends.Failed = refl
 
-answer_is : (w : Setup) (past : List Change) (s j k : ℕ) (end : WriteEnd) → answers_told.Plain ≡ answer w past (happening_of_end end s j k)
-answer_is w past s j k write_ends.Done = refl
-answer_is w past s j k write_ends.Failed = refl
+answer_is : (w : Setup) (past : List Change) (s j k : ℕ) (end : WriteEnd) (ticket : Ticket)
+    → Answers w past s (happening_of_end end s j k) (inputs.WriteDone ticket end)
+unfolding Answers
+answer_is w past s j k write_ends.Done ticket = refl
+answer_is w past s j k write_ends.Failed ticket = refl
 
 ended_comes : (w : Setup) (past : List Change) (s j k : ℕ) (end : WriteEnd) (ticket : Ticket) (rec : JobParts) → IsOpen w past s j k ticket rec
     → ComesTo w past s (happening_of_end end s j k) (inputs.WriteDone ticket end)
@@ -198,25 +205,20 @@ ended_comes w past s j k end ticket rec h =
     ∙ ap (λ t. outcome_of_step (met_by_server (trace w past) s (inputs.WriteDone t end))) (sym h.ticket_is) in
     record {
       bar = bar_is w past s j k end ∙ h.there ∙ sym h.on;
-      ok = λ served new g. meets ∙ ap outcome_of_step (met_ok (trace w past) s (inputs.WriteDone ticket end) (packets_heard (opening_of s) (entries past s))
+      ok = λ t new g. meets ∙ ap outcome_of_step (met_ok (trace w past) s (inputs.WriteDone ticket end) (packets_heard (opening_of s) (entries past s))
           (heard_is w past s) g.free);
       err = λ fault new g. meets ∙ ap outcome_of_step (met_err (trace w past) s (inputs.WriteDone ticket end)
           (packets_heard (opening_of s) (entries past s)) fault (heard_is w past s) g.why);
       keeps = refl;
     }
 
-pub end_ends : (w : Setup) (past : List Change) (s j k : ℕ) (end : WriteEnd) (ticket : Ticket) (rec : JobParts) (served : SentReply) (t : Told) (new : World)
+pub end_ends : (w : Setup) (past : List Change) (s j k : ℕ) (end : WriteEnd) (ticket : Ticket) (rec : JobParts) (result : Result Told Fault) (new : World)
     → IsOpen w past s j k ticket rec
-    → ServerEnds w past s (inputs.WriteDone ticket end) new (Ok served) → t ≡ told_of served answers_told.Plain
-    → Ends w past (happening_of_end end s j k) new (Ok t)
-end_ends w past s j k end ticket rec served t new h g tells =
-    served_ends w past s (happening_of_end end s j k) (inputs.WriteDone ticket end) served answers_told.Plain t new
-    (ended_comes w past s j k end ticket rec h) g (answer_is w past s j k end) tells
-
-pub end_fails : (w : Setup) (past : List Change) (s j k : ℕ) (end : WriteEnd) (ticket : Ticket) (rec : JobParts) (fault : Fault) (new : World)
-    → IsOpen w past s j k ticket rec
-    → ServerEnds w past s (inputs.WriteDone ticket end) new (Err fault) → Ends w past (happening_of_end end s j k) new (Err fault)
-end_fails w past s j k end ticket rec fault new h g =
+    → ServerEnds w past s (inputs.WriteDone ticket end) new result → Ends w past (happening_of_end end s j k) new result
+end_ends w past s j k end ticket rec (Ok t) new h g =
+    served_ends w past s (happening_of_end end s j k) (inputs.WriteDone ticket end) t new (ended_comes w past s j k end ticket rec h) g
+    (answer_is w past s j k end ticket)
+end_ends w past s j k end ticket rec (Err fault) new h g =
     unserved_ends w past s (happening_of_end end s j k) (inputs.WriteDone ticket end) fault new (ended_comes w past s j k end ticket rec h) g
 
 -- Nothing is open there.
@@ -240,14 +242,17 @@ frame_comes : (w : Setup) (past : List Change) (number : ℕ) (f : Frame) (s : �
     → brings w past (happenings.Deliver number) ≡ comes_to_server (trace w past) s f (said_to_server (steps past) s f)
 frame_comes w past number f s g = ap (delivery w past) g.is_sent ∙ ap (λ node. comes_to w past node f) g.goes_to
 
-pub delivery_ends : (w : Setup) (past : List Change) (number : ℕ) (f : Frame) (s : ℕ) (served : SentReply) (t : Told) (new : World)
-    → GoesTo w past number f (nodes.Server s) → ServerEnds w past s (inputs.Deliver f) new (Ok served)
-    → t ≡ told_of served answers_told.Plain → Ends w past (happenings.Deliver number) new (Ok t)
-delivery_ends w past number f s served t new g h tells =
+delivery_answer : (w : Setup) (past : List Change) (number : ℕ) (f : Frame) (s : ℕ) → Answers w past s (happenings.Deliver number) (inputs.Deliver f)
+unfolding Answers
+delivery_answer w past number f s = frame_answer past s f
+
+delivered : (w : Setup) (past : List Change) (number : ℕ) (f : Frame) (s : ℕ) (t : Told) (new : World)
+    → GoesTo w past number f (nodes.Server s) → Serves w past s (inputs.Deliver f) new t → Ends w past (happenings.Deliver number) new (Ok t)
+delivered w past number f s t new g h =
     let e = happenings.Deliver number in
     does w past e (Met (step_by past s (inputs.Deliver f))) t new
     (goes w past e (frame_bar w past number f (nodes.Server s) g ∙ h.on) ∙ frame_comes w past number f s g ∙ frame_ok w past s f h.free)
-    (told_is w past s e (inputs.Deliver f) served answers_told.Plain new h refl ∙ ap (λ x. Ok x) (sym tells)) h.stands
+    (served_as w past s e (inputs.Deliver f) t new h (delivery_answer w past number f s)) h.stands
 
 dropped : (w : Setup) (past : List Change) (s : ℕ) (f : Frame) (fault : Fault) (e : Happening) (new : World)
     → outcome w past e ≡ comes_to_server (trace w past) s f (said_to_server (steps past) s f)
@@ -280,7 +285,8 @@ delivery_sort w past number f s fault new g sorts.Memory h = h
 delivery_sort w past number f s fault new g sorts.Save h = h
 delivery_sort w past number f s fault new g sorts.Refusal h = unanswered w past number f s fault new g h
 
-pub delivery_fails : (w : Setup) (past : List Change) (number : ℕ) (f : Frame) (s : ℕ) (fault : Fault) (new : World) → GoesTo w past number f (nodes.Server s)
-    → ServerEnds w past s (inputs.Deliver f) new (Err fault)
-    → Ends w past (happenings.Deliver number) new (Err fault)
-delivery_fails w past number f s fault new g h = delivery_sort w past number f s fault new g (sort_of fault) h
+pub delivery_ends : (w : Setup) (past : List Change) (number : ℕ) (f : Frame) (s : ℕ) (result : Result Told Fault) (new : World)
+    → GoesTo w past number f (nodes.Server s) → ServerEnds w past s (inputs.Deliver f) new result
+    → Ends w past (happenings.Deliver number) new result
+delivery_ends w past number f s (Ok t) new g h = delivered w past number f s t new g h
+delivery_ends w past number f s (Err fault) new g h = delivery_sort w past number f s fault new g (sort_of fault) h

@@ -1,6 +1,6 @@
 -- What comes of what happens to a server, by its list of frames.
 use Rattle.std.proofs.Common.{◌≡◌, refl, sym, ◌∙◌, ap, subst, inl, inr, ◌⊎◌, ℕ, Bool, true, false, List, Option, Some, None, Result, Ok, Err}
-use Rattle.std.specs.Prelude.{if◌then◌else◌}
+use Rattle.std.specs.Prelude.{◌&&◌, if◌then◌else◌}
 use Rattle.std.specs.Option.{option_map}
 use Rattle.fc_base.specs.declared.fault.Fault.{Fault}
 use Rattle.fc_base.specs.declared.fault.Fault.TheVariants.{Misdirected, Down, FrameBadField}
@@ -9,24 +9,30 @@ use Rattle.disk_model.specs.declared.save_outcome.SaveOutcome.TheVariants.{NoSav
 use Rattle.disk_model.specs.SaveOutcome.{saved_for}
 use Rattle.messages.specs.declared.packet.PacketParts.{PacketParts}
 use Rattle.messages.specs.declared.frame.Frame.{Frame}
+use Rattle.messages.specs.declared.body.Body.{Body}
+use Rattle.messages.specs.declared.body.Body.TheVariants as bodies
+use Rattle.messages.specs.Nodes.{is_client, is_server}
 use Rattle.messages.specs.declared.refusal.Act.TheVariants as acts
 use Rattle.messages.specs.Hearing.{Heard, Meaning, Says, Waits, Spoils, Strays, Comes, Happens, meaning, heard_by}
 use Rattle.messages.specs.Senses.{sense_of, is_drop, refusal_of_sense, heard_or}
 use Rattle.server_core.specs.Inputs.{PacketInput, FrameInput}
 use Rattle.server_core.specs.declared.input.Input.TheVariants as inputs
 use Rattle.server_core.specs.History as server
+use Rattle.server_core.specs.Run.{Work}
+use Rattle.server_core.specs.Request.{ToNobody, request_in}
 use Rattle.server_core.specs.Words as words
 use Rattle.server_core.specs.Words.{Staged}
 use Rattle.server_core.specs.Answers as answers
 use Rattle.server_core.specs.Hearing.{rules, heard_at, packets_heard}
 use Rattle.server_core.specs.FrameAnswers as framed
 use Rattle.server_core.specs.FrameAnswers.{sense}
+use Rattle.net_world.specs.declared.told.WorldAnswer.TheVariants as answers_told
 use Rattle.net_world.specs.Setup.{Setup}
 use Rattle.net_world.specs.Trace.{Step, AtServer, of_server, opening_of}
 use Rattle.net_world.specs.Frames.{OfServer, at_server}
 use Rattle.net_world.specs.Changes.{Change, Met as Changed, steps, trace}
 use Rattle.net_world.specs.Outcomes.{Outcome, Does, Refuses, Drops, outcome_of_step, unless_fault, met_by_server, comes_to_server, said_to_server}
-use Rattle.net_world.specs.World.{act, act_of}
+use Rattle.net_world.specs.World.{answer_of_issue, act, act_of}
 use Rattle.net_world.specs.Serving.{entries, step_by}
 use Rattle.net_world.proofs.StandLemmas.{servers_stand}
 use Rattle.net_world.proofs.ServeLemmas.{heard_is}
@@ -136,6 +142,28 @@ frame_err w past s f fault on h =
     let m = meaning (rules (opening_of s)) (heard_at (opening_of s) (entries past s)) f in
     subst (λ x. DroppedOr s f fault (is_drop (sense_of inputs.Deliver m)) (comes_to_server (trace w past) s f x)) (said_is w s past f)
     (meaning_err (trace w past) s f (packets_heard (opening_of s) (entries past s)) fault (heard_is w past s) on m h)
+
+-- ---- what the server answers of writes
+
+-- A frame is answered nothing of writes.
+none_of_body : (now : Option Work) (b : Body) → answer_of_issue (answers.issue_for now (request_in b)) ≡ answers_told.Plain
+none_of_body now (bodies.Jobs run text) = refl
+none_of_body now _ = refl
+
+none_of_request : (now : Option Work) (mine : Bool) (b : Body) → answer_of_issue (answers.issue_for now (if mine then request_in b else ToNobody)) ≡ answers_told.Plain
+none_of_request now true b = none_of_body now b
+none_of_request now false b = refl
+
+none_of_meaning : (o : server.Opening) (list : List server.Entry) (m : Meaning) → answer_of_issue (heard_or None (answers.issue o list) (sense_of inputs.Deliver m)) ≡ answers_told.Plain
+none_of_meaning o list (Says p) = none_of_request (words.work o list) (is_client p.from && is_server o.me p.to) p.body
+none_of_meaning o list Waits = refl
+none_of_meaning o list Spoils = refl
+none_of_meaning o list Strays = refl
+
+pub frame_answer : (past : List Change) (s : ℕ) (f : Frame) → answer_of_issue (framed.issue (opening_of s) (entries past s) (inputs.Deliver f)) ≡ answers_told.Plain
+frame_answer past s f =
+    let o = opening_of s in
+    none_of_meaning o (packets_heard o (entries past s)) (meaning (rules o) (heard_at o (entries past s)) f)
 
 -- ---- what the server asks of its caller
 

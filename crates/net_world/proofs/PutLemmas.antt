@@ -1,13 +1,15 @@
 -- Lists of events with a cut put in.
-use Rattle.std.proofs.Common.{◌≡◌, sym, ◌∙◌, ap, ℕ, suc, ◌+◌, ◌<◌, arith, Bool, List, [], ◌∷◌, ◌++◌, length, get_or, take, drop}
-use Rattle.std.specs.Prelude.{map, Result, Ok, Err, IfOk}
-use Rattle.std.proofs.Math.Seq.{drop-cons, take-suc}
+use Rattle.std.proofs.Common.{◌≡◌, refl, sym, ◌∙◌, ap, ℕ, suc, ◌+◌, ◌<◌, arith, Bool, List, [], ◌∷◌, ◌++◌, length, get_or, take, drop, Option, Some}
+use Rattle.std.specs.Prelude.{map, slice_get}
+use Rattle.std.specs.Option.{option_map, option_and_then}
+use Rattle.std.proofs.Math.Seq.{take-suc}
+use Rattle.std.proofs.lemmas.Option.{slice_get-map, slice_get_read}
 use Rattle.std.proofs.lemmas.List.{append_assoc, drop-map, map-append, take-map}
 use Rattle.net_world.specs.declared.event.WorldEvent.{WorldEvent}
 use Rattle.messages.specs.declared.node.Node.{Node}
-use Rattle.net_world.specs.Happenings.{Happening, Restart}
+use Rattle.net_world.specs.Happenings.{Happening}
 use Rattle.net_world.specs.Events.{happening}
-use Rattle.net_world.specs.PutIn.{stop_in, stopped_first}
+use Rattle.net_world.specs.PutIn.{stop_in, stopped_before, with_stop}
 
 -- One more is copied.
 pub one_more : (all es : List WorldEvent) (before : List Happening) (i : ℕ) (e copy : WorldEvent) → i < length es → e ≡ get_or es i e
@@ -35,15 +37,12 @@ two_put_in es front at one two h =
     ∙ ap (λ l. l ++ happening one ∷ happening two ∷ map happening (drop at es)) (h ∙ sym (take-map happening at es))
     ∙ ap (λ l. take at (map happening es) ++ happening one ∷ happening two ∷ l) (sym (drop-map happening at es))
 
--- What is first from a place on is what stands there.
-pub stopped_there : (es : List WorldEvent) (landed : Bool) (node : Node) (at : ℕ) (e : WorldEvent) → at < length es → e ≡ get_or es at e
-    → stopped_first landed node (drop at (map happening es)) ≡ stop_in landed (happening e) ∷ Restart node ∷ drop at (map happening es)
-stopped_there es landed node at e lt is =
-    let first : drop at (map happening es) ≡ happening e ∷ map happening (drop (suc at) es) =
-    drop-map happening at es ∙ ap (map happening) (drop-cons es at e lt ∙ ap (λ x. x ∷ drop (suc at) es) (sym is)) in
-    ap (stopped_first landed node) first ∙ ap (λ l. stop_in landed (happening e) ∷ Restart node ∷ l) (sym first)
-
--- What follows for a result that is there.
-pub if_ok : {X E : Type 0} {A B : X → Type 0} (r : Result X E) → ((x : X) → A x → B x) → IfOk r A → IfOk r B
-if_ok (Ok x) f a = f x a
-if_ok (Err e) f a = tt
+-- What stands at a place is stopped so.
+pub stopped_by : (es : List WorldEvent) (landed : Bool) (node : Node) (at : ℕ) (e : WorldEvent) (stop : Option Happening) → at < length es → e ≡ get_or es at e
+    → stop ≡ stop_in landed (happening e)
+    → with_stop at landed node (map happening es) ≡ option_map (stopped_before at node (map happening es)) stop
+stopped_by es landed node at e stop lt is how =
+    let there : slice_get (map happening es) at ≡ Some (happening e) =
+    slice_get-map happening es at ∙ ap (option_map happening) (slice_get_read es (length es) at e refl lt is) in
+    ap (λ x. option_map (stopped_before at node (map happening es)) (option_and_then (stop_in landed) x)) there
+    ∙ ap (option_map (stopped_before at node (map happening es))) (sym how)

@@ -19,6 +19,7 @@ use Rattle.disk_model.specs.declared.save_outcome.SaveOutcome.TheVariants.{NoSav
 use Rattle.messages.specs.FrameBytes.{frame_spelling}
 use Rattle.messages.specs.declared.node.Node.TheVariants as nodes
 use Rattle.messages.specs.declared.body.Body.{Body}
+use Rattle.messages.specs.declared.refusal.Act.{Act}
 use Rattle.messages.specs.Pieces.{frames_of}
 use Rattle.messages.specs.Hearing.{Heard, frames_by}
 use Rattle.messages.specs.Senses.{refusal_of_sense, Sense, Hears, Keeps, Drops, Misses}
@@ -33,7 +34,8 @@ use Rattle.server_core.specs.Answers.{to_client, sent_by}
 use Rattle.server_core.specs.Words as words
 use Rattle.server_core.specs.Hearing.{FrameEntry, Met, rules, heard_at, coming_of, packets_heard, arrival, is_up}
 use Rattle.server_core.specs.FrameAnswers as answers
-use Rattle.net_world.specs.declared.sent_reply.SentReply.{SentReply}
+use Rattle.net_world.specs.declared.told.Told.{Told}
+use Rattle.net_world.specs.declared.told.WorldAnswer.{WorldAnswer}
 use Rattle.net_world.specs.declared.mirror_node.MirrorSlot.{MirrorSlot}
 use Rattle.net_world.specs.ServerNodes.{ServerNode}
 use Rattle.net_world.specs.declared.world.World.{World}
@@ -42,7 +44,7 @@ use Rattle.net_world.specs.Trace.{of_server, opening_of, client_opening}
 use Rattle.net_world.specs.Frames.{frames_sent, frames_of_step, client_entries, of_mirror}
 use Rattle.net_world.specs.Changes.{Change, steps, trace}
 use Rattle.net_world.specs.Barred.{unless_on, is_on, unless}
-use Rattle.net_world.specs.World.{frames}
+use Rattle.net_world.specs.World.{frames, answer_of_issue}
 use Rattle.net_world.specs.Sending.{sent_in}
 use Rattle.net_world.specs.Nodes as any_node
 use Rattle.net_world.specs.ServerNodes.{server_nodes, Stands}
@@ -135,17 +137,22 @@ pub record HasServed (s : ℕ) (e : FrameInput) (result : Result Outs Fault) (se
   pub stepped : (o : server.Opening) (past : List FrameEntry) → Stands o past was → any_node.Ends (server_nodes o) past e node result
   pub moved : HasMoved s node sent old new
 
--- This is handed out of what a step hands out, behind the frames that were sent.
-pub record IsOf (sent : List (List ℕ)) (outs : Outs) (served : SentReply) : Type 0 where
-  pub first : served.first ≡ length sent
-  pub sent_is : served.sent ≡ length outs.frames
-  pub issue : served.issue ≡ outs.issue
-  pub act : served.act ≡ outs.act
+-- This is told of what a step hands out, behind the frames that were sent.
+pub record IsOf (sent : List (List ℕ)) (outs : Outs) (told : Told) : Type 0 where
+  pub answer : told.answer ≡ answer_of_issue outs.issue
+  pub first : told.first ≡ length sent
+  pub sent_is : told.sent ≡ length outs.frames
+  pub act : told.act ≡ outs.act
 
-pub serve_ends : (w : Setup) (past : List Change) (s : ℕ) (e : FrameInput) (outs : Outs) (served : SentReply) (old new : World) → StandsFor w past old
-    → HasServed s e (Ok outs) outs.frames old new → IsOf (sent_in old.sent) outs served
-    → Serves w past s e new served
-serve_ends w past s e outs served old new stands h is =
+-- What is told is all that is said of it.
+pub same_told : (t : Told) (answer : WorldAnswer) (first sent : ℕ) (act : Act) → t.answer ≡ answer → t.first ≡ first → t.sent ≡ sent → t.act ≡ act
+    → t ≡ record { answer = answer; first = first; sent = sent; act = act }
+same_told t answer first sent act a f s x = rw (sym a, sym f, sym s, sym x) refl
+
+pub serve_ends : (w : Setup) (past : List Change) (s : ℕ) (e : FrameInput) (outs : Outs) (told : Told) (old new : World) → StandsFor w past old
+    → HasServed s e (Ok outs) outs.frames old new → IsOf (sent_in old.sent) outs told
+    → Serves w past s e new told
+serve_ends w past s e outs told old new stands h is =
     let o = opening_of s in
     let es = entries past s in
     let a = h.stepped o es (stands.servers_are s h.was h.was_is) in
@@ -155,10 +162,9 @@ serve_ends w past s e outs served old new stands h is =
     record {
       on = is_there w past s l a.on;
       free = a.free;
-      first_is = is.first ∙ first_is w past old stands;
-      sent_is = is.sent_is ∙ ap (λ (fs : List (List ℕ)). length fs) sent ∙ length-map (frames_of_step w (steps past) (step_by past s e)) frame_spelling;
-      issue_is = is.issue ∙ a.sends.issue_is;
-      act_is = is.act ∙ a.sends.act_is;
+      told_is = same_told told _ _ _ _ (is.answer ∙ ap answer_of_issue a.sends.issue_is) (is.first ∙ first_is w past old stands)
+          (is.sent_is ∙ ap (λ (fs : List (List ℕ)). length fs) sent ∙ length-map (frames_of_step w (steps past) (step_by past s e)) frame_spelling)
+          (is.act ∙ a.sends.act_is);
       stands = server_stepped w past s (answers.answered_entry o es e) h.node outs.frames old new stands h.moved sent a.stands;
     }
 

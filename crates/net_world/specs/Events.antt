@@ -1,5 +1,5 @@
 -- What an event of a world is: something that can happen.
-use Rattle.std.specs.Prelude.{ℕ, true}
+use Rattle.std.specs.Prelude.{ℕ}
 use Rattle.server_core.specs.declared.input.WriteEnd.{WriteEnd}
 use Rattle.server_core.specs.declared.input.WriteEnd.TheVariants as ends
 use Rattle.net_world.specs.declared.event.PlainEvent.{PlainEvent}
@@ -28,11 +28,10 @@ plain_happening (plain.Restart node) = Restart node
 plain_happening plain.LoseNote = LoseNote
 plain_happening (plain.Renew generation) = Renew generation
 
--- An event. Of the cuts within a cut within a save one stands for all: each is refused alike.
+-- An event. None is a cut within the save of a cut within a save.
 abbrev pub happening : WorldEvent → Happening
 happening (events.Plain e) = plain_happening e
 happening (events.CutIn landed e) = CutIn landed (plain_happening e)
-happening events.CutInCut = CutIn true (CutIn true Tick)
 
 -- The worker of a write tells how it ended.
 abbrev pub happening_of_end : WriteEnd → ℕ → ℕ → ℕ → Happening

@@ -11,7 +11,7 @@ use Rattle.messages.specs.declared.node.Node.TheVariants as nodes
 use Rattle.server_core.specs.Inputs.{FrameInput}
 use Rattle.server_core.specs.Hearing.{FrameEntry, Met, coming_of}
 use Rattle.server_core.specs.FrameAnswers.{sense, refusal, issue, act, answered_entry}
-use Rattle.net_world.specs.declared.sent_reply.SentReply.{SentReply}
+use Rattle.net_world.specs.declared.told.Told.{Told}
 use Rattle.net_world.specs.declared.world.World.{World}
 use Rattle.net_world.specs.Setup.{Setup}
 use Rattle.net_world.specs.Trace.{opening_of}
@@ -19,6 +19,7 @@ use Rattle.net_world.specs.Frames.{FrameStep, OfServer, frames_sent, frames_of_s
 use Rattle.net_world.specs.Changes as changes
 use Rattle.net_world.specs.Changes.{Change, steps, trace}
 use Rattle.net_world.specs.Barred.{unless_on}
+use Rattle.net_world.specs.World.{answer_of_issue}
 use Rattle.net_world.specs.Stands.{StandsFor}
 
 -- The list of frames of server s.
@@ -33,15 +34,19 @@ step_of s e = OfServer s (coming_of e)
 abbrev pub step_by : List Change → ℕ → FrameInput → FrameStep
 step_by past s e = step_of s (answered_entry (opening_of s) (entries past s) e)
 
--- The server is there and on, doesn't refuse what comes, and its step is added.
+-- The server is there and on, doesn't refuse what comes, and its step is added. It is told with what
+-- a worker is answered that asks for a write.
 pub record Serves (w : Setup) (past : List Change) (s : ℕ) (e : FrameInput) (new : World)
-    (served : SentReply) : Type 0 where
+    (told : Told) : Type 0 where
   pub on : unless_on w (trace w past) (nodes.Server s) ≡ None
   pub free : refusal (opening_of s) (entries past s) e ≡ None
-  pub first_is : served.first ≡ length (frames_sent w (steps past))
-  pub sent_is : served.sent ≡ length (frames_of_step w (steps past) (step_by past s e))
-  pub issue_is : served.issue ≡ issue (opening_of s) (entries past s) e
-  pub act_is : served.act ≡ act (opening_of s) (entries past s) e
+  pub told_is :
+      told ≡ record {
+        answer = answer_of_issue (issue (opening_of s) (entries past s) e);
+        first = length (frames_sent w (steps past));
+        sent = length (frames_of_step w (steps past) (step_by past s e));
+        act = act (opening_of s) (entries past s) e;
+      }
   pub stands : StandsFor w (changes.Met (step_by past s e) ∷ past) new
 
 -- There is no such server, or it is off.
@@ -67,6 +72,6 @@ Faults w past s e sorts.Refusal fault new =
     IsBarred w past s fault new ⊎ Refuses w past s e fault new
 
 -- How what comes to a server ends.
-abbrev pub ServerEnds : Setup → List Change → ℕ → FrameInput → World → Result SentReply Fault → Type 0
-ServerEnds w past s e new (Ok served) = Serves w past s e new served
+abbrev pub ServerEnds : Setup → List Change → ℕ → FrameInput → World → Result Told Fault → Type 0
+ServerEnds w past s e new (Ok told) = Serves w past s e new told
 ServerEnds w past s e new (Err fault) = Faults w past s e (sort_of fault) fault new

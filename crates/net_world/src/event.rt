@@ -91,6 +91,4 @@ pub enum WorldEvent {
     /// A node loses its power within the save that this would make: once the new bytes have landed, or
     /// before.
     CutIn { landed: bool, event: PlainEvent },
-    /// The same of a cut within a save, whichever: there is no such save.
-    CutInCut,
 }

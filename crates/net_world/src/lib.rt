@@ -27,7 +27,6 @@ mod playing;
 mod put_in;
 mod ready;
 mod reported;
-mod sent_reply;
 mod server_node;
 mod told;
 mod verdict;

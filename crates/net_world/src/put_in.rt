@@ -1,6 +1,7 @@
 //! Events with a cut put in, for trying a run with a cut at each of its places.
 
 ghost use Rattle.std.specs.Prelude.{◌≡◌, ◌<◌, ◌≤◌, ◌++◌, ◌∷◌, length, map, take, drop, IfOk, OnOk};
+ghost use Rattle.std.specs.Option.{option_map};
 ghost use Rattle.net_world.specs.Happenings.{Cut, Restart};
 ghost use Rattle.net_world.specs.Events.{happening};
 ghost use Rattle.net_world.specs.PutIn.{stop_in, with_cut, with_stop};
@@ -25,21 +26,25 @@ pub fn with_cut(
 }
 
 /// A copy of these events in which the one at a place is first cut within its save, once the save has
-/// `landed` or before, and a node is started again. A cut within a save has no save to be cut in, so that is
-/// refused.
+/// `landed` or before, and a node is started again.
+///
+/// `None`: the event there is a cut within a save, which has no save of its own to be cut in.
 pub fn with_stop(
     alloc: Global,
     events: &[WorldEvent],
     at: usize,
     landed: bool,
     node: Node,
-) -> Result<Vec<WorldEvent>, AllocError>
+) -> Result<Option<Vec<WorldEvent>>, AllocError>
     requires { at < length events.now }
-    ensures { IfOk result
-        (λ all. map happening all.items ≡ with_stop at landed node (map happening events.now)) }
+    ensures { IfOk result (λ made. option_map (λ all. map happening all.items) made
+        ≡ with_stop at landed node (map happening events.now)) }
 {
-    let stop = stop_in(landed, &events[at])?;
-    put_before(alloc, events, at, stop, restart(&node))
+    let Some(stop) = stop_in(landed, &events[at])? else {
+        return Ok(None);
+    };
+    let all = put_before(alloc, events, at, stop, restart(&node))?;
+    Ok(Some(all))
 }
 
 /// A copy of these events, with two more before the one at a place.
@@ -96,15 +101,16 @@ fn restart(node: &Node) -> WorldEvent
     WorldEvent::Plain(PlainEvent::Restart { node: *node })
 }
 
-/// The cut within the save of an event.
-fn stop_in(landed: bool, event: &WorldEvent) -> Result<WorldEvent, AllocError>
-    ensures { IfOk result (λ stop. happening stop ≡ stop_in landed (happening event.now)) }
+/// The cut within the save of an event, where that is no cut within a save itself.
+fn stop_in(landed: bool, event: &WorldEvent) -> Result<Option<WorldEvent>, AllocError>
+    ensures { IfOk result
+        (λ stop. option_map happening stop ≡ stop_in landed (happening event.now)) }
 {
     match event {
-        WorldEvent::Plain(event) => Ok(WorldEvent::CutIn {
+        WorldEvent::Plain(event) => Ok(Some(WorldEvent::CutIn {
             landed,
             event: event.clone()?,
-        }),
-        WorldEvent::CutIn { .. } | WorldEvent::CutInCut => Ok(WorldEvent::CutInCut),
+        })),
+        WorldEvent::CutIn { .. } => Ok(None),
     }
 }

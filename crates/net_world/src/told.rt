@@ -27,6 +27,7 @@ pub enum WorldAnswer {
 
 impl WorldAnswer {
     ghost use Rattle.net_world.specs.ClientAnswers.{world_answer};
+    ghost use Rattle.net_world.specs.World.{answer_of_issue};
 
     /// What a client answers, as what a world does.
     pub(crate) fn of_client(answer: Answer) -> WorldAnswer
@@ -36,6 +37,17 @@ impl WorldAnswer {
             Answer::Plain => WorldAnswer::Plain,
             Answer::Run(run) => WorldAnswer::Run(run),
             Answer::Attempt(attempt) => WorldAnswer::Attempt(attempt),
+        }
+    }
+
+    /// What a server answers of writes, as what a world does.
+    #[inline(always)]
+    pub(crate) fn of_issue(issue: Option<Issue>) -> WorldAnswer
+        ensures { result ≡ answer_of_issue issue }
+    {
+        match issue {
+            Some(issue) => WorldAnswer::Issued(issue),
+            None => WorldAnswer::Plain,
         }
     }
 }
@@ -93,6 +105,18 @@ impl Told {
             first: first as u64,
             sent: 0,
             act: Act::None,
+        }
+    }
+
+    /// It is told with this answer in place of its own.
+    pub(crate) fn with_answer(self, answer: WorldAnswer) -> Told
+        ensures { result ≡ record self { answer = answer } }
+    {
+        Told {
+            answer,
+            first: self.first,
+            sent: self.sent,
+            act: self.act,
         }
     }
 }

@@ -113,7 +113,6 @@ impl World {
         match event {
             WorldEvent::Plain(event) => self.happen(event),
             WorldEvent::CutIn { landed, event } => self.cut_in(*landed, event),
-            WorldEvent::CutInCut => Err(Fault::NoSave),
         }
     }
 

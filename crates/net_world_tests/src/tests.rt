@@ -18,7 +18,7 @@ mod walk;
 use ends::{End, end_of_story};
 use fc_base::ServerNo;
 use messages::Node;
-use played::{Change, Leaves, left, plays_as};
+use played::{Change, Leaves, left, length_stopped, plays_as};
 use std::alloc::{AllocGlobal, Global};
 use std::process::Abort;
 use std::test::Fail;
@@ -197,6 +197,21 @@ fn cuts_leave(rt: &(impl Abort + AllocGlobal), tried: &Tried, cuts: &[(Leaves, L
 #[test]
 fn a_stop_in_each_save(rt: HostRuntime) {
     stops_leave(&rt, &stored_run(), &STOPS);
+}
+
+/// A cut within a save has no save of its own to be cut in, and no list of events has one there.
+#[test]
+fn no_stop_in_a_stop(rt: HostRuntime) {
+    for (command, wanted) in [
+        ("deliver 0", Some(3)),
+        ("cutold deliver 0", None),
+        ("cutnew restart 0", None),
+    ] {
+        for landed in [false, true] {
+            let length = length_stopped(rt.alloc(), command, landed);
+            assert!(rt; length == Ok(wanted), "{command}: {length:?}");
+        }
+    }
 }
 
 /// Wherever a node of the stored run loses its power, and is started again, the client keeps of its job the

@@ -36,7 +36,7 @@ impl World {
         ) else {
             return Err(Fault::NoMemory);
         };
-        let Ok(told) = BoxedReport::new(self.alloc, report) else {
+        let Ok(boxed) = BoxedReport::new(self.alloc, report) else {
             return Err(Fault::NoMemory);
         };
         let done = Input::CheckDone {
@@ -46,7 +46,7 @@ impl World {
             report,
         };
         match self.serve(server, done) {
-            Ok(served) => Ok(served.told(WorldAnswer::Checked(told))),
+            Ok(told) => Ok(told.with_answer(WorldAnswer::Checked(boxed))),
             Err(fault) => Err(fault),
         }
     }

@@ -12,7 +12,7 @@ ghost use Rattle.net_world.specs.Stands.{StandsFor};
 ghost use Rattle.net_world.specs.World.{world};
 
 use super::World;
-use crate::told::{Told, WorldAnswer};
+use crate::told::Told;
 use crate::world_law::sent_frames_are_read;
 use client_core::Input as ClientInput;
 use fc_base::{Fault, ServerNo};
@@ -40,10 +40,7 @@ impl World {
             to_of frame ≡ OfServer server →
             Ends w past (Deliver number) self.new result }
     {
-        match self.serve(server, Input::Deliver(frame)) {
-            Ok(served) => Ok(served.told(WorldAnswer::Plain)),
-            Err(fault) => Err(fault),
-        }
+        self.serve(server, Input::Deliver(frame))
     }
 
     /// The frame with this number. `NoFrame`; `NoMemory`.

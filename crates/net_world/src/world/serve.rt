@@ -8,23 +8,20 @@ ghost use Rattle.net_world.specs.Stands.{StandsFor};
 ghost use Rattle.net_world.specs.Serving.{ServerEnds};
 
 use super::World;
-use crate::sent_reply::SentReply;
+use crate::told::{Told, WorldAnswer};
 use engine::Ticket;
 use fc_base::{Fault, ServerNo};
-use messages::{Act, Frame};
+use messages::Frame;
 use server_core::{Input, Outs, WriteEnd};
 
 impl World {
-    /// Something comes to a server, whose frames are sent.
+    /// Something comes to a server, whose frames are sent. It is told with what a worker is answered that
+    /// asks for a write.
     ///
     /// `NoServer`, `NodeOff`, `NoMemory`, or the server's own refusal.
     // Inlined with the way of writes, so that their caller makes no room for packets and frames.
     #[inline(always)]
-    pub(super) fn serve(
-        &mut self,
-        server: ServerNo,
-        input: Input<Frame>,
-    ) -> Result<SentReply, Fault>
+    pub(super) fn serve(&mut self, server: ServerNo, input: Input<Frame>) -> Result<Told, Fault>
         ensures { (w : Setup) (past : List Change) → StandsFor w past self.old →
             ServerEnds w past server input self.new result }
     {
@@ -38,10 +35,10 @@ impl World {
         let Outs { frames, issue, act } = outs;
         let sent = frames.len() as u64;
         self.sent.add(frames);
-        Ok(SentReply {
+        Ok(Told {
+            answer: WorldAnswer::of_issue(issue),
             first: first as u64,
             sent,
-            issue,
             act,
         })
     }
@@ -53,7 +50,7 @@ impl World {
         server: ServerNo,
         ticket: Ticket,
         end: WriteEnd,
-    ) -> Result<SentReply, Fault>
+    ) -> Result<Told, Fault>
         ensures { (w : Setup) (past : List Change) → StandsFor w past self.old →
             ServerEnds w past server (WriteDone ticket end) self.new result }
     {
@@ -66,11 +63,6 @@ impl World {
         self.servers[server.0 as usize]
             .on()?
             .end_write(ticket, end)?;
-        Ok(SentReply {
-            first: first as u64,
-            sent: 0,
-            issue: None,
-            act: Act::None,
-        })
+        Ok(Told::plain(first))
     }
 }

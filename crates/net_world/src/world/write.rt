@@ -10,7 +10,7 @@ ghost use Rattle.net_world.specs.Events.{happening_of_end};
 ghost use Rattle.net_world.specs.Stands.{StandsFor};
 
 use super::{World, place_of};
-use crate::told::{Told, WorldAnswer};
+use crate::told::Told;
 use fc_base::{Fault, JobNo, JobRecord, Key, MAX_BLOCKS, Seq, ServerNo};
 use server_core::{Input, WriteEnd};
 use std::alloc::AllocError;
@@ -22,10 +22,7 @@ impl World {
         ensures { (w : Setup) (past : List Change) → StandsFor w past self.old →
             Ends w past (Issues server job) self.new result }
     {
-        match self.serve(server, Input::Issue(job)) {
-            Ok(served) => Ok(served.issued()),
-            Err(fault) => Err(fault),
-        }
+        self.serve(server, Input::Issue(job))
     }
 
     /// An open write has ended.
@@ -41,10 +38,7 @@ impl World {
             Ends w past (happening_of_end end server job write) self.new result }
     {
         let found = self.open_write(server, job, write)?;
-        match self.serve_end(server, found.0, end) {
-            Ok(served) => Ok(served.told(WorldAnswer::Plain)),
-            Err(fault) => Err(fault),
-        }
+        self.serve_end(server, found.0, end)
     }
 
     /// Sectors of an open write land in its file.

@@ -142,16 +142,39 @@ fn changed(
     events: &[WorldEvent],
     change: &Change,
 ) -> Result<Vec<WorldEvent>, Trouble> {
-    let events = match change {
-        Change::Cut { at, node } if *at <= events.len() => with_cut(alloc, events, *at, *node),
-        Change::Stop { at, landed, node } if *at < events.len() => {
-            with_stop(alloc, events, *at, *landed, *node)
+    match change {
+        Change::Cut { at, node } if *at <= events.len() => {
+            Ok(with_cut(alloc, events, *at, *node)?)
         }
-        _ => return Err(Trouble::BadRow),
-    };
-    match events {
-        Ok(events) => Ok(events),
-        Err(_) => Err(Trouble::NoMemory),
+        Change::Stop { at, landed, node } if *at < events.len() => {
+            with_stop(alloc, events, *at, *landed, *node)?.ok_or(Trouble::BadRow)
+        }
+        _ => Err(Trouble::BadRow),
+    }
+}
+
+/// How many events there are once a stop of this command is put in before it, if one can be.
+pub fn length_stopped(
+    alloc: Global,
+    command: &str,
+    landed: bool,
+) -> Result<Option<usize>, Trouble> {
+    match length_stopped_once(alloc, command, landed) {
+        Err(Trouble::NoMemory) => length_stopped_once(alloc, command, landed),
+        answer => answer,
+    }
+}
+
+fn length_stopped_once(
+    alloc: Global,
+    command: &str,
+    landed: bool,
+) -> Result<Option<usize>, Trouble> {
+    let mut events = Vec::new(alloc);
+    put(&mut events, event_in(alloc, command))?;
+    match with_stop(alloc, &events, 0, landed, Node::Client)? {
+        Some(stopped) => Ok(Some(stopped.len())),
+        None => Ok(None),
     }
 }
 

@@ -162,7 +162,7 @@ fn barred(alloc: Global, command: &str) -> Result<WorldEvent, Trouble> {
     let landed = word == "cutnew";
     match asked(alloc, command) {
         Ok(WorldEvent::Plain(event)) => Ok(WorldEvent::CutIn { landed, event }),
-        Ok(_) => Ok(WorldEvent::CutInCut),
+        Ok(WorldEvent::CutIn { .. }) => Err(Trouble::BadRow),
         Err(trouble) => Err(trouble),
     }
 }

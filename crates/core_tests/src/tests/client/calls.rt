@@ -2,21 +2,11 @@
 
 use super::words::act_in;
 use crate::tests::shared::{Draft, Trouble, first_word, is_frame, put_word};
-use client_core::Client;
+use client_core::{Client, Input};
 use disk_model::FaultNotes;
 use fc_base::{Fault, RunNo};
-use messages::{Act, Frame, Frames};
+use messages::{Frame, Frames};
 use std::alloc::AllocError;
-
-/// What is asked of a client. The text of a job file stands elsewhere.
-#[derive(Clone, Copy)]
-pub enum Asked {
-    Begin,
-    Trigger(RunNo, Act),
-    Stop(RunNo),
-    Verify(RunNo),
-    Tick,
-}
 
 /// What a client gives: a number, where it gives one, and frames.
 #[derive(Drop)]
@@ -25,15 +15,15 @@ pub struct Given {
     pub frames: Frames,
 }
 
-/// What a row asks.
-pub fn asked_in(word: &str, words: &str) -> Option<Asked> {
+/// What a row asks. The text of a job file stands elsewhere.
+pub fn asked_in<'t>(word: &str, words: &str, text: &'t [u8]) -> Option<Input<'t>> {
     let (run, rest) = first_word(words);
     match word {
-        "begin" => Some(Asked::Begin),
-        "verify" => Some(Asked::Verify(RunNo(run.parse::<u64>().unwrap_or(0)))),
-        "trigger" => Some(Asked::Trigger(run_in(run)?, act_in(rest)?)),
-        "stop" => Some(Asked::Stop(run_in(run)?)),
-        _ => Some(Asked::Tick),
+        "begin" => Some(Input::Begin(text)),
+        "verify" => Some(Input::Verify(RunNo(run.parse::<u64>().unwrap_or(0)), text)),
+        "trigger" => Some(Input::Trigger(run_in(run)?, act_in(rest)?)),
+        "stop" => Some(Input::Stop(run_in(run)?)),
+        _ => Some(Input::Tick),
     }
 }
 
@@ -78,13 +68,15 @@ pub fn shown(client: &Client<FaultNotes>) -> (u64, u64, usize, bool) {
     )
 }
 
-pub fn ask(client: &mut Client<FaultNotes>, asked: Asked, text: &[u8]) -> Result<Given, Fault> {
+/// Asks a client by the call for it, or delivers a frame.
+pub fn ask(client: &mut Client<FaultNotes>, asked: Input<'_>) -> Result<Given, Fault> {
     match asked {
-        Asked::Begin => begin(client, text),
-        Asked::Verify(run) => verify(client, run, text),
-        Asked::Trigger(run, act) => plain(client.trigger(run, act)),
-        Asked::Stop(run) => plain(client.stop(run)),
-        Asked::Tick => plain(client.tick()),
+        Input::Begin(text) => begin(client, text),
+        Input::Verify(run, text) => verify(client, run, text),
+        Input::Trigger(run, act) => plain(client.trigger(run, act)),
+        Input::Stop(run) => plain(client.stop(run)),
+        Input::Tick => plain(client.tick()),
+        Input::Deliver(frame) => plain(client.deliver(frame)),
     }
 }
 
@@ -101,7 +93,7 @@ fn verify(client: &mut Client<FaultNotes>, run: RunNo, text: &[u8]) -> Result<Gi
 }
 
 /// Frames without a number.
-pub fn plain(answer: Result<Frames, Fault>) -> Result<Given, Fault> {
+fn plain(answer: Result<Frames, Fault>) -> Result<Given, Fault> {
     let frames = answer?;
     let number = None;
     Ok(Given { number, frames })

@@ -1,10 +1,10 @@
 //! A client that stories are told to.
 
-use super::calls::{Given, ask, asked_in, number_in, plain, put_text_of, shown, would_save};
+use super::calls::{Given, ask, asked_in, number_in, put_text_of, shown, would_save};
 use super::opening::{Opening, opened, opening_in};
 use super::{looks, written};
 use crate::tests::shared::{Draft, Ends, Node, Trouble, first_word};
-use client_core::Client;
+use client_core::{Client, Input};
 use disk_model::FaultNotes;
 use fc_base::Fault;
 use messages::{Frame, Frames};
@@ -96,16 +96,16 @@ impl Node for Told {
 
     fn ask(&mut self, words: &str) -> Result<Option<Fault>, Trouble> {
         let (word, rest) = first_word(words);
-        let asked = asked_in(word, rest).ok_or(Trouble::BadRow)?;
         put_text_of(&mut self.text, words)?;
+        let asked = asked_in(word, rest, self.text.bytes()).ok_or(Trouble::BadRow)?;
         let before = shown(&self.client);
-        let given = ask(&mut self.client, asked, self.text.bytes());
+        let given = ask(&mut self.client, asked);
         self.keep(before, given)
     }
 
     fn deliver(&mut self, frame: Frame) -> Result<Option<Fault>, Trouble> {
         let before = shown(&self.client);
-        let given = plain(self.client.deliver(frame));
+        let given = ask(&mut self.client, Input::Deliver(frame));
         self.keep(before, given)
     }
 

@@ -4,13 +4,11 @@ use engine::{Issue, Ticket};
 use fc_base::{Attempt, JobNo, Key, RunNo, Seq, ServerNo};
 use messages::Act;
 
-/// What is asked of the client, of the server at the hub, or from one of its seats.
+/// What is asked of the client, of the server at the hub, or from one of its seats. What the client
+/// requests is of its first run.
 #[derive(Clone, Copy)]
 pub enum Step {
-    Begin,
-    Trigger,
-    Stop(u64),
-    Verify,
+    Asks(RequestKind),
     Tick,
     ToClient(u64),
     CutClient,
@@ -24,6 +22,7 @@ pub enum Step {
 }
 
 use Step::*;
+use client_core::RequestKind::{self, *};
 use node_threads::Answer;
 
 /// The answer, the act, the number of the first frame sent and how many; or the number of the fault.
@@ -58,7 +57,7 @@ const STOPPED: Said = Ok((Answer::Issued(Issue::Stopped), Act::None, 0, 0));
 
 /// A run with a trigger behind one of two writes, a cut, and a check of what was completed.
 pub const STORED: [Row; 24] = [
-    (Begin, Ok((Answer::Run(RunNo(1)), Act::None, 0, 1))),
+    (Asks(Begin), Ok((Answer::Run(RunNo(1)), Act::None, 0, 1))),
     (ToServer(0), Ok((Answer::Plain, Act::None, 1, 1))),
     (ToClient(1), Ok((Answer::Plain, Act::None, 2, 1))),
     (ToServer(2), Ok((Answer::Plain, Act::None, 3, 1))),
@@ -71,14 +70,17 @@ pub const STORED: [Row; 24] = [
     ),
     (Done(0, 0), DONE),
     (Done(0, 0), Err(21)),
-    (Trigger, Ok((Answer::Plain, Act::None, 4, 1))),
+    (Asks(Trigger), Ok((Answer::Plain, Act::None, 4, 1))),
     (ToServer(4), Ok((Answer::Plain, Act::None, 5, 1))),
     (ToClient(5), Ok((Answer::Plain, Act::None, 6, 1))),
     (ToServer(6), Ok((Answer::Plain, Act::Cut, 7, 0))),
     (Cut(1), DONE),
     (Restart(1), DONE),
     (Done(0, 1), Err(20)),
-    (Verify, Ok((Answer::Attempt(Attempt(1)), Act::None, 7, 1))),
+    (
+        Asks(Verify),
+        Ok((Answer::Attempt(Attempt(1)), Act::None, 7, 1)),
+    ),
     (ToServer(7), Ok((Answer::Plain, Act::None, 8, 1))),
     (ToClient(8), Ok((Answer::Plain, Act::None, 9, 1))),
     (ToServer(9), Ok((Answer::Plain, Act::None, 10, 0))),
@@ -90,7 +92,7 @@ pub const STORED: [Row; 24] = [
 /// The server's save of the run's start fails and leaves the old bytes: it is down. Started again, it has
 /// no job file, asks for it, and the run starts.
 pub const STOPPED_BEFORE: [Row; 19] = [
-    (Begin, Ok((Answer::Run(RunNo(1)), Act::None, 0, 1))),
+    (Asks(Begin), Ok((Answer::Run(RunNo(1)), Act::None, 0, 1))),
     (ToServer(0), Ok((Answer::Plain, Act::None, 1, 1))),
     (ToClient(1), Ok((Answer::Plain, Act::None, 2, 1))),
     (ToServer(2), Err(53)),
@@ -113,7 +115,7 @@ pub const STOPPED_BEFORE: [Row; 19] = [
 
 /// It leaves the new bytes: the run has begun there, and won't start again.
 pub const STOPPED_BEHIND: [Row; 6] = [
-    (Begin, Ok((Answer::Run(RunNo(1)), Act::None, 0, 1))),
+    (Asks(Begin), Ok((Answer::Run(RunNo(1)), Act::None, 0, 1))),
     (ToServer(0), Ok((Answer::Plain, Act::None, 1, 1))),
     (ToClient(1), Ok((Answer::Plain, Act::None, 2, 1))),
     (ToServer(2), Err(53)),
@@ -132,11 +134,11 @@ pub const STATES: [Row; 34] = [
     (Done(0, 0), Err(21)),
     (Restart(0), Err(82)),
     (RestartClient, Err(82)),
-    (Trigger, Err(70)),
-    (Stop(1), Err(70)),
-    (Verify, Err(70)),
+    (Asks(Trigger), Err(70)),
+    (Asks(Stop), Err(70)),
+    (Asks(Verify), Err(70)),
     (Tick, DONE),
-    (Begin, Ok((Answer::Run(RunNo(1)), Act::None, 0, 1))),
+    (Asks(Begin), Ok((Answer::Run(RunNo(1)), Act::None, 0, 1))),
     (ToClient(0), Err(69)),
     (Tick, Ok((Answer::Plain, Act::None, 1, 1))),
     (Cut(0), DONE),
@@ -150,10 +152,10 @@ pub const STATES: [Row; 34] = [
     (Done(0, 0), Err(81)),
     (Cut(0), Err(81)),
     (CutClient, Err(81)),
-    (Begin, Err(81)),
-    (Trigger, Err(81)),
-    (Stop(1), Err(81)),
-    (Verify, Err(81)),
+    (Asks(Begin), Err(81)),
+    (Asks(Trigger), Err(81)),
+    (Asks(Stop), Err(81)),
+    (Asks(Verify), Err(81)),
     (Tick, Err(81)),
     (Restart(0), DONE),
     (RestartClient, DONE),

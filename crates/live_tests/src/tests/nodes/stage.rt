@@ -2,6 +2,7 @@
 
 use super::frames::{JOURNAL, first_unlike_frame, first_unlike_line};
 use super::rows::{Row, Said, Step};
+use client_core::RequestKind;
 use disk_model::{FaultNotes, MemNotes};
 use engine::Ticket;
 use fc_base::{
@@ -124,13 +125,7 @@ impl<'a> Stage<'a> {
 
     fn take(&mut self, step: Step) -> Result<Receipt, Fault> {
         match step {
-            Step::Begin => self.request(ClientRequest::Begin(text(self.alloc, WRITING)?)),
-            Step::Verify => self.request(ClientRequest::Verify(
-                RunNo(1),
-                text(self.alloc, READING)?,
-            )),
-            Step::Trigger => self.request(ClientRequest::Trigger(RunNo(1), Act::Cut)),
-            Step::Stop(run) => self.request(ClientRequest::Stop(RunNo(run))),
+            Step::Asks(kind) => self.request(kind),
             Step::Tick => post(self.hub, self.client, ClientCommand::Tick),
             Step::ToClient(position) => deliver(self.hub, self.client, position),
             Step::ToServer(position) => deliver(self.hub, self.server, position),
@@ -144,7 +139,14 @@ impl<'a> Stage<'a> {
         }
     }
 
-    fn request(&mut self, request: ClientRequest) -> Result<Receipt, Fault> {
+    /// The client is asked this of its first run.
+    fn request(&mut self, kind: RequestKind) -> Result<Receipt, Fault> {
+        let request = match kind {
+            RequestKind::Begin => ClientRequest::Begin(text(self.alloc, WRITING)?),
+            RequestKind::Verify => ClientRequest::Verify(RunNo(1), text(self.alloc, READING)?),
+            RequestKind::Trigger => ClientRequest::Trigger(RunNo(1), Act::Cut),
+            RequestKind::Stop => ClientRequest::Stop(RunNo(1)),
+        };
         post(self.hub, self.client, ClientCommand::Request(request))
     }
 

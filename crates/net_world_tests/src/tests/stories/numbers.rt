@@ -66,7 +66,6 @@ trigger 1 => refused 70 NoSuchRun
 servers 1 => ok
 barred cutold tick => refused 84 NoSave
 barred cutnew check 0 0 => refused 84 NoSave
-barred cutold cutnew deliver 0 => refused 84 NoSave
 cutold restart 0 => refused 82 NodeOn
 cutnew deliver 0 => refused 80 NoFrame
 begin / [a] / rw=write / bs=512 / size=1k / iodepth=2 / . => ok run 1 + sent 0 client 0 Jobs 62

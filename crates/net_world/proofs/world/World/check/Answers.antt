@@ -3,7 +3,6 @@ use Rattle.std.specs.Option.{option_copied}
 use Rattle.std.proofs.lemmas.Result.{err_from_is_err_and}
 use Rattle.disk_model.specs.MemDisk.{file_of}
 use Rattle.net_world.specs.declared.told.WorldAnswer.TheVariants.{Checked}
-use Rattle.net_world.specs.Telling.{told_of}
 use Rattle.net_world.proofs.ServeLemmas.{on_below}
 use Rattle.net_world.proofs.FileStepLemmas.{file_kept, no_slot}
 use Rattle.net_world.proofs.FilePlaceLemmas.{is_read, written}
@@ -60,8 +59,8 @@ returns-in-Ok-serve c w past stands =
     let made = checked_file w past s j c.place_of.result c.in_ok-ready.ready h c.in-Ok.report _ c.index_mut.result.now c.check_disk.new.disk c.args.self.now _
     stands read c.as_ref.ensures.value c.in-Ok.ensures
     (written w past s j _ _ _ _ _ read refl refl refl refl refl) in
-    check_ends w past s j c.in_ok-ready.ready h c.in-Ok.report c.in-Ok-serve.served c.told.result c.serve.new.self made.0 (c.in-Ok-serve.ensures w past made.1)
-    (c.told.ensures ∙ ap (λ x. told_of c.in-Ok-serve.served (Checked x)) c.in-Ok-new.ensures)
+    check_ends w past s j c.in_ok-ready.ready h c.in-Ok.report c.in-Ok-serve.told c.with_answer.result c.serve.new.self made.0 (c.in-Ok-serve.ensures w past made.1)
+    (c.with_answer.ensures ∙ ap (λ x. record c.in-Ok-serve.told { answer = Checked x }) c.in-Ok-new.ensures)
 
 pub returns-in-Err : goal.returns-in-Err
 returns-in-Err c w past stands =

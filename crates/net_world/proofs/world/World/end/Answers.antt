@@ -1,5 +1,5 @@
 use Rattle.std.proofs.lemmas.Result.{err_from_is_err_and}
-use Rattle.net_world.proofs.EndsLemmas.{end_ends, end_fails, end_unopen}
+use Rattle.net_world.proofs.EndsLemmas.{end_ends, end_unopen}
 use Rattle.net_world.proofs.world.World.end.Goals as goal
 
 pub returns-in_err-found : goal.returns-in_err-found
@@ -8,12 +8,7 @@ returns-in_err-found c w past stands =
     rw (p.1, p.2)
     (end_unopen w past c.args.server c.args.job c.args.write c.args.end c.in_err-found.field-0.0 c.args.self.now (c.in_err-found.ensures w past stands) stands)
 
-pub returns-in-Ok : goal.returns-in-Ok
-returns-in-Ok c w past stands =
-    end_ends w past c.args.server c.args.job c.args.write c.args.end c.in_ok-found.found.0 c.in_ok-found.found.1 c.in-Ok.served c.told.result c.serve_end.new.self
-    (c.in_ok-found.ensures w past stands) (c.in-Ok.ensures w past stands) c.told.ensures
-
-pub returns-in-Err : goal.returns-in-Err
-returns-in-Err c w past stands =
-    end_fails w past c.args.server c.args.job c.args.write c.args.end c.in_ok-found.found.0 c.in_ok-found.found.1 c.in-Err.fault c.serve_end.new.self
-    (c.in_ok-found.ensures w past stands) (c.in-Err.ensures w past stands)
+pub returns : goal.returns
+returns c w past stands =
+    end_ends w past c.args.server c.args.job c.args.write c.args.end c.in_ok-found.found.0 c.in_ok-found.found.1 c.serve_end.result c.serve_end.new.self
+    (c.in_ok-found.ensures w past stands) (c.serve_end.ensures w past stands)

@@ -63,8 +63,8 @@ returns c w past stands =
       moved = in_place l c.server.view_is refl (c.add.ensures ∙ ap (λ fs. fs ++ outs.frames) c.settle.ensures.same) refl refl refl;
     })
     (record {
+      answer = c.of_issue.ensures;
       first = c.in-Ok.ensures.first ∙ ap (λ (fs : List (List ℕ)). length fs) c.settle.ensures.same;
       sent_is = c.len-sent.ensures;
-      issue = refl;
       act = refl;
     })

@@ -4,6 +4,7 @@ use Rattle.std.proofs.lemmas.Result.{err_from_is_err_and}
 use Rattle.node.specs.declared.power.Power.TheVariants.{On}
 use Rattle.server_core.specs.declared.input.Input.TheVariants.{WriteDone}
 use Rattle.server_core.specs.Handles.{sent_alone}
+use Rattle.net_world.specs.declared.told.Told.{Told}
 use Rattle.net_world.specs.ServerNodes.{server_nodes}
 use Rattle.net_world.proofs.NodeLemmas.{lent_ends, none_lent}
 use Rattle.net_world.proofs.ServerNodeLemmas.{laws}
@@ -67,8 +68,8 @@ returns c w past stands =
       moved = in_place l c.server.view_is refl (none_added c.settle.ensures.same) refl refl refl;
     })
     (record {
-      first = c.in-Ok.ensures.first ∙ ap (λ (fs : List (List ℕ)). length fs) c.settle.ensures.same;
-      sent_is = refl;
-      issue = refl;
-      act = refl;
+      answer = ap (λ (t : Told). t.answer) c.plain.ensures;
+      first = ap (λ (t : Told). t.first) c.plain.ensures ∙ c.in-Ok.ensures.first ∙ ap (λ (fs : List (List ℕ)). length fs) c.settle.ensures.same;
+      sent_is = ap (λ (t : Told). t.sent) c.plain.ensures;
+      act = ap (λ (t : Told). t.act) c.plain.ensures;
     })
