@@ -13,8 +13,8 @@ use Rattle.cells.specs.declared.answer.Receipt.{Receipt}
 use Rattle.cells.specs.declared.input.NodeInput.{NodeInput}
 use Rattle.cells.specs.declared.input.NodeInput.TheVariants as came
 use Rattle.cells.specs.declared.entry.HistoryEntry.{HistoryEntry}
-use Rattle.cells.specs.AtHub.{is_left_out, Comes, Hears, IsWhy, Posts}
-use Rattle.cells.specs.Calls.{is_off, Delivers, HasWhy, IsWhyNot, IsWhyWhere}
+use Rattle.cells.specs.AtHub.{is_left_out, Comes, Hears, RefusedBy, Posts}
+use Rattle.cells.specs.Calls.{is_off, Delivers, RefusedAfter, RefusedAt, RefusedWhere}
 use Rattle.cells.specs.Replay.{Makes}
 use Rattle.cells.specs.Rules.{Ask, Rules}
 
@@ -50,17 +50,17 @@ within net position it (bytes, is, came, frame) i e = subst (λ n. n < length ne
 
 -- A node that is off says so.
 pub why_off : {E X : Type 0} (rules : Rules E X) (history : List HistoryEntry) (past : List X) (ask : Ask E) → Makes rules history past → is_off rules past ≡ true
-    → HasWhy rules history ask NodeOff
-why_off rules history past ask made off = record { past = past; made = made; why = subst (λ b. IsWhyWhere b rules past ask NodeOff) (sym off) refl }
+    → RefusedAfter rules history ask NodeOff
+why_off rules history past ask made off = record { past = past; made = made; why = subst (λ b. RefusedWhere b rules past ask NodeOff) (sym off) refl }
 
 -- Of one that is on it is by its rules.
 pub why_on : {E X : Type 0} (rules : Rules E X) (history : List HistoryEntry) (past : List X) (ask : Ask E) (fault : Fault) → Makes rules history past
-    → is_off rules past ≡ false → IsWhy rules past ask fault → HasWhy rules history ask fault
-why_on rules history past ask fault made on why = record { past = past; made = made; why = subst (λ b. IsWhyWhere b rules past ask fault) (sym on) why }
+    → is_off rules past ≡ false → RefusedBy rules past ask fault → RefusedAfter rules history ask fault
+why_on rules history past ask fault made on why = record { past = past; made = made; why = subst (λ b. RefusedWhere b rules past ask fault) (sym on) why }
 
 -- One that is on takes none where there is none, or memory runs out.
 pub why_not_there : {E X : Type 0} (rules : Rules E X) (history : List HistoryEntry) (past : List X) (net : Network) (position : ℕ) (fault : Fault)
-    → Makes rules history past → is_off rules past ≡ false → Comes net position (Err fault) → IsWhyNot rules history (slice_get net.frames position) fault
+    → Makes rules history past → is_off rules past ≡ false → Comes net position (Err fault) → RefusedAt rules history (slice_get net.frames position) fault
 why_not_there rules history past net position NoFrame made on h =
     rw h (record { past = past; made = made; why = subst (λ b. NoFrame ≡ (if b then NodeOff else NoFrame)) (sym on) refl })
 why_not_there rules history past net position NoMemory made on (bytes, is) =
@@ -71,7 +71,7 @@ why_not_there rules history past net position _ made on h = absurd h
 pub why_there : {E X : Type 0} (rules : Rules E X) (history : List HistoryEntry) (net : Network) (position : ℕ) (it : NodeInput × Frame)
     (result : Result Receipt Fault) (delivers : Frame → Ask E)
     → ((bytes : List ℕ) → frame_at bytes ≡ Some it.1 → rules.asked (came.Frame bytes) ≡ delivers it.1)
-    → Comes net position (Ok it) → IfErr result (HasWhy rules history (delivers it.1)) → IfErr result (IsWhyNot rules history (slice_get net.frames position))
+    → Comes net position (Ok it) → IfErr result (RefusedAfter rules history (delivers it.1)) → IfErr result (RefusedAt rules history (slice_get net.frames position))
 why_there rules history net position it (Ok told) delivers asks there h = tt
 why_there rules history net position it (Err fault) delivers asks (bytes, is, came, frame) h =
-    rw is (subst (λ ask. HasWhy rules history ask fault) (sym (asks bytes frame)) h)
+    rw is (subst (λ ask. RefusedAfter rules history ask fault) (sym (asks bytes frame)) h)

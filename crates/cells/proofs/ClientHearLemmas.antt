@@ -31,7 +31,7 @@ use Rattle.cells.specs.declared.entry.HistoryEntry.{HistoryEntry}
 use Rattle.cells.specs.Rules.{Meets}
 use Rattle.cells.specs.ClientRules.{ask_of, core, rules}
 use Rattle.cells.specs.AtHub.{is_left_out, told_at, Hears, Comes}
-use Rattle.cells.specs.Calls.{HasWhy, IsWhyNot}
+use Rattle.cells.specs.Calls.{RefusedAfter, RefusedAt}
 use Rattle.cells.specs.ClientKind.{client_kind}
 use Rattle.cells.specs.Moves.{StepEnds, outcome_of}
 use Rattle.cells.specs.Powers.{IsReady}
@@ -149,18 +149,18 @@ shown_off note log power shown cell view off =
 -- ---- why it was refused
 
 pub unready_why : {T : Type 0} (note : T → Note) (log : ClientLog) (power : Power (Client T) T) (cell : IsCell note log power) (e : FrameInput) (fault : Fault)
-    (shown : ClientLog) → IsReady (is_up log.opening cell.kept.past) (Err fault) → log ≡ shown → HasWhy (rules shown.opening) shown.history (Meets e) fault
+    (shown : ClientLog) → IsReady (is_up log.opening cell.kept.past) (Err fault) → log ≡ shown → RefusedAfter (rules shown.opening) shown.history (Meets e) fault
 unready_why note log power cell e fault shown h view =
-    subst (λ (l : ClientLog). HasWhy (rules l.opening) l.history (Meets e) fault) view
+    subst (λ (l : ClientLog). RefusedAfter (rules l.opening) l.history (Meets e) fault) view
     (hub.unready_why (client_kind note log.opening) log.history power cell.kept (Meets e) fault h)
 
 pub told_why : {T : Type 0} (note : T → Note) (log : ClientLog) (power new : Power (Client T) T) (cell : IsCell note log power) (e : FrameInput)
     (step : Result Outs Fault) (first sent : ℕ) (result : Result Receipt Fault) (shown : ClientLog) → is_up log.opening cell.kept.past ≡ true
     → StepEnds (client_kind note log.opening) cell.kept.past e new (reply_and_frames step) → result ≡ told_at first sent (outcome_of (reply_and_frames step)).0
     → log ≡ shown
-    → IfErr result (HasWhy (rules shown.opening) shown.history (Meets e))
+    → IfErr result (RefusedAfter (rules shown.opening) shown.history (Meets e))
 told_why note log power new cell e step first sent result shown up f is view =
-    subst (λ (l : ClientLog). IfErr result (HasWhy (rules l.opening) l.history (Meets e))) view
+    subst (λ (l : ClientLog). IfErr result (RefusedAfter (rules l.opening) l.history (Meets e))) view
     (hub.step_why (client_kind note log.opening) log.history power new cell.kept e (reply_and_frames step) first sent result up f is)
 
 -- ---- a delivery
@@ -176,6 +176,6 @@ is_there note log None h some = cc
 is_there note log (Some client) (past, replay, stands, up) some = (past, replay, up)
 
 pub deliver_none : (log : ClientLog) (net : Network) (position : ℕ) (fault : Fault) → IsUp log true → Comes net position (Err fault)
-    → IsWhyNot (rules log.opening) log.history (slice_get net.frames position) fault
+    → RefusedAt (rules log.opening) log.history (slice_get net.frames position) fault
 deliver_none log net position fault (past, replay, up) h =
     why_not_there (rules log.opening) log.history past net position fault replay (off_where (words_of log.opening) (core log.opening) past true up) h

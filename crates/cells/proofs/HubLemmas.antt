@@ -20,7 +20,7 @@ use Rattle.cells.specs.declared.input.NodeInput.{NodeInput}
 use Rattle.cells.specs.declared.entry.HistoryEntry.{HistoryEntry}
 use Rattle.cells.specs.declared.entry.Turn.{Turn}
 use Rattle.cells.specs.AtHub.{is_left_out, told_at, Hears, Posts}
-use Rattle.cells.specs.Calls.{HasWhy}
+use Rattle.cells.specs.Calls.{RefusedAfter}
 use Rattle.cells.specs.Failures.{Counts}
 use Rattle.cells.specs.Kinds.{Kind, rules_for}
 use Rattle.cells.specs.Moves.{Moves, StepEnds, IsKept, outcome_of}
@@ -82,7 +82,7 @@ unready_counts up old new _ h same = absurd h
 
 -- and says why.
 pub unready_why : {C N E X D O : Type 0} (k : Kind C N E X D O) (history : List HistoryEntry) (state : Power C N) (kept : IsKept k history state) (ask : Ask E)
-    (fault : Fault) → IsReady (k.node.core.words.is_up kept.past) (Err fault) → HasWhy (rules_for k) history ask fault
+    (fault : Fault) → IsReady (k.node.core.words.is_up kept.past) (Err fault) → RefusedAfter (rules_for k) history ask fault
 unready_why k history state kept ask NodeOff h = why_off (rules_for k) history kept.past ask kept.made (off_where k.node.core.words k.core kept.past false h)
 unready_why k history state kept ask NoMemory h = why_on (rules_for k) history kept.past ask NoMemory kept.made (off_where k.node.core.words k.core kept.past true h) refl
 unready_why k history state kept ask _ h = absurd h
@@ -91,12 +91,12 @@ unready_why k history state kept ask _ h = absurd h
 pub step_why : {C N E X D O : Type 0} (k : Kind C N E X D O) (history : List HistoryEntry) (old new : Power C N) (kept : IsKept k history old) (e : E)
     (step : Result (Reply × List (List ℕ)) Fault) (first sent : ℕ) (result : Result Receipt Fault) → k.node.core.words.is_up kept.past ≡ true
     → StepEnds k kept.past e new step
-    → result ≡ told_at first sent (outcome_of step).0 → IfErr result (HasWhy (rules_for k) history (Meets e))
+    → result ≡ told_at first sent (outcome_of step).0 → IfErr result (RefusedAfter (rules_for k) history (Meets e))
 step_why k history old new kept e step first sent result up f is =
-    subst (λ (r : Result Receipt Fault). IfErr r (HasWhy (rules_for k) history (Meets e))) (sym is) (by_step step f)
+    subst (λ (r : Result Receipt Fault). IfErr r (RefusedAfter (rules_for k) history (Meets e))) (sym is) (by_step step f)
   where
     by_step : (step : Result (Reply × List (List ℕ)) Fault) → StepEnds k kept.past e new step
-        → IfErr (told_at first sent (outcome_of step).0) (HasWhy (rules_for k) history (Meets e))
+        → IfErr (told_at first sent (outcome_of step).0) (RefusedAfter (rules_for k) history (Meets e))
     by_step (Ok outs) f = tt
     by_step (Err fault) f = why_on (rules_for k) history kept.past (Meets e) fault kept.made (off_where k.node.core.words k.core kept.past true up)
         (refused_for k kept.past e fault new refl f)

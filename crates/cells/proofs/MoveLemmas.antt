@@ -10,7 +10,7 @@ use Rattle.disk_model.specs.declared.save_outcome.SaveOutcome.{SaveOutcome}
 use Rattle.disk_model.specs.declared.save_outcome.SaveOutcome.TheVariants as lefts
 use Rattle.disk_model.specs.SaveOutcome.{is_lost}
 use Rattle.cells.specs.declared.answer.Reply.{Reply}
-use Rattle.cells.specs.AtHub.{is_drop, is_memory, is_save, is_left_out, lacks_memory, IsWhyBy}
+use Rattle.cells.specs.AtHub.{is_drop, is_memory, is_save, is_left_out, lacks_memory, RefusedAs}
 use Rattle.cells.specs.Calls.{says_off, is_off}
 use Rattle.cells.specs.Failures.{is_load, CountsBy, Counts}
 use Rattle.cells.specs.Kinds.{Kind, rules_for}
@@ -121,7 +121,7 @@ moved k past e new (Err fault) h f = by_sort (sort_of fault) h f
 
 -- Why a step isn't answered: as the rules have it, where no note is loaded.
 pub refused_for : {C N E X D O : Type 0} (k : Kind C N E X D O) (past : List X) (e : E) (fault : Fault) (new : Power C N) → (rules_for k).loads past (Meets e) ≡ false
-    → Faults k past e (sort_of fault) fault new → IsWhyBy (rules_for k) past (Meets e) (sort_of fault) fault
+    → Faults k past e (sort_of fault) fault new → RefusedAs (rules_for k) past (Meets e) (sort_of fault) fault
 refused_for {X = X} k past e fault new loads f = by_sort (sort_of fault) refl f
   where
     by_why : ((rules_for k).refusal past (Meets e) ≡ Some fault) ⊎ ((fault ≡ LoadFault) × ((rules_for k).loads past (Meets e) ≡ true))
@@ -132,7 +132,7 @@ refused_for {X = X} k past e fault new loads f = by_sort (sort_of fault) refl f
     by_stop : (after : List X) → Stops (rules_for k) past (Meets e) sorts.Refusal fault [] after → (rules_for k).refusal past (Meets e) ≡ Some fault
     by_stop after p = by_why p.why
 
-    by_sort : (sort : FaultSort) → sort_of fault ≡ sort → Faults k past e sort fault new → IsWhyBy (rules_for k) past (Meets e) sort fault
+    by_sort : (sort : FaultSort) → sort_of fault ≡ sort → Faults k past e sort fault new → RefusedAs (rules_for k) past (Meets e) sort fault
     by_sort sorts.Memory is f = f.0
     by_sort sorts.Save is f = tt
     by_sort sorts.Refusal is f = by_stop f.moves.after (subst (λ (sort : FaultSort). Stops (rules_for k) past (Meets e) sort fault [] f.moves.after) is f.moves.ends)

@@ -9,7 +9,7 @@ ghost use Rattle.cells.specs.Rules.{Meets};
 ghost use Rattle.cells.specs.declared.input.NodeInput.TheVariants as kinds;
 ghost use Rattle.cells.specs.ClientRules.{ask_of, rules};
 ghost use Rattle.cells.specs.AtHub.{Posts};
-ghost use Rattle.cells.specs.Calls.{HasWhy};
+ghost use Rattle.cells.specs.Calls.{RefusedAfter};
 ghost use Rattle.cells.specs.Failures.{Counts};
 ghost use Rattle.cells.specs.ClientCells.{IsReplay};
 ghost use Rattle.cells.specs.ClientTasks.{came_in, input_in};
@@ -48,7 +48,7 @@ impl<N: Notes + Drop> ClientCell<N> {
         ensures opening { self.new.opening ≡ self.old.opening }
         ensures failures { Counts false self.old.failures self.new.failures result }
         ensures why { IfErr result
-            (HasWhy (rules self.old.opening) self.old.history (Meets (input_in incoming))) }
+            (RefusedAfter (rules self.old.opening) self.old.history (Meets (input_in incoming))) }
         ensures ends { Posts Client (came_in incoming) taken
             hub.old.net hub.new.net self.old.history self.new.history result }
         ensures replay { (past : List FrameEntry) × IsReplay self.new past }
@@ -67,7 +67,7 @@ impl<N: Notes + Drop> ClientCell<N> {
     pub(super) fn tick(&mut self, hub: &mut Hub) -> Result<Receipt, Fault>
         ensures opening { self.new.opening ≡ self.old.opening }
         ensures failures { Counts false self.old.failures self.new.failures result }
-        ensures why { IfErr result (HasWhy (rules self.old.opening) self.old.history (Meets Tick)) }
+        ensures why { IfErr result (RefusedAfter (rules self.old.opening) self.old.history (Meets Tick)) }
         ensures ends { Posts Client kinds.Tick None hub.old.net hub.new.net self.old.history
             self.new.history result }
         ensures replay { (past : List FrameEntry) × IsReplay self.new past }

@@ -7,7 +7,7 @@ ghost use Rattle.server_core.specs.Hearing.{FrameEntry, is_up};
 ghost use Rattle.cells.specs.Rules.{Meets};
 ghost use Rattle.cells.specs.ServerRules.{ask_of, rules};
 ghost use Rattle.cells.specs.AtHub.{Posts};
-ghost use Rattle.cells.specs.Calls.{HasWhy};
+ghost use Rattle.cells.specs.Calls.{RefusedAfter};
 ghost use Rattle.cells.specs.Failures.{Counts};
 ghost use Rattle.cells.specs.Moves.{outcome_of};
 ghost use Rattle.cells.specs.ServerCells.{IsReplay};
@@ -55,7 +55,7 @@ impl<N: Notes + Drop> ServerCell<N> {
             (ServerNode self.old.opening.me) came taken hub.old.net hub.new.net self.old.history
             self.new.history result }
         ensures why { IfErr result
-            (HasWhy (rules self.old.opening) self.old.history (Meets input)) }
+            (RefusedAfter (rules self.old.opening) self.old.history (Meets input)) }
         ensures replay { (past : List FrameEntry) × IsReplay self.new past }
     {
         packets_are_in_range();

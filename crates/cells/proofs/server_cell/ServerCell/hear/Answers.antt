@@ -5,7 +5,7 @@ use Rattle.fc_base.specs.declared.fault.Fault.{Fault}
 use Rattle.messages.specs.Network.{IsSpelled}
 use Rattle.messages.specs.declared.node.Node.TheVariants.{Server as ServerNode}
 use Rattle.cells.specs.declared.answer.Reply.{Reply}
-use Rattle.cells.specs.Calls.{HasWhy}
+use Rattle.cells.specs.Calls.{RefusedAfter}
 use Rattle.cells.specs.Rules.{Meets}
 use Rattle.cells.specs.ServerKind.{server_kind}
 use Rattle.cells.specs.ServerRules.{rules}
@@ -33,7 +33,7 @@ returns-in_err-make_room-clause-why g c =
     let fault = c.in_err-make_room.field-0.0 in
     let p = err_from_is_err_and c.from_residual.result c.from_residual.ensures.1 in
     rw (p.1, p.2)
-    (subst (λ (log : ServerLog). HasWhy (rules log.opening) log.history (Meets c.args.input) fault) c.self.view_is
+    (subst (λ (log : ServerLog). RefusedAfter (rules log.opening) log.history (Meets c.args.input) fault) c.self.view_is
     (unready_why (server_kind g.N.Notes.note o) _ c.self.inside.power cell.kept (Meets c.args.input) fault
     (c.in_err-make_room.ensures.ready o cell.kept.past cell.kept.stands)))
 
@@ -92,7 +92,7 @@ returns-clause-why g c =
     let note = g.N.Notes.note in
     let cell = c.self.invariant in
     let o = opening_with c.self.inside.me c.self.inside.boot c.self.inside.last_run in
-    subst (λ (log : ServerLog). IfErr c.enter.result (HasWhy (rules log.opening) log.history (Meets c.args.input))) c.self.view_is
+    subst (λ (log : ServerLog). IfErr c.enter.result (RefusedAfter (rules log.opening) log.history (Meets c.args.input))) c.self.view_is
     (step_why (server_kind note o) _ c.self.inside.power c.step.new.power cell.kept c.args.input (reply_and_frames c.step.result) _ _ c.enter.result
     (c.in_ok-make_room.ensures.ready o cell.kept.past cell.kept.stands) (c.step.ensures.ends o cell.kept.past cell.kept.stands)
     (rw c.outcome-done.ensures at c.enter.ensures.told))
