@@ -1,5 +1,5 @@
 -- How a call of a node ends that was left out, and why, whichever node it is.
-use Rattle.std.proofs.Common.{◌≡◌, refl, sym, subst, ℕ, ◌<◌, true, false, List, [], length, Option, Some, None, Result, Ok, Err}
+use Rattle.std.proofs.Common.{◌≡◌, refl, sym, ◌∙◌, ap, subst, ℕ, ◌<◌, true, false, List, [], length, Option, Some, None, Result, Ok, Err}
 use Rattle.std.specs.Prelude.{if◌then◌else◌, slice_get, IfErr}
 use Rattle.std.specs.Option.{ForSome}
 use Rattle.std.proofs.lemmas.Option.{slice_get_within}
@@ -16,7 +16,8 @@ use Rattle.cells.specs.declared.entry.HistoryEntry.{HistoryEntry}
 use Rattle.cells.specs.AtHub.{is_left_out, Comes, Hears, RefusedBy, Posts}
 use Rattle.cells.specs.Calls.{is_off, Delivers, RefusedAfter, RefusedAt, RefusedWhere}
 use Rattle.cells.specs.Replay.{Makes}
-use Rattle.cells.specs.Rules.{Ask, Rules}
+use Rattle.cells.specs.Failures.{Counts}
+use Rattle.cells.specs.Rules.{Ask, Meets, Rules}
 
 -- ---- nothing changes
 
@@ -75,3 +76,31 @@ pub why_there : {E X : Type 0} (rules : Rules E X) (history : List HistoryEntry)
 why_there rules history net position it (Ok told) delivers asks there h = tt
 why_there rules history net position it (Err fault) delivers asks (bytes, is, came, frame) h =
     rw is (subst (λ ask. RefusedAfter rules history ask fault) (sym (asks bytes frame)) h)
+
+-- A delivery to a node that is off is refused so.
+pub refused_off : {E X : Type 0} (rules : Rules E X) (history : List HistoryEntry) (past : List X) (found : Option (List ℕ)) → Makes rules history past
+    → is_off rules past ≡ true → RefusedAt rules history found NodeOff
+refused_off rules history past None made off =
+    record { past = past; made = made; why = subst (λ b. NodeOff ≡ (if b then NodeOff else NoFrame)) (sym off) refl }
+refused_off rules history past (Some bytes) made off = why_off rules history past (rules.asked (came.Frame bytes)) made off
+
+-- Where no frame comes, no device has failed.
+pub uncounted : (net : Network) (position count : ℕ) (fault : Fault) → Comes net position (Err fault) → Counts {X = Receipt} false count count (Err fault)
+uncounted net position count NoFrame h = refl
+uncounted net position count NoMemory h = refl
+uncounted net position count _ h = absurd h
+
+-- What comes is asked as its frame is delivered.
+pub asks_frame : {E I : Type 0} (asked : NodeInput → Ask E) (delivers : Frame → E) (net : Network) (position : ℕ) (it : NodeInput × Frame) (came_in : I → NodeInput)
+    (input_in : I → E) (incoming : I) → ((bytes : List ℕ) (f : Frame) → frame_at bytes ≡ Some f → asked (came.Frame bytes) ≡ Meets (delivers f))
+    → Comes net position (Ok it) → came_in incoming ≡ it.0 → input_in incoming ≡ delivers it.1 → asked (came_in incoming) ≡ Meets (input_in incoming)
+asks_frame asked delivers net position it came_in input_in incoming law (bytes, is, came, frame) kept met =
+    ap asked (kept ∙ came) ∙ law bytes it.1 frame ∙ ap (λ e. Meets e) (sym met)
+
+-- What comes is delivered.
+pub delivered : {I : Type 0} (node : Node) (position : ℕ) (old new : Network) (before after : List HistoryEntry) (result : Result Receipt Fault)
+    (it : NodeInput × Frame) (came_in : I → NodeInput) (incoming : I) → Comes old position (Ok it) → came_in incoming ≡ it.0
+    → Posts node (came_in incoming) (Some position) old new before after result
+    → Delivers node position (slice_get old.frames position) old new before after result
+delivered node position old new before after result it came_in incoming (bytes, is, came, frame) kept posts =
+    rw is (subst (λ came. Posts node came (Some position) old new before after result) (kept ∙ came) posts)
