@@ -1,5 +1,5 @@
 -- How a call of a node ends that was left out, and why, whichever node it is.
-use Rattle.std.proofs.Common.{◌≡◌, refl, sym, subst, ℕ, ◌<◌, true, false, List, [], length, Option, Some, None, Result, Ok, Err}
+use Rattle.std.proofs.Common.{◌≡◌, refl, sym, ◌∙◌, ap, subst, ℕ, ◌<◌, true, false, List, [], length, Option, Some, None, Result, Ok, Err}
 use Rattle.std.specs.Prelude.{if◌then◌else◌, slice_get, IfErr}
 use Rattle.std.specs.Option.{ForSome}
 use Rattle.std.proofs.lemmas.Option.{slice_get_within}
@@ -13,10 +13,11 @@ use Rattle.cells.specs.declared.answer.Receipt.{Receipt}
 use Rattle.cells.specs.declared.input.NodeInput.{NodeInput}
 use Rattle.cells.specs.declared.input.NodeInput.TheVariants as came
 use Rattle.cells.specs.declared.entry.HistoryEntry.{HistoryEntry}
-use Rattle.cells.specs.AtHub.{is_left_out, Comes, Hears, IsWhy, Posts}
-use Rattle.cells.specs.Calls.{is_off, Delivers, HasWhy, IsWhyNot, IsWhyWhere}
+use Rattle.cells.specs.AtHub.{is_left_out, Comes, Hears, RefusedBy, Posts}
+use Rattle.cells.specs.Calls.{is_off, Delivers, RefusedAfter, RefusedAt, RefusedWhere}
 use Rattle.cells.specs.Replay.{Makes}
-use Rattle.cells.specs.Rules.{Ask, Rules}
+use Rattle.cells.specs.Failures.{Counts}
+use Rattle.cells.specs.Rules.{Ask, Meets, Rules}
 
 -- ---- nothing changes
 
@@ -50,17 +51,17 @@ within net position it (bytes, is, came, frame) i e = subst (λ n. n < length ne
 
 -- A node that is off says so.
 pub why_off : {E X : Type 0} (rules : Rules E X) (history : List HistoryEntry) (past : List X) (ask : Ask E) → Makes rules history past → is_off rules past ≡ true
-    → HasWhy rules history ask NodeOff
-why_off rules history past ask made off = record { past = past; made = made; why = subst (λ b. IsWhyWhere b rules past ask NodeOff) (sym off) refl }
+    → RefusedAfter rules history ask NodeOff
+why_off rules history past ask made off = record { past = past; made = made; why = subst (λ b. RefusedWhere b rules past ask NodeOff) (sym off) refl }
 
 -- Of one that is on it is by its rules.
 pub why_on : {E X : Type 0} (rules : Rules E X) (history : List HistoryEntry) (past : List X) (ask : Ask E) (fault : Fault) → Makes rules history past
-    → is_off rules past ≡ false → IsWhy rules past ask fault → HasWhy rules history ask fault
-why_on rules history past ask fault made on why = record { past = past; made = made; why = subst (λ b. IsWhyWhere b rules past ask fault) (sym on) why }
+    → is_off rules past ≡ false → RefusedBy rules past ask fault → RefusedAfter rules history ask fault
+why_on rules history past ask fault made on why = record { past = past; made = made; why = subst (λ b. RefusedWhere b rules past ask fault) (sym on) why }
 
 -- One that is on takes none where there is none, or memory runs out.
 pub why_not_there : {E X : Type 0} (rules : Rules E X) (history : List HistoryEntry) (past : List X) (net : Network) (position : ℕ) (fault : Fault)
-    → Makes rules history past → is_off rules past ≡ false → Comes net position (Err fault) → IsWhyNot rules history (slice_get net.frames position) fault
+    → Makes rules history past → is_off rules past ≡ false → Comes net position (Err fault) → RefusedAt rules history (slice_get net.frames position) fault
 why_not_there rules history past net position NoFrame made on h =
     rw h (record { past = past; made = made; why = subst (λ b. NoFrame ≡ (if b then NodeOff else NoFrame)) (sym on) refl })
 why_not_there rules history past net position NoMemory made on (bytes, is) =
@@ -71,7 +72,35 @@ why_not_there rules history past net position _ made on h = absurd h
 pub why_there : {E X : Type 0} (rules : Rules E X) (history : List HistoryEntry) (net : Network) (position : ℕ) (it : NodeInput × Frame)
     (result : Result Receipt Fault) (delivers : Frame → Ask E)
     → ((bytes : List ℕ) → frame_at bytes ≡ Some it.1 → rules.asked (came.Frame bytes) ≡ delivers it.1)
-    → Comes net position (Ok it) → IfErr result (HasWhy rules history (delivers it.1)) → IfErr result (IsWhyNot rules history (slice_get net.frames position))
+    → Comes net position (Ok it) → IfErr result (RefusedAfter rules history (delivers it.1)) → IfErr result (RefusedAt rules history (slice_get net.frames position))
 why_there rules history net position it (Ok told) delivers asks there h = tt
 why_there rules history net position it (Err fault) delivers asks (bytes, is, came, frame) h =
-    rw is (subst (λ ask. HasWhy rules history ask fault) (sym (asks bytes frame)) h)
+    rw is (subst (λ ask. RefusedAfter rules history ask fault) (sym (asks bytes frame)) h)
+
+-- A delivery to a node that is off is refused so.
+pub refused_off : {E X : Type 0} (rules : Rules E X) (history : List HistoryEntry) (past : List X) (found : Option (List ℕ)) → Makes rules history past
+    → is_off rules past ≡ true → RefusedAt rules history found NodeOff
+refused_off rules history past None made off =
+    record { past = past; made = made; why = subst (λ b. NodeOff ≡ (if b then NodeOff else NoFrame)) (sym off) refl }
+refused_off rules history past (Some bytes) made off = why_off rules history past (rules.asked (came.Frame bytes)) made off
+
+-- Where no frame comes, no device has failed.
+pub uncounted : (net : Network) (position count : ℕ) (fault : Fault) → Comes net position (Err fault) → Counts {X = Receipt} false count count (Err fault)
+uncounted net position count NoFrame h = refl
+uncounted net position count NoMemory h = refl
+uncounted net position count _ h = absurd h
+
+-- What comes is asked as its frame is delivered.
+pub asks_frame : {E I : Type 0} (asked : NodeInput → Ask E) (delivers : Frame → E) (net : Network) (position : ℕ) (it : NodeInput × Frame) (came_in : I → NodeInput)
+    (input_in : I → E) (incoming : I) → ((bytes : List ℕ) (f : Frame) → frame_at bytes ≡ Some f → asked (came.Frame bytes) ≡ Meets (delivers f))
+    → Comes net position (Ok it) → came_in incoming ≡ it.0 → input_in incoming ≡ delivers it.1 → asked (came_in incoming) ≡ Meets (input_in incoming)
+asks_frame asked delivers net position it came_in input_in incoming law (bytes, is, came, frame) kept met =
+    ap asked (kept ∙ came) ∙ law bytes it.1 frame ∙ ap (λ e. Meets e) (sym met)
+
+-- What comes is delivered.
+pub delivered : {I : Type 0} (node : Node) (position : ℕ) (old new : Network) (before after : List HistoryEntry) (result : Result Receipt Fault)
+    (it : NodeInput × Frame) (came_in : I → NodeInput) (incoming : I) → Comes old position (Ok it) → came_in incoming ≡ it.0
+    → Posts node (came_in incoming) (Some position) old new before after result
+    → Delivers node position (slice_get old.frames position) old new before after result
+delivered node position old new before after result it came_in incoming (bytes, is, came, frame) kept posts =
+    rw is (subst (λ came. Posts node came (Some position) old new before after result) (kept ∙ came) posts)

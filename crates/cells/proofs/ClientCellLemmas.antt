@@ -9,12 +9,12 @@ use Rattle.client_core.specs.declared.note.ClientNote.{ClientNote}
 use Rattle.client_core.specs.History.{Opening}
 use Rattle.client_core.specs.Hearing.{FrameEntry, Restart}
 use Rattle.client_core.specs.FrameEnds.{StandsFor, Opens}
-use Rattle.cells.specs.ClientKind.{client_kind}
+use Rattle.client_core.specs.NodeKind.{client_kind}
 use Rattle.cells.specs.declared.answer.Reply.{Reply}
 use Rattle.cells.specs.declared.answer.Receipt.{Receipt}
 use Rattle.cells.specs.declared.input.NodeInput.{NodeInput}
 use Rattle.cells.specs.declared.entry.HistoryEntry.{HistoryEntry}
-use Rattle.cells.specs.ClientRules.{ask_of}
+use Rattle.cells.specs.ClientRules.{ask_of, core}
 use Rattle.cells.specs.AtHub.{lacks_memory, told_by}
 use Rattle.cells.specs.Failures.{Counts}
 use Rattle.cells.specs.Moves.{Moves}
@@ -22,7 +22,7 @@ use Rattle.cells.proofs.HubLemmas.{same_kept, entered as kept_more}
 use Rattle.node.specs.declared.power.Power.{Power}
 use Rattle.node.specs.declared.power.Power.TheVariants.{On}
 use Rattle.cells.specs.declared.client_cell.task.ClientTask.{ClientTask}
-use Rattle.cells.specs.ClientStands.{Stands}
+use Rattle.node.specs.Kinds.{Stands}
 use Rattle.cells.specs.ClientCells.{ClientLog, opening_of, IsReplay, IsCell}
 use Rattle.cells.specs.ClientCalls.{logged_by, Enters, Applies}
 use Rattle.cells.specs.ClientTasks.{came_by, loads_note}
@@ -54,9 +54,8 @@ pub new_cell : {T : Type 0} (note : T → Note) (servers : ℕ) (notes : T) (cli
 new_cell note servers notes client seen h history failures some few is none =
     rw none (subst (λ said. IsCell note (record { opening = opening_by servers said; history = []; failures = failures }) (On client))
     (sym (seen_said note servers notes client seen h is)) (record {
-      kept = record { past = first; made = refl; stands = opened_once note servers notes client h; ranges = tt };
+      kept = record { past = first; made = refl; stands = opened_once note servers notes client h; ranges = (record { servers = few; note = h.says.note }, tt) };
       some = some;
-      opens = record { servers = few; note = h.says.note };
     }))
 
 -- ---- what is asked
@@ -71,21 +70,21 @@ with_history log history failures = record { opening = log.opening; history = hi
 
 -- Where nothing is entered, a cell is what it was.
 pub same_cell : {T : Type 0} (note : T → Note) (log : ClientLog) (power new : Power (Client T) T) (failures : ℕ) (cell : IsCell note log power)
-    → Stands note log.opening cell.kept.past new → IsCell note (with_history log log.history failures) new
+    → Stands (client_kind note log.opening) cell.kept.past new → IsCell note (with_history log log.history failures) new
 same_cell note log power new failures cell s =
-    record { kept = same_kept (client_kind note log.opening) log.history power new cell.kept s; some = cell.some; opens = cell.opens }
+    record { kept = same_kept (client_kind note log.opening) (core log.opening) log.history power new cell.kept s; some = cell.some }
 
 -- What was asked is entered.
 pub entered : {T : Type 0} (note : T → Note) (log : ClientLog) (power new : Power (Client T) T) (failures : ℕ) (came : NodeInput) (answer : Result Reply Fault)
     (cell : IsCell note log power)
-    → Moves (client_kind note log.opening) cell.kept.past (ask_of came) answer [] new
+    → Moves (client_kind note log.opening) (core log.opening) cell.kept.past (ask_of came) answer [] new
     → IsCell note (with_history log (logged_by came answer ∷ log.history) failures) new
 entered note log power new failures came answer cell m =
-    record { kept = kept_more (client_kind note log.opening) log.history power new cell.kept _ came answer [] m; some = cell.some; opens = cell.opens }
+    record { kept = kept_more (client_kind note log.opening) (core log.opening) log.history power new cell.kept _ came answer [] m; some = cell.some }
 
 pub replayed : {T : Type 0} (note : T → Note) (log : ClientLog) (power new : Power (Client T) T) (failures : ℕ) (came : NodeInput) (answer : Result Reply Fault)
     (cell : IsCell note log power)
-    → Moves (client_kind note log.opening) cell.kept.past (ask_of came) answer [] new
+    → Moves (client_kind note log.opening) (core log.opening) cell.kept.past (ask_of came) answer [] new
     → (past : List FrameEntry) × IsReplay (with_history log (logged_by came answer ∷ log.history) failures) past
 replayed note log power new failures came answer cell m = (m.after, (cell.kept.past, cell.kept.made, m.ends))
 

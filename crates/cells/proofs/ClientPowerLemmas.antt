@@ -1,5 +1,6 @@
 -- A client that may have no power takes what comes as the rules have it.
 use Rattle.std.proofs.Common.{◌≡◌, refl, ℕ, true, false, List, ◌∷◌, Some, Result, Ok, Err}
+use Rattle.std.specs.Prelude.{IfOk}
 use Rattle.fc_base.specs.declared.fault.Fault.{Fault}
 use Rattle.fc_base.specs.declared.fault.Fault.TheVariants.{FrameBadField}
 use Rattle.fc_base.specs.declared.fault.FaultSort.{FaultSort}
@@ -19,9 +20,11 @@ use Rattle.client_core.specs.Ranges.{IsInRange, CameInRange}
 use Rattle.client_core.specs.Hearing.{FrameEntry, Met, packets_heard, heard_at, rules as hearing, is_up}
 use Rattle.client_core.specs.FrameAnswers.{sense}
 use Rattle.client_core.specs.FrameEnds as ends
-use Rattle.client_core.specs.FrameEnds.{note_in}
+use Rattle.client_core.specs.FrameEnds.{note_in, most_packets}
 use Rattle.node.specs.declared.power.Power.TheVariants.{On}
-use Rattle.cells.specs.ClientKind.{client_kind}
+use Rattle.client_core.specs.NodeKind.{client_kind}
+use Rattle.client_core.specs.Bounds.{AreShort}
+use Rattle.cells.specs.ClientRules.{core}
 use Rattle.cells.specs.Failures.{Counts}
 use Rattle.cells.specs.Moves.{StepEnds}
 use Rattle.cells.proofs.StepLemmas.{Fits, answered_ends, unanswered_ends, faults_count}
@@ -60,22 +63,28 @@ no_drop o past Drops fault h k = absurd (k (same FrameBadField fault h))
 no_drop o past Misses fault h k = refl
 
 fits : {T : Type 0} (note : T → Note) (o : Opening) (past : List FrameEntry) (e : FrameInput)
-    → Fits (client_kind note o) past e (λ sort. UnlessMemory IsInRange sort (sense o past e))
+    → Fits (client_kind note o) (core o) past e (λ sort. UnlessMemory IsInRange sort (sense o past e))
 fits note o past e = record {
   stays = λ fault client why other h. h (no_drop o past (sense o past e) fault why other);
   alike = λ h. h;
-  ranges = λ h left. came_after o past e left h;
+  ranges = λ h left r. (r.0, came_after o past e left h r.1);
 }
 
 -- A client that is on ends a step as its list says.
 pub stepped : {T : Type 0} (note : T → Note) (o : Opening) (past : List FrameEntry) (e : FrameInput) (old client : Client T) (result : Result Outs Fault)
     → is_up o past ≡ true → HearsInRange IsInRange (sense o past e) result → steps.Ends (node_steps note o) past e old client result
-    → StepEnds (client_kind note o) past e (On client) (reply_and_frames result)
+    → StepEnds (client_kind note o) (core o) past e (On client) (reply_and_frames result)
 stepped note o past e old client (Ok outs) on h a =
-    answered_ends (client_kind note o) past e (fits note o past e) on old client outs _ outs.frames a h
-    (rw a.sends.answer_is refl) a.sends.sends.frames_are a.sends.sends.short
+    answered_ends (client_kind note o) (core o) past e (fits note o past e) on old client outs _ outs.frames a h
+    (rw a.sends.answer_is refl) a.sends.sends.frames_are
 stepped note o past e old client (Err fault) on h f =
-    unanswered_ends (client_kind note o) past e (fits note o past e) on old client fault (sort_of fault) f h refl
+    unanswered_ends (client_kind note o) (core o) past e (fits note o past e) on old client fault (sort_of fault) f h refl
+
+-- Its frames are few and short.
+pub step_short : {T : Type 0} (note : T → Note) (o : Opening) (past : List FrameEntry) (e : FrameInput) (old client : Client T) (result : Result Outs Fault)
+    → steps.Ends (node_steps note o) past e old client result → (core o).InRange past → IfOk result (λ outs. AreShort (most_packets o past e) outs.frames)
+step_short note o past e old client (Ok outs) a r = a.sends.sends.short r.0 r.1
+step_short note o past e old client (Err fault) f r = tt
 
 -- It counts a failed save.
 pub step_counts : {T : Type 0} (note : T → Note) (o : Opening) (past : List FrameEntry) (e : FrameInput) (old client : Client T) (result : Result Outs Fault)

@@ -15,15 +15,19 @@ use Rattle.client_core.specs.FrameEnds as ends
 use Rattle.client_core.specs.FrameEnds.{note_in}
 use Rattle.cells.specs.declared.answer.Reply.{Reply}
 use Rattle.node.specs.declared.power.Power.TheVariants.{Off}
-use Rattle.cells.specs.ClientKind.{client_kind, client_is_cut}
+use Rattle.client_core.specs.NodeKind.{client_kind}
+use Rattle.cells.specs.ClientRules.{core, ask_of_frame}
 use Rattle.cells.specs.Failures.{Counts}
 use Rattle.cells.specs.Moves.{TaskEnds}
-use Rattle.node.specs.declared.power.Power.{Power}
 use Rattle.node.specs.Kinds.{left_by, note_by}
 use Rattle.node.specs.Kinds as nodes
 use Rattle.cells.specs.Powers.{told_of}
-use Rattle.cells.proofs.PowerLemmas.{was_on, was_on_counts}
 use Rattle.cells.specs.Rules.{Restarts}
+use Rattle.messages.specs.NetworkLaws.{FramesAreSpelled}
+use Rattle.client_core.specs.Laws.{PacketsAreInRange}
+use Rattle.client_core.specs.Inputs.{Deliver}
+use Rattle.cells.specs.CoreLaws.{Laws}
+use Rattle.cells.proofs.ClientHearLemmas.{spelled}
 
 -- Without a mirror a bad note says nothing.
 no_note : (bytes : List ℕ) → IsBadNote false bytes → (said : ClientNote) → Says bytes said → ⊥
@@ -32,7 +36,7 @@ no_note bytes (inr empty) said says = cc
 
 unstarted : {T : Type 0} (note : T → Note) (o : Opening) (past : List FrameEntry) (notes back : T) (fault : Fault) → is_up o past ≡ false
     → Says (note notes).bytes (words_noted o (packets_heard o past)) → NotOpened false (note notes) (note back) fault
-    → TaskEnds (client_kind note o) past Restarts (Off back) (Err fault)
+    → TaskEnds (client_kind note o) (core o) past Restarts (Off back) (Err fault)
 unstarted note o past notes back LoadFault off says h = record {
   after = past;
   ends = record { why = inr (refl, ap not off); sends_none = refl; after_is = refl };
@@ -46,7 +50,7 @@ unstarted note o past notes back _ off says h = absurd h
 pub starts : {T : Type 0} (note : T → Note) (o : Opening) (past : List FrameEntry) (servers : ℕ) (notes : T) (result : Result (Client T) (T × Fault))
     → o.servers ≡ servers → is_up o past ≡ false → Says (note notes).bytes (words_noted o (packets_heard o past))
     → ends.Restarts note servers false (note notes) result
-    → TaskEnds (client_kind note o) past Restarts (left_by result) (told_of (nodes.told_of result))
+    → TaskEnds (client_kind note o) (core o) past Restarts (left_by result) (told_of (nodes.told_of result))
 starts note o past servers notes (Ok client) is off says h = record {
   after = Restart false ∷ past;
   ends = record {
@@ -75,18 +79,17 @@ pub start_counts : {T : Type 0} (note : T → Note) (servers : ℕ) (notes : T) 
 start_counts note servers notes (Ok client) h = tt
 start_counts note servers notes (Err back) h = unstarted_counts (note notes) (note back.0) back.1 h
 
--- ---- a node that may be on
+-- ---- the laws of cells
 
-pub restart_ends : {T : Type 0} (note : T → Note) (o : Opening) (past : List FrameEntry) (servers : ℕ) (old new : Power (Client T) T)
-    (done : Result (Unit {0}) Fault) → o.servers ≡ servers → nodes.Stands (client_kind note o).node past old
-    → nodes.Restarts (client_kind note o).node (λ notes result. ends.Restarts note servers false (note notes) result) past old new done
-    → TaskEnds (client_kind note o) past Restarts new (told_of done)
-restart_ends note o past servers old new done is s (inl w) = was_on (client_kind note o) past old new done (client_is_cut note o past) s w
-restart_ends note o past servers old new done is s (inr h) = rw (h.new_is, h.told) (starts note o past servers h.notes h.made is h.off h.left.says h.opens)
-
-pub restart_counts : {T : Type 0} (note : T → Note) (o : Opening) (past : List FrameEntry) (servers : ℕ) (old new : Power (Client T) T)
-    (done : Result (Unit {0}) Fault)
-    → nodes.Restarts (client_kind note o).node (λ notes result. ends.Restarts note servers false (note notes) result) past old new done
-    → Counts true (nodes.note_of (client_kind note o).node old).failures (nodes.note_of (client_kind note o).node new).failures (told_of done)
-restart_counts note o past servers old new done (inl w) = was_on_counts (client_kind note o) past old new done w
-restart_counts note o past servers old new done (inr h) = rw (h.new_is, h.told, ← h.left.same) (start_counts note servers h.notes h.made h.opens)
+-- Its rules keep the laws of cells.
+pub laws : {T : Type 0} (note : T → Note) (o : Opening) → FramesAreSpelled → PacketsAreInRange
+    → Laws (client_kind note o) (core o) (λ notes made. ends.Restarts note o.servers false (note notes) made) Deliver
+laws note o law ranges = record {
+  cuts = λ past. record { sends_none = refl; off = refl; ranges = λ h. h; says = λ notes h. h };
+  starts = record {
+    ends = λ past notes made off says h. starts note o past o.servers notes made refl off says h;
+    counts = λ notes made h. start_counts note o.servers notes made h;
+  };
+  asked = λ bytes f is. ap ask_of_frame is;
+  spelled = spelled law ranges o;
+}

@@ -13,14 +13,14 @@ use Rattle.server_core.specs.History.{Opening}
 use Rattle.server_core.specs.Answers.{shown_entries, status}
 use Rattle.server_core.specs.Hearing.{FrameEntry, Restart, packets_heard}
 use Rattle.server_core.specs.FrameEnds.{StandsFor, Restarts}
-use Rattle.cells.specs.ServerKind.{server_kind}
+use Rattle.server_core.specs.NodeKind.{server_kind}
 use Rattle.cells.specs.declared.entry.HistoryEntry.{HistoryEntry}
 use Rattle.cells.specs.declared.input.NodeInput.{NodeInput}
 use Rattle.cells.specs.declared.answer.Reply.{Reply}
 use Rattle.cells.specs.declared.answer.Receipt.{Receipt}
 use Rattle.cells.specs.declared.entry.Turn.{Turn}
 use Rattle.cells.specs.Seated.{Seated}
-use Rattle.cells.specs.ServerRules.{ask_of}
+use Rattle.cells.specs.ServerRules.{ask_of, core}
 use Rattle.cells.specs.AtHub.{lacks_memory, told_by}
 use Rattle.cells.specs.Failures.{Counts}
 use Rattle.cells.specs.Moves.{Moves}
@@ -32,7 +32,7 @@ use Rattle.node.specs.declared.power.Power.{Power}
 use Rattle.node.specs.declared.power.Power.TheVariants.{On}
 use Rattle.cells.specs.declared.server_cell.task.ServerTask.{ServerTask}
 use Rattle.cells.specs.ServerTasks.{came_by, loads_note}
-use Rattle.cells.specs.ServerStands.{Stands}
+use Rattle.node.specs.Kinds.{Stands}
 use Rattle.cells.specs.ServerCalls.{is_right, logged_by, entry_of, Enters, Applies, AppliesBy}
 use Rattle.cells.specs.ServerCells.{ServerLog, Replays, IsCell, AreCounted}
 
@@ -79,9 +79,8 @@ pub new_cell : {T : Type 0} (note : T → Note) (me : ℕ) (notes : T) (server :
     → IsCell note (record { me = me; boot = boot; last = last }) (On server) (reverse history) (zeros 17)
 new_cell note me notes server h boot last history few b l none =
     rw (← b, ← l, none) (record {
-      kept = record { past = first; made = refl; stands = opened_once note me notes server h; ranges = tt };
+      kept = record { past = first; made = refl; stands = opened_once note me notes server h; ranges = (record { me = few; last = h.says.last_range }, tt) };
       numbered = tt;
-      opens = record { me = few; last = h.says.last_range };
       counted = record { long = refl; each = none_counted 17 };
     })
 
@@ -112,9 +111,9 @@ lacks old new seat task right same =
 
 -- Where nothing is entered, a cell is what it was.
 pub same_cell : {T : Type 0} (note : T → Note) (o : Opening) (power new : Power (Server T) T) (history : List HistoryEntry) (applied : List ℕ)
-    (cell : IsCell note o power history applied) → Stands note o cell.kept.past new → IsCell note o new history applied
+    (cell : IsCell note o power history applied) → Stands (server_kind note o) cell.kept.past new → IsCell note o new history applied
 same_cell note o power new history applied cell s =
-    record { kept = same_kept (server_kind note o) history power new cell.kept s; numbered = cell.numbered; opens = cell.opens; counted = cell.counted }
+    record { kept = same_kept (server_kind note o) (core o) history power new cell.kept s; numbered = cell.numbered; counted = cell.counted }
 
 clash : false ≡ true → ⊥
 clash h = cc
@@ -147,19 +146,18 @@ is_next log seat right =
 pub entered : {T : Type 0} (note : T → Note) (o : Opening) (power new : Power (Server T) T) (history : List HistoryEntry) (applied : List ℕ) (failures : ℕ)
     (seat : Seated) (task : ServerTask) (answer : Result Reply Fault) → (cell : IsCell note o power history applied)
     → is_right (record { opening = o; history = history; failures = failures }) seat ≡ true → seat.number < 17
-    → Moves (server_kind note o) cell.kept.past (ask_of (came_by task)) answer [] new
+    → Moves (server_kind note o) (core o) cell.kept.past (ask_of (came_by task)) answer [] new
     → IsCell note o new (entry_of seat task answer ∷ history) (slice_set applied seat.number (slice_index_or applied seat.number 0 + 1))
 entered note o power new history applied failures seat task answer cell right few m = record {
-  kept = kept_more (server_kind note o) history power new cell.kept _ (came_by task) answer [] m;
+  kept = kept_more (server_kind note o) (core o) history power new cell.kept _ (came_by task) answer [] m;
   numbered = (cell.numbered, is_next (record { opening = o; history = history; failures = failures }) seat right);
-  opens = cell.opens;
   counted = counted_once_more applied history seat (came_by task) answer few cell.counted;
 }
 
 pub replayed : {T : Type 0} (note : T → Note) (o : Opening) {power new : Power (Server T) T} {history : List HistoryEntry} {applied : List ℕ}
     (cell : IsCell note o power history applied) (failures : ℕ) (seat : Seated) (task : ServerTask) (answer : Result Reply Fault)
     → is_right (record { opening = o; history = history; failures = failures }) seat ≡ true
-    → Moves (server_kind note o) cell.kept.past (ask_of (came_by task)) answer [] new → (past : List FrameEntry) × Replays o (entry_of seat task answer ∷ history) past
+    → Moves (server_kind note o) (core o) cell.kept.past (ask_of (came_by task)) answer [] new → (past : List FrameEntry) × Replays o (entry_of seat task answer ∷ history) past
 replayed note o {history = history} cell failures seat task answer right m = (
   m.after,
   record {

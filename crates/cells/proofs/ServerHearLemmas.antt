@@ -1,16 +1,15 @@
--- What comes to a server at the hub is entered, or left out.
-use Rattle.std.proofs.Common.{◌≡◌, refl, subst, ℕ, ◌≤◌, arith, Bool, true, false, List, [], ◌∷◌, length, Option, Some, None, Result, Ok, Err}
-use Rattle.std.specs.Prelude.{map, All}
-use Rattle.std.specs.List.{sum_by}
+-- What a server sends at the hub, and what its cell keeps and shows.
+use Rattle.std.proofs.Common.{◌≡◌, refl, subst, inl, inr, ℕ, arith, Bool, true, false, List, ◌∷◌, length, Option, Some, None, Result, Ok, Err}
+use Rattle.std.specs.Prelude.{◌⊎◌, map, All, IfOk}
 use Rattle.std.proofs.lemmas.List.Elements.{All-nil}
 use Rattle.std.proofs.lemmas.List.Sums.{sum_by-le}
 use Rattle.fc_base.specs.declared.fault.Fault.{Fault}
 use Rattle.disk_model.specs.Notes.{Note}
+use Rattle.messages.specs.declared.node.Node.{Node}
 use Rattle.messages.specs.FrameBytes.{frame_spelling}
 use Rattle.messages.specs.Hearing.{frames_by, with_entry}
 use Rattle.messages.specs.NetworkLaws.{FramesAreSpelled}
-use Rattle.messages.specs.Network.{Room, HasRoom, IsSpelled}
-use Rattle.server_core.specs.Inputs.{FrameInput}
+use Rattle.messages.specs.Network.{Network, IsSpelled}
 use Rattle.server_core.specs.declared.outs.Outs.{Outs}
 use Rattle.server_core.specs.declared.server.Server.{Server}
 use Rattle.server_core.specs.Bounds.{AreShort}
@@ -18,43 +17,33 @@ use Rattle.server_core.specs.Answers.{packets}
 use Rattle.server_core.specs.History as history
 use Rattle.server_core.specs.History.{Opening}
 use Rattle.server_core.specs.Laws.{PacketsAreInRange}
+use Rattle.server_core.specs.NodeKind.{server_kind}
 use Rattle.server_core.specs.Ranges.{OpensInRange, CameInRange}
 use Rattle.server_core.specs.Hearing.{FrameEntry, packets_heard, is_up}
-use Rattle.server_core.specs.FrameAnswers.{answered_entry, entry_heard}
+use Rattle.server_core.specs.FrameAnswers.{entry_heard}
 use Rattle.server_core.specs.FrameEnds.{StandsFor}
-use Rattle.cells.specs.ServerKind.{server_kind}
-use Rattle.cells.specs.declared.input.NodeInput.{NodeInput}
-use Rattle.cells.specs.declared.entry.HistoryEntry.{HistoryEntry}
-use Rattle.cells.specs.AtHub.{is_left_out, Hears}
-use Rattle.cells.specs.Moves.{IsKept, StepEnds, outcome_of}
-use Rattle.cells.specs.Rules.{Meets}
-use Rattle.cells.specs.ServerRules.{ask_of}
-use Rattle.cells.proofs.HubLemmas.{heard, packets_spelled, sent_spelled as spelled_by}
 use Rattle.node.specs.declared.power.Power.{Power}
 use Rattle.node.specs.Kinds.{Shows}
+use Rattle.cells.specs.declared.answer.Receipt.{Receipt}
+use Rattle.cells.specs.declared.input.NodeInput.{NodeInput}
+use Rattle.cells.specs.declared.entry.HistoryEntry.{HistoryEntry}
+use Rattle.cells.specs.AtHub.{is_left_out, Hears, Posts}
+use Rattle.cells.specs.Calls.{Delivers}
+use Rattle.cells.specs.CoreLaws.{IsWithin}
+use Rattle.cells.specs.Moves.{IsKept}
+use Rattle.cells.specs.ServerRules.{core}
 use Rattle.cells.specs.ServerCells.{ServerLog, Replays, IsReplay, IsCell}
 use Rattle.cells.specs.ServerStands.{reply_and_frames}
-use Rattle.messages.specs.declared.node.Node.{Node}
-use Rattle.messages.specs.Network.{Network}
+use Rattle.cells.proofs.HubLemmas.{packets_spelled}
 
--- ---- the room for its frames
+-- ---- its frames are few and short
 
-none_short : AreShort []
-none_short = record { few = omega arith; short = All-nil (λ (frame : List ℕ). length frame ≤ 1073) }
-
-pub short : {T : Type 0} (note : T → Note) (o : Opening) (past : List FrameEntry) (e : FrameInput) (new : Power (Server T) T) (step : Result Outs Fault)
-    → OpensInRange o → CameInRange (packets_heard o past) → StepEnds (server_kind note o) past e new (reply_and_frames step)
-    → AreShort (outcome_of (reply_and_frames step)).1
-short note o past e new (Ok outs) i h f = f.short i h
-short note o past e new (Err fault) i h f = none_short
-
-pub has_room : (room : Room) (frames : List (List ℕ)) → HasRoom room 16 17168 → AreShort frames
-    → HasRoom room (length frames) (sum_by (λ (frame : List ℕ). length frame) frames)
-has_room room frames has few = record {
-  frames_fit = omega (arith, has.frames_fit, few.few);
-  bytes_fit = omega (arith, has.bytes_fit, few.few, sum_by-le (λ (frame : List ℕ). length frame) 1073 frames few.short);
-  line_fits = has.line_fits;
+pub few : (step : Result Outs Fault) → IfOk step (λ outs. AreShort outs.frames) → IfOk (reply_and_frames step) (λ outs. IsWithin 16 17168 outs.1)
+few (Ok outs) h = record {
+  few = h.few;
+  short = omega (arith, h.few, sum_by-le (λ (frame : List ℕ). length frame) 1073 outs.frames h.short);
 }
+few (Err fault) h = tt
 
 -- ---- its frames are spelled
 
@@ -63,43 +52,41 @@ by_entry : FramesAreSpelled → PacketsAreInRange → (o : Opening) (past : List
 by_entry law ranges o past i None came = All-nil IsSpelled
 by_entry law ranges o past i (Some x) came = packets_spelled law (packets o past x) (ranges o past x i (came x refl))
 
-pub sent_spelled : {T : Type 0} (note : T → Note) (o : Opening) (past : List FrameEntry) (e : FrameInput) (new : Power (Server T) T) (step : Result Outs Fault)
-    → FramesAreSpelled → PacketsAreInRange → OpensInRange o → CameInRange (packets_heard o past) → StepEnds (server_kind note o) past e new (reply_and_frames step)
-    → All IsSpelled (outcome_of (reply_and_frames step)).1
-sent_spelled note o past e new step law ranges i h f =
-    spelled_by (server_kind note o) past e (answered_entry o past e) new (reply_and_frames step) refl h
-    (λ came. by_entry law ranges o (packets_heard o past) i (entry_heard o past (answered_entry o past e))
-    (λ x is. subst (λ (y : Option history.Entry). CameInRange (with_entry y (packets_heard o past))) is came)) f
+pub spelled : FramesAreSpelled → PacketsAreInRange → (o : Opening) (past : List FrameEntry) (x : FrameEntry) → (core o).InRange (x ∷ past)
+    → All IsSpelled (map frame_spelling ((core o).frames past x))
+spelled law ranges o past x came =
+    by_entry law ranges o (packets_heard o past) came.0 (entry_heard o past x)
+    (λ y is. subst (λ (z : Option history.Entry). CameInRange (with_entry z (packets_heard o past))) is came.1)
 
--- ---- what came is entered
+-- ---- its cell behind what came at the hub
+
+-- A history is as it was, or has one entry more, which came from no seat.
+abbrev pub Grows : List HistoryEntry → List HistoryEntry → Type 0
+Grows before after = (after ≡ before) ⊎ ((l : HistoryEntry) × (l.by ≡ None) × (after ≡ l ∷ before))
+
+pub posts_grow : (node : Node) (came : NodeInput) (taken : Option ℕ) (old new : Network) (before after : List HistoryEntry) (result : Result Receipt Fault)
+    → Posts node came taken old new before after result → Grows before after
+posts_grow node came taken old new before after result (answer, sent, told, h) = by_test (is_left_out answer) h
+  where
+    by_test : (b : Bool) → Hears b node came taken answer sent old new before after → Grows before after
+    by_test true h = inl h.history
+    by_test false h = inr (record { by = None; came = came; answer = answer; sent = sent }, refl, h.entry)
+
+pub delivers_grow : (node : Node) (position : ℕ) (found : Option (List ℕ)) (old new : Network) (before after : List HistoryEntry) (result : Result Receipt Fault)
+    → Delivers node position found old new before after result → Grows before after
+delivers_grow node position None old new before after (Ok told) h = absurd h
+delivers_grow node position None old new before after (Err fault) h = inl h.history
+delivers_grow node position (Some bytes) old new before after result h = posts_grow node _ (Some position) old new before after result h
 
 pub heard_cell : {T : Type 0} (note : T → Note) (o : Opening) (power new : Power (Server T) T) (before after : List HistoryEntry) (applied : List ℕ)
-    (cell : IsCell note o power before applied) (e : FrameInput) (step : Result Outs Fault) (node : Node) (came : NodeInput) (taken : Option ℕ) (net net' : Network)
-    → ask_of came ≡ Meets e
-    → StepEnds (server_kind note o) cell.kept.past e new (reply_and_frames step)
-    → Hears (is_left_out (outcome_of (reply_and_frames step)).0) node came taken (outcome_of (reply_and_frames step)).0
-    (outcome_of (reply_and_frames step)).1 net net' before after → IsCell note o new after applied
-heard_cell note o power new before after applied cell e step node came taken net net' asks f h = by_test (is_left_out (outcome_of (reply_and_frames step)).0) h
-  where
-    kept : IsKept (server_kind note o) after new
-    kept = heard (server_kind note o) before after power new cell.kept e (reply_and_frames step) node came taken net net' asks f h
-
-    same : after ≡ before → IsCell note o new after applied
-    same is = record { kept = kept; numbered = rw is cell.numbered; opens = cell.opens; counted = rw is cell.counted }
-
-    more : after ≡ record { by = None; came = came; answer = (outcome_of (reply_and_frames step)).0; sent = (outcome_of (reply_and_frames step)).1 } ∷ before
-        → IsCell note o new after applied
-    more is = record {
-      kept = kept;
-      numbered = rw is (cell.numbered, tt);
-      opens = cell.opens;
-      counted = rw is (record { long = cell.counted.long; each = cell.counted.each });
-    }
-
-    by_test : (b : Bool) → Hears b node came taken (outcome_of (reply_and_frames step)).0 (outcome_of (reply_and_frames step)).1 net net' before after
-        → IsCell note o new after applied
-    by_test true h = same h.history
-    by_test false h = more h.entry
+    → IsCell note o power before applied → IsKept (server_kind note o) (core o) after new → Grows before after → IsCell note o new after applied
+heard_cell note o power new before after applied cell kept (inl is) =
+    record { kept = kept; numbered = rw is cell.numbered; counted = rw is cell.counted }
+heard_cell note o power new before after applied cell kept (inr (l, none, is)) = record {
+  kept = kept;
+  numbered = rw is (cell.numbered, rw none tt);
+  counted = rw is (record { long = cell.counted.long; each = λ seat few. rw none (cell.counted.each seat few) });
+}
 
 pub replayed : {T : Type 0} (note : T → Note) (o : Opening) (power : Power (Server T) T) (history : List HistoryEntry) (applied : List ℕ)
     → IsCell note o power history applied → (past : List FrameEntry) × Replays o history past
@@ -118,7 +105,7 @@ shown_replay note log power applied shown cell view =
 
 pub shown_on : {T : Type 0} (note : T → Note) (log : ServerLog) (power : Power (Server T) T) (applied : List ℕ) (shown : ServerLog)
     (cell : IsShown note log power applied) (server : Server T) → log ≡ shown
-    → Shows (server_kind note log.opening).node cell.kept.past power (Some server)
+    → Shows (server_kind note log.opening) cell.kept.past power (Some server)
     → (past : List FrameEntry) × IsReplay shown past × StandsFor note server shown.opening past × (is_up shown.opening past ≡ true)
 shown_on note log power applied shown cell server view (is, stands, up) =
     subst (λ (l : ServerLog). (past : List FrameEntry) × IsReplay l past × StandsFor note server l.opening past × (is_up l.opening past ≡ true)) view

@@ -1,5 +1,6 @@
 -- A server that may have no power takes what comes as the rules have it.
 use Rattle.std.proofs.Common.{◌≡◌, refl, true, false, List, ◌∷◌, Some, Result, Ok, Err}
+use Rattle.std.specs.Prelude.{IfOk}
 use Rattle.fc_base.specs.declared.fault.Fault.{Fault}
 use Rattle.fc_base.specs.declared.fault.Fault.TheVariants.{FrameBadField}
 use Rattle.fc_base.specs.Fault.{sort_of}
@@ -22,7 +23,9 @@ use Rattle.server_core.specs.FrameEnds.{note_in}
 use Rattle.node.specs.declared.power.Power.TheVariants.{On}
 use Rattle.cells.specs.Failures.{Counts}
 use Rattle.cells.specs.Moves.{StepEnds}
-use Rattle.cells.specs.ServerKind.{server_kind}
+use Rattle.server_core.specs.NodeKind.{server_kind}
+use Rattle.server_core.specs.Bounds.{AreShort}
+use Rattle.cells.specs.ServerRules.{core}
 use Rattle.cells.proofs.StepLemmas.{Fits, answered_ends, unanswered_ends, faults_count}
 use Rattle.cells.specs.ServerStands.{reply_and_frames}
 
@@ -55,23 +58,29 @@ no_drop o past Drops fault h k = absurd (k (same FrameBadField fault h))
 no_drop o past Misses fault h k = refl
 
 fits : {T : Type 0} (note : T → Note) (o : Opening) (past : List FrameEntry) (e : FrameInput)
-    → Fits (server_kind note o) past e (λ sort. UnlessMemory IsInRange sort (sense o past e))
+    → Fits (server_kind note o) (core o) past e (λ sort. UnlessMemory IsInRange sort (sense o past e))
 fits note o past e = record {
   stays = λ fault server why other h. h (no_drop o past (sense o past e) fault why other);
   alike = λ h. h;
-  ranges = λ h left. came_after o past e left h;
+  ranges = λ h left r. (r.0, came_after o past e left h r.1);
 }
 
 -- A server that is on takes what comes.
 pub step_ends : {T : Type 0} (note : T → Note) (o : Opening) (past : List FrameEntry) (e : FrameInput) (old server : Server T) (result : Result Outs Fault)
     → is_up o past ≡ true
     → steps.Ends (ends.steps note o) past e old server result → HearsInRange IsInRange (sense o past e) result
-    → StepEnds (server_kind note o) past e (On server) (reply_and_frames result)
+    → StepEnds (server_kind note o) (core o) past e (On server) (reply_and_frames result)
 step_ends note o past e old server (Ok outs) on a h =
-    answered_ends (server_kind note o) past e (fits note o past e) on old server outs _ outs.frames a h
-    (rw (a.sends.issue_is, a.sends.act_is) refl) a.sends.frames_are a.sends.short
+    answered_ends (server_kind note o) (core o) past e (fits note o past e) on old server outs _ outs.frames a h
+    (rw (a.sends.issue_is, a.sends.act_is) refl) a.sends.frames_are
 step_ends note o past e old server (Err fault) on f h =
-    unanswered_ends (server_kind note o) past e (fits note o past e) on old server fault (sort_of fault) f h refl
+    unanswered_ends (server_kind note o) (core o) past e (fits note o past e) on old server fault (sort_of fault) f h refl
+
+-- Its frames are few and short.
+pub step_short : {T : Type 0} (note : T → Note) (o : Opening) (past : List FrameEntry) (e : FrameInput) (old server : Server T) (result : Result Outs Fault)
+    → steps.Ends (ends.steps note o) past e old server result → (core o).InRange past → IfOk result (λ outs. AreShort outs.frames)
+step_short note o past e old server (Ok outs) a r = a.sends.short r.0 r.1
+step_short note o past e old server (Err fault) f r = tt
 
 -- ---- the device's failures
 

@@ -19,14 +19,18 @@ use Rattle.cells.specs.declared.answer.Reply.{Reply}
 use Rattle.node.specs.declared.power.Power.TheVariants.{Off}
 use Rattle.cells.specs.Failures.{Counts}
 use Rattle.cells.specs.Moves.{TaskEnds}
-use Rattle.node.specs.declared.power.Power.{Power}
 use Rattle.node.specs.Kinds.{left_by, note_by}
 use Rattle.node.specs.Kinds as nodes
 use Rattle.cells.specs.Powers.{told_of}
-use Rattle.cells.proofs.PowerLemmas.{was_on, was_on_counts}
 use Rattle.cells.specs.Rules.{Restarts}
-use Rattle.cells.specs.ServerKind.{server_kind, server_is_cut}
+use Rattle.server_core.specs.NodeKind.{server_kind}
+use Rattle.cells.specs.ServerRules.{core, ask_of_frame}
 use Rattle.cells.proofs.MoveLemmas.{refused, lost}
+use Rattle.messages.specs.NetworkLaws.{FramesAreSpelled}
+use Rattle.server_core.specs.Laws.{PacketsAreInRange}
+use Rattle.server_core.specs.declared.input.Input.TheVariants.{Deliver}
+use Rattle.cells.specs.CoreLaws.{Laws}
+use Rattle.cells.proofs.ServerHearLemmas.{spelled}
 
 -- ---- whether it may be
 
@@ -63,7 +67,7 @@ next_says one old new o past n read left says is =
 
 unstarted : {T : Type 0} (note : T → Note) (o : Opening) (past : List FrameEntry) (notes back : T) (fault : Fault) → SaysOneThing → is_up o past ≡ false
     → Says (note notes).bytes (words_noted o (packets_heard o past)) → NotOpened (note notes) (note back) fault
-    → TaskEnds (server_kind note o) past Restarts (Off back) (Err fault)
+    → TaskEnds (server_kind note o) (core o) past Restarts (Off back) (Err fault)
 unstarted note o past notes back LoadFault one off says h = record {
   after = past;
   ends = record { why = inr (refl, not_off (is_up o past) off); sends_none = refl; after_is = refl };
@@ -72,7 +76,7 @@ unstarted note o past notes back LoadFault one off says h = record {
 }
 unstarted note o past notes back BadNote one off says h = absurd (h.1 (words_noted o (packets_heard o past)) says)
 unstarted note o past notes back NumbersSpent one off says h =
-    refused (server_kind note o) past Restarts NumbersSpent (Off back) refl
+    refused (server_kind note o) (core o) past Restarts NumbersSpent (Off back) refl
     (is_spent (is_up o past) (has_boot o (packets_heard o past)) off (le-ltb (boot o (packets_heard o past) + 1) (2 ^ 64)
     (omega (arith, h.1 (words_noted o (packets_heard o past)) says)))) refl
     (subst (λ (n : Note). Says n.bytes (words_noted o (packets_heard o past))) (sym h.0) says, off)
@@ -81,20 +85,20 @@ unstarted note o past notes back SaveFault one off says h = half h.1
   where
     half : (n : ServerNote) × Says (note notes).bytes n × (n.boot < 2 ^ 64 - 1)
         × (((note back).bytes ≡ (note notes).bytes) ⊎ ((note back).bytes ≡ spelling (record { boot = n.boot + 1; last_run = n.last_run })))
-        → TaskEnds (server_kind note o) past Restarts (Off back) (Err SaveFault)
+        → TaskEnds (server_kind note o) (core o) past Restarts (Off back) (Err SaveFault)
     half (n, read, left, inl is) =
-        lost (server_kind note o) past Restarts SaveFault false (Restart lefts.LostOld) (Off back) refl
+        lost (server_kind note o) (core o) past Restarts SaveFault false (Restart lefts.LostOld) (Off back) refl
         (may_restart (is_up o past) (has_boot o (packets_heard o past)) off (left_one one (note notes).bytes o past n read left says)) refl
         (subst (λ bytes. Says bytes (words_noted o (packets_heard o past))) (sym is) says, refl) (λ h. h)
     half (n, read, left, inr is) =
-        lost (server_kind note o) past Restarts SaveFault true (Restart lefts.LostNew) (Off back) refl
+        lost (server_kind note o) (core o) past Restarts SaveFault true (Restart lefts.LostNew) (Off back) refl
         (may_restart (is_up o past) (has_boot o (packets_heard o past)) off (left_one one (note notes).bytes o past n read left says)) refl
         (next_says one (note notes).bytes (note back).bytes o past n read left says is, refl) (λ h. h)
 unstarted note o past notes back _ one off says h = absurd h
 
 pub starts : {T : Type 0} (note : T → Note) (o : Opening) (past : List FrameEntry) (me : ℕ) (notes : T) (result : Result (Server T) (T × Fault)) → SaysOneThing
     → o.me ≡ me → is_up o past ≡ false → Says (note notes).bytes (words_noted o (packets_heard o past)) → ends.Opens note me notes result
-    → TaskEnds (server_kind note o) past Restarts (left_by result) (told_of (nodes.told_of result))
+    → TaskEnds (server_kind note o) (core o) past Restarts (left_by result) (told_of (nodes.told_of result))
 starts note o past me notes (Ok server) one is off says h =
     let stands = h.stands o past is says in
     record {
@@ -126,17 +130,17 @@ pub start_counts : {T : Type 0} (note : T → Note) (me : ℕ) (notes : T) (resu
 start_counts note me notes (Ok server) h = tt
 start_counts note me notes (Err back) h = unstarted_counts (note notes) (note back.0) back.1 h
 
--- ---- a node that may be on
+-- ---- the laws of cells
 
-pub restart_ends : {T : Type 0} (note : T → Note) (o : Opening) (past : List FrameEntry) (me : ℕ) (old new : Power (Server T) T)
-    (done : Result (Unit {0}) Fault) → SaysOneThing → o.me ≡ me → nodes.Stands (server_kind note o).node past old
-    → nodes.Restarts (server_kind note o).node (ends.Opens note me) past old new done → TaskEnds (server_kind note o) past Restarts new (told_of done)
-restart_ends note o past me old new done one is s (inl w) = was_on (server_kind note o) past old new done (server_is_cut note o past) s w
-restart_ends note o past me old new done one is s (inr h) =
-    rw (h.new_is, h.told) (starts note o past me h.notes h.made one is h.off h.left.says h.opens)
-
-pub restart_counts : {T : Type 0} (note : T → Note) (o : Opening) (past : List FrameEntry) (me : ℕ) (old new : Power (Server T) T)
-    (done : Result (Unit {0}) Fault) → nodes.Restarts (server_kind note o).node (ends.Opens note me) past old new done
-    → Counts true (nodes.note_of (server_kind note o).node old).failures (nodes.note_of (server_kind note o).node new).failures (told_of done)
-restart_counts note o past me old new done (inl w) = was_on_counts (server_kind note o) past old new done w
-restart_counts note o past me old new done (inr h) = rw (h.new_is, h.told, ← h.left.same) (start_counts note me h.notes h.made h.opens)
+-- Its rules keep the laws of cells.
+pub laws : {T : Type 0} (note : T → Note) (o : Opening) → SaysOneThing → FramesAreSpelled → PacketsAreInRange
+    → Laws (server_kind note o) (core o) (ends.Opens note o.me) Deliver
+laws note o one law ranges = record {
+  cuts = λ past. record { sends_none = refl; off = refl; ranges = λ h. h; says = λ notes h. h };
+  starts = record {
+    ends = λ past notes made off says h. starts note o past o.me notes made one refl off says h;
+    counts = λ notes made h. start_counts note o.me notes made h;
+  };
+  asked = λ bytes f is. ap ask_of_frame is;
+  spelled = spelled law ranges o;
+}

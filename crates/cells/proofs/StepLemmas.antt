@@ -17,65 +17,61 @@ use Rattle.cells.specs.declared.answer.Reply.{Reply}
 use Rattle.node.specs.declared.power.Power.{Power}
 use Rattle.node.specs.declared.power.Power.TheVariants.{On}
 use Rattle.cells.specs.AtHub.{is_save}
-use Rattle.cells.specs.CoreRules.{left_by}
+use Rattle.cells.specs.CoreRules.{CoreRules, left_by}
 use Rattle.cells.specs.Failures.{is_load, Counts, CountsBy}
 use Rattle.cells.specs.Moves.{Faults, StepEnds}
-use Rattle.node.specs.Kinds.{Stands}
-use Rattle.cells.specs.Kinds.{Kind}
+use Rattle.node.specs.Kinds.{Kind, Stands}
 use Rattle.cells.specs.Rules.{Meets}
 use Rattle.cells.proofs.MoveLemmas as moves
 use Rattle.cells.proofs.MoveLemmas.{up, refused_step, lost, left_is, no_load}
 
 -- What is refused leaves the core as it was, but where a tag is dropped; and where an input was heard, which the
 -- sort of a fault tells, the list behind it is within its ranges.
-pub record Fits {C N E X D O : Type 0} (k : Kind C N E X D O) (past : List X) (e : E) (Heard : FaultSort → Type 0) : Type 0 where
-  pub stays : (fault : Fault) (core : C) → k.node.core.words.refusal past e ≡ Some fault → (fault ≡ FrameBadField → ⊥) → k.node.core.Stays past e core
-      → k.node.core.StandsFor past core
+pub record Fits {C N E X D O : Type 0} (n : Kind C N E X D O) (c : CoreRules E X) (past : List X) (e : E) (Heard : FaultSort → Type 0) : Type 0 where
+  pub stays : (fault : Fault) (core : C) → n.core.words.refusal past e ≡ Some fault → (fault ≡ FrameBadField → ⊥) → n.core.Stays past e core
+      → n.core.StandsFor past core
   pub alike : Heard sorts.Refusal → Heard sorts.Save
-  pub ranges : Heard sorts.Save → (left : SaveOutcome) → k.InRange past → k.InRange (k.node.core.words.met e left ∷ past)
+  pub ranges : Heard sorts.Save → (left : SaveOutcome) → c.InRange past → c.InRange (n.core.words.met e left ∷ past)
 
 -- What comes to a node that isn't on is refused, and nothing changes.
-pub off_ends : {C N E X D O : Type 0} (k : Kind C N E X D O) (past : List X) (e : E) (power : Power C N) (fault : Fault)
-    → (fault ≡ NodeOff) × (k.node.core.words.is_up past ≡ false) → Stands k.node past power → StepEnds k past e power (Err fault)
-off_ends k past e power fault off s =
-    rw off.0 (moves.off_ends k past e power (ap (λ b. if b then k.node.core.words.refusal past e else Some NodeOff) off.1) refl s)
+pub off_ends : {C N E X D O : Type 0} (n : Kind C N E X D O) (c : CoreRules E X) (past : List X) (e : E) (power : Power C N) (fault : Fault)
+    → (fault ≡ NodeOff) × (n.core.words.is_up past ≡ false) → Stands n past power → StepEnds n c past e power (Err fault)
+off_ends n c past e power fault off s =
+    rw off.0 (moves.off_ends n c past e power (ap (λ b. if b then n.core.words.refusal past e else Some NodeOff) off.1) refl s)
 
-module _ {C N E X D O : Type 0} {Heard : FaultSort → Type 0} (k : Kind C N E X D O) (past : List X) (e : E) (fits : Fits k past e Heard)
-    (on : k.node.core.words.is_up past ≡ true) (old new : C) where
+module _ {C N E X D O : Type 0} {Heard : FaultSort → Type 0} (n : Kind C N E X D O) (c : CoreRules E X) (past : List X) (e : E) (fits : Fits n c past e Heard)
+    (on : n.core.words.is_up past ≡ true) (old new : C) where
   -- By one that is on, it is answered,
-  pub answered_ends : (outs : O) (said : Reply) (sent : List (List ℕ)) → steps.Answers k.node.core past e old new outs → Heard sorts.Save → said ≡ k.core.said past e
-      → sent ≡ map frame_spelling (k.core.frames past (answered k.node.core.words past e)) → k.SendsFew past e sent
-      → StepEnds k past e (On new) (Ok (said, sent))
-  answered_ends outs said sent a heard said_is sent_are short = record {
-    moves = record {
-      after = answered k.node.core.words past e ∷ past;
-      ends = record {
-        free = up (k.node.core.words.is_up past) (k.node.core.words.refusal past e) (Some NodeOff) on ∙ a.free;
-        said_is = said_is;
-        entry = answered k.node.core.words past e;
-        entry_is = refl;
-        sent_are = sent_are;
-        after_is = refl;
-      };
-      stands = a.stands;
-      ranges = fits.ranges heard _;
+  pub answered_ends : (outs : O) (said : Reply) (sent : List (List ℕ)) → steps.Answers n.core past e old new outs → Heard sorts.Save → said ≡ c.said past e
+      → sent ≡ map frame_spelling (c.frames past (answered n.core.words past e))
+      → StepEnds n c past e (On new) (Ok (said, sent))
+  answered_ends outs said sent a heard said_is sent_are = record {
+    after = answered n.core.words past e ∷ past;
+    ends = record {
+      free = up (n.core.words.is_up past) (n.core.words.refusal past e) (Some NodeOff) on ∙ a.free;
+      said_is = said_is;
+      entry = answered n.core.words past e;
+      entry_is = refl;
+      sent_are = sent_are;
+      after_is = refl;
     };
-    short = short;
+    stands = a.stands;
+    ranges = fits.ranges heard _;
   }
 
   -- or it isn't.
-  pub unanswered_ends : (fault : Fault) (sort : FaultSort) → steps.Faults k.node.core past e sort fault old new → Heard sort → sort_of fault ≡ sort
-      → Faults k past e sort fault (On new)
+  pub unanswered_ends : (fault : Fault) (sort : FaultSort) → steps.Faults n.core past e sort fault old new → Heard sort → sort_of fault ≡ sort
+      → Faults n c past e sort fault (On new)
   unanswered_ends fault sorts.Memory f heard is = (f.why, f.unchanged)
   unanswered_ends fault sorts.Save f heard is =
       let l = left_is f.left f.lost in
-      lost k past (Meets e) fault l.0 (k.node.core.words.met e f.left) (On new) is
-      (up (k.node.core.words.is_up past) (k.node.core.words.refusal past e) (Some NodeOff) on ∙ f.free)
-      (ap (option_map (λ due. k.node.core.words.met e (left_by l.0))) f.makes_one ∙ ap (λ left. Some (k.node.core.words.met e left)) l.1)
+      lost n c past (Meets e) fault l.0 (n.core.words.met e f.left) (On new) is
+      (up (n.core.words.is_up past) (n.core.words.refusal past e) (Some NodeOff) on ∙ f.free)
+      (ap (option_map (λ due. n.core.words.met e (left_by l.0))) f.makes_one ∙ ap (λ left. Some (n.core.words.met e left)) l.1)
       f.stands (fits.ranges heard f.left)
   unanswered_ends fault sorts.Refusal f heard is =
-      refused_step k past e (k.node.core.words.met e NoSave) fault (On new) is
-      (up (k.node.core.words.is_up past) (k.node.core.words.refusal past e) (Some NodeOff) on ∙ f.why)
+      refused_step n c past e (n.core.words.met e NoSave) fault (On new) is
+      (up (n.core.words.is_up past) (n.core.words.refusal past e) (Some NodeOff) on ∙ f.why)
       refl
       f.stands (λ other. fits.stays fault new f.why other f.unchanged) (fits.ranges (fits.alike heard) NoSave)
 

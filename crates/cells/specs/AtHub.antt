@@ -91,15 +91,16 @@ Posts node came taken old new before after result =
     × (result ≡ told_at (length old.frames) (length sent) answer)
     × Hears (is_left_out answer) node came taken answer sent old new before after
 
--- Why what was asked is left out: memory ran out, or the rules refuse it.
-abbrev pub IsWhyBy : {E X : Type 0} → Rules E X → List X → Ask E → FaultSort → Fault → Type 0
-IsWhyBy rules past ask sorts.Memory fault = fault ≡ NoMemory
-IsWhyBy rules past ask sorts.Save fault = Unit {0}
-IsWhyBy rules past ask sorts.Refusal fault = rules.refusal past ask ≡ Some fault
+-- A fault of this sort is one that the rules give: memory ran out, or the rules refuse what was
+-- asked. Of a failed save nothing more is said.
+abbrev pub RefusedAs : {E X : Type 0} → Rules E X → List X → Ask E → FaultSort → Fault → Type 0
+RefusedAs rules past ask sorts.Memory fault = fault ≡ NoMemory
+RefusedAs rules past ask sorts.Save fault = Unit {0}
+RefusedAs rules past ask sorts.Refusal fault = rules.refusal past ask ≡ Some fault
 
--- The fault is one that the rules give, where it is a refusal.
-abbrev pub IsWhy : {E X : Type 0} → Rules E X → List X → Ask E → Fault → Type 0
-IsWhy rules past ask fault = IsWhyBy rules past ask (sort_of fault) fault
+-- What was asked is refused by the rules: the fault is one that they give, where it is a refusal.
+abbrev pub RefusedBy : {E X : Type 0} → Rules E X → List X → Ask E → Fault → Type 0
+RefusedBy rules past ask fault = RefusedAs rules past ask (sort_of fault) fault
 
 -- The frame at this position comes, by its bytes; or there is none; or memory ran out.
 abbrev pub Comes : Network → ℕ → Result (NodeInput × Frame) Fault → Type 0

@@ -8,7 +8,7 @@ use Rattle.cells.specs.declared.answer.Receipt.{Receipt}
 use Rattle.cells.specs.declared.input.NodeInput.{NodeInput}
 use Rattle.cells.specs.declared.input.NodeInput.TheVariants.{Frame}
 use Rattle.cells.specs.declared.entry.HistoryEntry.{HistoryEntry}
-use Rattle.cells.specs.AtHub.{IsSame, IsWhy, Posts}
+use Rattle.cells.specs.AtHub.{IsSame, RefusedBy, Posts}
 use Rattle.cells.specs.Replay.{Makes}
 use Rattle.cells.specs.Rules.{Ask, Cuts, Rules}
 
@@ -25,18 +25,18 @@ says_off _ = false
 abbrev pub is_off : {E X : Type 0} → Rules E X → List X → Bool
 is_off rules past = says_off (rules.refusal past Cuts)
 
--- Why what is asked isn't answered: a node that is off says so; of one that is on, memory ran out,
--- a save failed, or the rules refuse it.
-abbrev pub IsWhyWhere : {E X : Type 0} → Bool → Rules E X → List X → Ask E → Fault → Type 0
-IsWhyWhere true rules past ask fault = fault ≡ NodeOff
-IsWhyWhere false rules past ask fault = IsWhy rules past ask fault
+-- What is asked is refused where the node is off or on: one that is off says so; by one that is on,
+-- since memory ran out, a save failed, or the rules refuse it.
+abbrev pub RefusedWhere : {E X : Type 0} → Bool → Rules E X → List X → Ask E → Fault → Type 0
+RefusedWhere true rules past ask fault = fault ≡ NodeOff
+RefusedWhere false rules past ask fault = RefusedBy rules past ask fault
 
--- This fault is why what is asked isn't answered, by a list that the history makes.
-pub record HasWhy {E X : Type 0} (rules : Rules E X) (history : List HistoryEntry) (ask : Ask E)
+-- What is asked is refused with this fault after this history, by a list that it makes.
+pub record RefusedAfter {E X : Type 0} (rules : Rules E X) (history : List HistoryEntry) (ask : Ask E)
     (fault : Fault) : Type 0 where
   pub past : List X
   pub made : Makes rules history past
-  pub why : IsWhyWhere (is_off rules past) rules past ask fault
+  pub why : RefusedWhere (is_off rules past) rules past ask fault
 
 -- Why there is nothing to be delivered: the node is off, or there is no such frame.
 pub record HasNone {E X : Type 0} (rules : Rules E X) (history : List HistoryEntry)
@@ -45,11 +45,11 @@ pub record HasNone {E X : Type 0} (rules : Rules E X) (history : List HistoryEnt
   pub made : Makes rules history past
   pub why : fault ≡ (if is_off rules past then NodeOff else NoFrame)
 
--- Why a delivery isn't answered, where these are the bytes at its position.
-abbrev pub IsWhyNot : {E X : Type 0} → Rules E X → List HistoryEntry → Option (List ℕ) → Fault
+-- A delivery is refused with this fault, where these are the bytes at its position.
+abbrev pub RefusedAt : {E X : Type 0} → Rules E X → List HistoryEntry → Option (List ℕ) → Fault
     → Type 0
-IsWhyNot rules history None fault = HasNone rules history fault
-IsWhyNot rules history (Some bytes) fault = HasWhy rules history (rules.asked (Frame bytes)) fault
+RefusedAt rules history None fault = HasNone rules history fault
+RefusedAt rules history (Some bytes) fault = RefusedAfter rules history (rules.asked (Frame bytes)) fault
 
 -- How a delivery ends, where these are the bytes at its position: the frame comes; where there is
 -- none, it is refused, and nothing changes.

@@ -3,14 +3,13 @@ use Rattle.std.specs.Prelude.{ℕ, ◌≤◌, List}
 use Rattle.disk_model.specs.Notes.{Note}
 use Rattle.client_core.specs.declared.client.Client.{Client}
 use Rattle.client_core.specs.History.{Opening}
-use Rattle.client_core.specs.Ranges.{OpensInRange}
 use Rattle.client_core.specs.Hearing.{FrameEntry}
-use Rattle.cells.specs.ClientKind.{client_kind}
+use Rattle.client_core.specs.NodeKind.{client_kind}
 use Rattle.cells.specs.declared.entry.HistoryEntry.{HistoryEntry}
 use Rattle.node.specs.declared.power.Power.{Power}
 use Rattle.cells.specs.Moves.{IsKept}
 use Rattle.cells.specs.Replay.{Makes}
-use Rattle.cells.specs.ClientRules.{rules}
+use Rattle.cells.specs.ClientRules.{core, rules}
 
 -- The client under its lock: what it was opened with, its history, newest first, and how often the
 -- device of its note has failed.
@@ -31,6 +30,5 @@ IsReplay cell past = Makes (rules cell.opening) cell.history past
 -- in its ranges.
 pub record IsCell {T : Type 0} (note : T → Note) (cell : ClientLog)
     (power : Power (Client T) T) : Type 0 where
-  pub kept : IsKept (client_kind note cell.opening) cell.history power
+  pub kept : IsKept (client_kind note cell.opening) (core cell.opening) cell.history power
   pub some : 1 ≤ cell.opening.servers
-  pub opens : OpensInRange cell.opening

@@ -6,10 +6,11 @@ use Rattle.messages.specs.FrameBytes.{frame_at}
 use Rattle.client_core.specs.Inputs.{FrameInput}
 use Rattle.client_core.specs.Inputs as inputs
 use Rattle.client_core.specs.History.{Opening}
+use Rattle.client_core.specs.Ranges.{OpensInRange, CameInRange}
 use Rattle.client_core.specs.declared.outs.Answer as client
 use Rattle.client_core.specs.declared.outs.Answer.TheVariants as answers
 use Rattle.client_core.specs.Answers as core_answers
-use Rattle.client_core.specs.Hearing.{FrameEntry, Cut, Restart}
+use Rattle.client_core.specs.Hearing.{FrameEntry, Cut, Restart, packets_heard}
 use Rattle.client_core.specs.FrameAnswers as frame_answers
 use Rattle.client_core.specs.FrameEnds.{words_of}
 use Rattle.cells.specs.declared.input.NodeInput.{NodeInput}
@@ -57,6 +58,7 @@ core opening = record {
   started = Restart false;
   unstarted = λ left. None;
   frames = frame_answers.frames opening;
+  InRange = λ past. OpensInRange opening × CameInRange (packets_heard opening past);
 }
 
 -- The rules of a client that opens by a restart without a mirror.

@@ -1,25 +1,15 @@
--- Which lists of frames a client that may have no power stands for, and what its steps are told of.
+-- How often the note of a client that may have no power has failed, and what its steps say.
 use Rattle.std.specs.Prelude.{ℕ, List, Result, Ok, Err}
 use Rattle.fc_base.specs.declared.fault.Fault.{Fault}
 use Rattle.disk_model.specs.Notes.{Note}
 use Rattle.client_core.specs.declared.client.Client.{Client}
-use Rattle.client_core.specs.History.{Opening}
-use Rattle.client_core.specs.Hearing.{FrameEntry}
 use Rattle.client_core.specs.FrameEnds.{note_in}
 use Rattle.messages.specs.declared.refusal.Act.TheVariants as acts
 use Rattle.cells.specs.declared.answer.Reply.{Reply}
 use Rattle.node.specs.declared.power.Power.{Power}
-use Rattle.cells.specs.ClientKind.{client_kind}
 use Rattle.cells.specs.ClientRules.{answer_of}
 use Rattle.node.specs.Kinds.{note_by}
-use Rattle.node.specs.Kinds as nodes
 use Rattle.client_core.specs.declared.outs.Outs.{Outs}
-
--- A client that has power stands for the list; of one that has none, which the list says, the note
--- says what the list says.
-abbrev pub Stands : {T : Type 0} → (T → Note) → Opening → List FrameEntry → Power (Client T) T
-    → Type 0
-Stands note opening past power = nodes.Stands (client_kind note opening).node past power
 
 -- How often the device of its note has failed.
 abbrev pub failures_of : {T : Type 0} → (T → Note) → Power (Client T) T → ℕ

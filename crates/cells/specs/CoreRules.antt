@@ -14,7 +14,7 @@ use Rattle.cells.specs.Rules.{Ask, Meets, Cuts, Restarts, Nothing, Rules, plain_
 
 -- What has to be known, beside what its list says, of a core that meets inputs E and stands for
 -- lists of entries X, newest first.
-pub record CoreRules (E X : Type 0) : Type 0 where
+pub record CoreRules (E X : Type 0) : Type 1 where
   pub asked : NodeInput → Ask E  -- what is asked by what comes
   pub spent : List X → Option Fault  -- why one that is off can't be started, if it can't
   pub said : List X → E → Reply  -- what it answers to an input
@@ -22,6 +22,7 @@ pub record CoreRules (E X : Type 0) : Type 0 where
   pub started : X  -- that of a restart
   pub unstarted : SaveOutcome → Option X  -- that of a restart whose save left this
   pub frames : List X → X → List Frame  -- the frames that an entry sends
+  pub InRange : List X → Type 0  -- all in the list is within its ranges
 
 -- A node that is off or down refuses all but a restart, and that where it can't be started; one
 -- that is on refuses a restart, and what its core refuses.

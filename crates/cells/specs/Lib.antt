@@ -3,14 +3,13 @@ pub mod Calls
 pub mod ClientAsks
 pub mod ClientCalls
 pub mod ClientCells
-pub mod ClientKind
 pub mod ClientRules
 pub mod ClientStands
 pub mod ClientTasks
+pub mod CoreLaws
 pub mod CoreRules
 pub mod Failures
 pub mod Histories
-pub mod Kinds
 pub mod Moves
 pub mod Powers
 pub mod Replay
@@ -20,7 +19,6 @@ pub mod Seats
 pub mod ServerAsks
 pub mod ServerCalls
 pub mod ServerCells
-pub mod ServerKind
 pub mod ServerRules
 pub mod ServerStands
 pub mod ServerTasks

@@ -3,7 +3,8 @@ use Rattle.std.specs.Prelude.{◌≡◌, Bool, true, false, List, [], ◌∷◌,
 use Rattle.fc_base.specs.declared.fault.Fault.{Fault}
 use Rattle.fc_base.specs.declared.fault.Fault.TheVariants.{NodeOff, NoMemory}
 use Rattle.cells.specs.declared.answer.Reply.{Reply}
-use Rattle.cells.specs.Kinds.{Kind}
+use Rattle.node.specs.Kinds.{Kind}
+use Rattle.cells.specs.CoreRules.{CoreRules}
 use Rattle.cells.specs.Rules.{plain_reply}
 
 -- A node is ready where it is on, and there is room for what comes; else it is off, or memory ran
@@ -21,8 +22,8 @@ told_of (Err fault) = Err fault
 
 -- The entry of a cut sends nothing. The node is off then, all stays within its ranges, and what
 -- notes say is the same.
-pub record IsCut {C N E X D O : Type 0} (k : Kind C N E X D O) (past : List X) : Type 0 where
-  pub sends_none : k.core.frames past k.core.cut ≡ []
-  pub off : k.node.core.words.is_up (k.core.cut ∷ past) ≡ false
-  pub ranges : k.InRange past → k.InRange (k.core.cut ∷ past)
-  pub says : (notes : N) → k.node.Says past notes → k.node.Says (k.core.cut ∷ past) notes
+pub record IsCut {C N E X D O : Type 0} (n : Kind C N E X D O) (c : CoreRules E X) (past : List X) : Type 0 where
+  pub sends_none : c.frames past c.cut ≡ []
+  pub off : n.core.words.is_up (c.cut ∷ past) ≡ false
+  pub ranges : c.InRange past → c.InRange (c.cut ∷ past)
+  pub says : (notes : N) → n.Says past notes → n.Says (c.cut ∷ past) notes

@@ -20,6 +20,8 @@ pub data Ask (E : Type 0) : Type 0 where
   Nothing : Ask E
 
 -- The rules of a node whose core meets inputs E and stands for lists of entries X, newest first.
+-- They are made of what is known of its core (`CoreRules`), and have a name of their own since a
+-- history is replayed by what lists say: of no state need there be anything.
 pub record Rules (E X : Type 0) : Type 0 where
   pub opened : List X  -- the list with which the node opens
   pub asked : NodeInput → Ask E  -- what is asked by what comes

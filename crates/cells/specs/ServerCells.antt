@@ -4,15 +4,14 @@ use Rattle.fc_base.specs.declared.limits.TheConstants.{MAX_SEATS}
 use Rattle.disk_model.specs.Notes.{Note}
 use Rattle.server_core.specs.declared.server.Server.{Server}
 use Rattle.server_core.specs.History.{Opening}
-use Rattle.server_core.specs.Ranges.{OpensInRange}
 use Rattle.server_core.specs.Hearing.{FrameEntry}
-use Rattle.cells.specs.ServerKind.{server_kind}
+use Rattle.server_core.specs.NodeKind.{server_kind}
 use Rattle.cells.specs.declared.entry.HistoryEntry.{HistoryEntry}
 use Rattle.node.specs.declared.power.Power.{Power}
 use Rattle.cells.specs.Moves.{IsKept}
 use Rattle.cells.specs.Replay.{Makes}
 use Rattle.cells.specs.Seats.{times, IsNumbered}
-use Rattle.cells.specs.ServerRules.{rules}
+use Rattle.cells.specs.ServerRules.{core, rules}
 
 -- A server under its lock: what it was opened with, its history, newest first, and how often the
 -- device of its note has failed.
@@ -45,7 +44,6 @@ pub record AreCounted (applied : List ℕ) (history : List HistoryEntry) : Type 
 -- in its ranges, and the events of each seat are numbered and counted.
 pub record IsCell {T : Type 0} (note : T → Note) (opening : Opening) (power : Power (Server T) T)
     (history : List HistoryEntry) (applied : List ℕ) : Type 0 where
-  pub kept : IsKept (server_kind note opening) history power
+  pub kept : IsKept (server_kind note opening) (core opening) history power
   pub numbered : IsNumbered history
-  pub opens : OpensInRange opening
   pub counted : AreCounted applied history

@@ -9,6 +9,7 @@ use Rattle.messages.specs.FrameBytes.{frame_at}
 use Rattle.server_core.specs.Inputs.{FrameInput}
 use Rattle.server_core.specs.declared.input.Input.TheVariants as inputs
 use Rattle.server_core.specs.History.{Opening}
+use Rattle.server_core.specs.Ranges.{OpensInRange, CameInRange}
 use Rattle.server_core.specs.Words.{has_boot}
 use Rattle.server_core.specs.Hearing.{FrameEntry, Cut, Restart, packets_heard}
 use Rattle.server_core.specs.FrameAnswers as answers
@@ -61,6 +62,7 @@ core opening = record {
   started = Restart Saved;
   unstarted = λ left. Some (Restart left);
   frames = answers.frames opening;
+  InRange = λ past. OpensInRange opening × CameInRange (packets_heard opening past);
 }
 
 -- The rules of a server that opens by a restart.

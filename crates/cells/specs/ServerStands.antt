@@ -1,24 +1,14 @@
--- Which lists of frames a server that may have no power stands for, and what its steps are told of.
+-- How often the note of a server that may have no power has failed, and what its steps say.
 use Rattle.std.specs.Prelude.{ℕ, List, Result, Ok, Err}
 use Rattle.fc_base.specs.declared.fault.Fault.{Fault}
 use Rattle.disk_model.specs.Notes.{Note}
 use Rattle.server_core.specs.declared.outs.Outs.{Outs}
 use Rattle.server_core.specs.declared.server.Server.{Server}
-use Rattle.server_core.specs.History.{Opening}
-use Rattle.server_core.specs.Hearing.{FrameEntry}
 use Rattle.server_core.specs.FrameEnds.{note_in}
 use Rattle.cells.specs.declared.answer.Reply.{Reply}
 use Rattle.node.specs.declared.power.Power.{Power}
 use Rattle.node.specs.Kinds.{note_by}
-use Rattle.node.specs.Kinds as nodes
-use Rattle.cells.specs.ServerKind.{server_kind}
 use Rattle.cells.specs.ServerRules.{answer_of}
-
--- A server that has power stands for the list; of one that has none, which the list says, the note
--- says what the list says.
-abbrev pub Stands : {T : Type 0} → (T → Note) → Opening → List FrameEntry → Power (Server T) T
-    → Type 0
-Stands note opening past power = nodes.Stands (server_kind note opening).node past power
 
 -- How often the device of its note has failed.
 abbrev pub failures_of : {T : Type 0} → (T → Note) → Power (Server T) T → ℕ

@@ -3,7 +3,7 @@
 ghost use Rattle.std.specs.Prelude.{◌≡◌, ℕ, false, List, IfErr, reverse, slice_get};
 ghost use Rattle.messages.specs.declared.node.Node.{Node as Name};
 ghost use Rattle.cells.specs.declared.entry.HistoryEntry.{HistoryEntry as Entry};
-ghost use Rattle.cells.specs.Calls.{Replays, Delivers, IsWhyNot, HasWhy, Commands};
+ghost use Rattle.cells.specs.Calls.{Replays, Delivers, RefusedAt, RefusedAfter, Commands};
 ghost use Rattle.cells.specs.Failures.{Counts};
 ghost use Rattle.cells.specs.Rules.{Ask, Rules};
 
@@ -67,7 +67,7 @@ pub trait Node {
             (slice_get hub.old.net.frames position) hub.old.net hub.new.net (log self.old)
             (log self.new) result }
         ensures why { IfErr result
-            (IsWhyNot (rules (opening self.old)) (log self.old)
+            (RefusedAt (rules (opening self.old)) (log self.old)
             (slice_get hub.old.net.frames position)) }
         ensures replay { Replays (rules (opening self.new)) (log self.new) };
 
@@ -81,6 +81,6 @@ pub trait Node {
         ensures ends { Commands (rules (opening self.old)) (asks command)
             (name (opening self.old)) hub.old.net hub.new.net (log self.old) (log self.new) result }
         ensures why { IfErr result
-            (HasWhy (rules (opening self.old)) (log self.old) (asks command)) }
+            (RefusedAfter (rules (opening self.old)) (log self.old) (asks command)) }
         ensures replay { Replays (rules (opening self.new)) (log self.new) };
 }

@@ -5,15 +5,16 @@ ghost use Rattle.client_core.specs.Hearing.{FrameEntry, is_up};
 
 mod apply;
 mod calls;
+mod cell_core;
 mod command;
-mod hear;
 mod incoming;
 mod power;
 mod request;
-mod sent;
 mod task;
+mod tick;
 
 use crate::history::History;
+use crate::node_cell::Cell;
 use client_core::Client;
 pub use command::ClientCommand;
 use disk_model::Notes;
@@ -27,26 +28,22 @@ pub use task::ClientTask;
 
 /// The client, and the history of all that came to it. Its state is always the replay of that history.
 pub struct ClientCell<N: Notes + Drop> {
-    alloc: Global,
     servers: u32,
     /// The client as it was when it was opened. It has no bytes: only the proofs read it.
     opened: Snapshot<Client<N>>,
     /// It was opened over a blank note.
     is_blank: bool,
-    power: Power<Client<N>, N>,
-    history: History,
+    cell: Cell<Client<N>, N>,
 }
 
 /// By hand, so that the crates above need no proof of it.
 impl<N: Notes + Drop> Drop for ClientCell<N> {
     fn drop(self) {
         let ClientCell {
-            alloc: _,
             servers: _,
             opened: _,
             is_blank: _,
-            power: _,
-            history: _,
+            cell: _,
         } = self;
     }
 }
@@ -61,16 +58,16 @@ impl<N: Notes + Drop> Model for ClientCell<N> {
 
     ghost view = { λ c. record {
       opening = opening_of c.servers c.opened.value;
-      history = reverse c.history.items;
-      failures = failures_of N.note c.power;
+      history = reverse c.cell.history.items;
+      failures = failures_of N.note c.cell.power;
     } };
 
     ghost invariant = { λ c. IsCell N.note
         (record {
           opening = opening_of c.servers c.opened.value;
-          history = reverse c.history.items;
-          failures = failures_of N.note c.power;
-        }) c.power
+          history = reverse c.cell.history.items;
+          failures = failures_of N.note c.cell.power;
+        }) c.cell.power
         × (c.is_blank ≡ says_nothing c.opened.value.hearer.core.noted) };
 }
 
@@ -96,12 +93,14 @@ impl<N: Notes + Drop> ClientCell<N> {
         let client = Client::restart(alloc, servers, false, notes)?;
         let is_blank = client.is_blank();
         Ok(ClientCell {
-            alloc,
             servers,
             opened: Snapshot::of(&client),
             is_blank,
-            power: Power::On(client),
-            history: History::new(alloc),
+            cell: Cell {
+                alloc,
+                power: Power::On(client),
+                history: History::new(alloc),
+            },
         })
     }
 
@@ -124,7 +123,7 @@ impl<N: Notes + Drop> ClientCell<N> {
         ensures entries { result.now.items ≡ reverse self.now.history }
         ensures replay { (past : List FrameEntry) × IsReplay self.now past }
     {
-        &self.history
+        &self.cell.history
     }
 
     /// The client, where it is on: not off, and not down.
@@ -135,7 +134,7 @@ impl<N: Notes + Drop> ClientCell<N> {
         ensures off { IfNone result ((past : List FrameEntry) × IsReplay self.now past
             × (is_up self.now.opening past ≡ false)) }
     {
-        match self.power.core() {
+        match self.cell.power.core() {
             Some(client) => Some(client),
             None => None,
         }

@@ -9,19 +9,20 @@ ghost use Rattle.cells.specs.Powers.{IsReady};
 
 use crate::answer::{Receipt, Reply};
 use crate::at_hub::{is_left_out, told_at};
+use crate::cell_core::CellCore;
 use crate::entry::HistoryEntry;
 use crate::history::History;
 use crate::input::NodeInput;
 use fc_base::Fault;
 use messages::{Frames, Hub, Node};
-use node::{NodeCore, Power};
+use node::Power;
 use std::alloc::AllocError;
 
 /// Makes room for what comes to a node that is on: for one more entry of its history, and at the hub for so
 /// many frames of so many bytes together.
 ///
 /// `NodeOff`, it isn't on; `NoMemory`: nothing changes.
-pub fn make_room<'t, N: Drop, C: NodeCore<'t, N>>(
+pub(crate) fn make_room<N: Drop, C: CellCore<N>>(
     power: &Power<C, N>,
     history: &mut History,
     hub: &mut Hub,
@@ -36,7 +37,7 @@ pub fn make_room<'t, N: Drop, C: NodeCore<'t, N>>(
     ensures items { history.new.items ≡ history.old.items }
     ensures net { hub.new.net ≡ hub.old.net }
 {
-    if power.core().is_none() {
+    if !C::is_on(power) {
         return Err(Fault::NodeOff);
     }
     match reserve(history, hub, frames, bytes) {

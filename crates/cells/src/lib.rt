@@ -24,12 +24,14 @@
 mod answer;
 mod at_hub;
 mod cell;
+mod cell_core;
 mod client_cell;
 mod compact;
 mod entered;
 mod entry;
 mod history;
 mod input;
+mod node_cell;
 mod server_cell;
 
 pub use answer::{Answer, Receipt, Reply};

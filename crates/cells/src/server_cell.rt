@@ -6,7 +6,7 @@ ghost use Rattle.cells.specs.Seated.{new_seats};
 
 mod apply;
 mod calls;
-mod hear;
+mod cell_core;
 mod power;
 mod report;
 mod seat;
@@ -14,6 +14,7 @@ mod seats;
 mod task;
 
 use crate::history::History;
+use crate::node_cell::Cell;
 use disk_model::Notes;
 use fc_base::{Fault, MAX_SEATS, MAX_SERVERS, RunNo, ServerNo};
 use node::Power;
@@ -27,12 +28,10 @@ pub use task::ServerTask;
 
 /// A server, and the history of all that came to it. Its state is always the replay of that history.
 pub struct ServerCell<N: Notes + Drop> {
-    alloc: Global,
     me: ServerNo,
     boot: u64,
     last_run: RunNo,
-    power: Power<Server<N>, N>,
-    history: History,
+    cell: Cell<Server<N>, N>,
     /// How many events of each seat the history has.
     applied: [u64; SEATS],
 }
@@ -41,12 +40,10 @@ pub struct ServerCell<N: Notes + Drop> {
 impl<N: Notes + Drop> Drop for ServerCell<N> {
     fn drop(self) {
         let ServerCell {
-            alloc: _,
             me: _,
             boot: _,
             last_run: _,
-            power: _,
-            history: _,
+            cell: _,
             applied: _,
         } = self;
     }
@@ -61,13 +58,13 @@ impl<N: Notes + Drop> Model for ServerCell<N> {
 
     ghost view = { λ c. record {
       opening = record { me = c.me; boot = c.boot; last = c.last_run };
-      history = reverse c.history.items;
-      failures = failures_of N.note c.power;
+      history = reverse c.cell.history.items;
+      failures = failures_of N.note c.cell.power;
     } };
 
     ghost invariant = { λ c. IsCell N.note
-        (record { me = c.me; boot = c.boot; last = c.last_run }) c.power
-        (reverse c.history.items) c.applied };
+        (record { me = c.me; boot = c.boot; last = c.last_run }) c.cell.power
+        (reverse c.cell.history.items) c.applied };
 }
 
 impl<N: Notes + Drop> ServerCell<N> {
@@ -103,12 +100,14 @@ impl<N: Notes + Drop> ServerCell<N> {
         let server = Server::restart(alloc, me, notes)?;
         let Status { boot, last_run, .. } = server.status();
         let cell = ServerCell {
-            alloc,
             me,
             boot: boot - 1,
             last_run,
-            power: Power::On(server),
-            history: History::new(alloc),
+            cell: Cell {
+                alloc,
+                power: Power::On(server),
+                history: History::new(alloc),
+            },
             applied: [0; SEATS],
         };
         Ok((cell, seats))
@@ -133,7 +132,7 @@ impl<N: Notes + Drop> ServerCell<N> {
         ensures entries { result.now.items ≡ reverse self.now.history }
         ensures replay { (past : List FrameEntry) × IsReplay self.now past }
     {
-        &self.history
+        &self.cell.history
     }
 
     /// The server, where it is on: not off, and not down.
@@ -144,7 +143,7 @@ impl<N: Notes + Drop> ServerCell<N> {
         ensures off { IfNone result ((past : List FrameEntry) × IsReplay self.now past
             × (is_up self.now.opening past ≡ false)) }
     {
-        match self.power.core() {
+        match self.cell.power.core() {
             Some(server) => Some(server),
             None => None,
         }

@@ -2,7 +2,7 @@
 
 ghost use Rattle.std.specs.Prelude.{◌≡◌, false, IfErr, slice_get};
 ghost use Rattle.messages.specs.Waiting.{picked_frame, waiting_frames};
-ghost use Rattle.cells.specs.Calls.{Replays, Delivers, IsWhyNot, HasWhy, Commands};
+ghost use Rattle.cells.specs.Calls.{Replays, Delivers, RefusedAt, RefusedAfter, Commands};
 ghost use Rattle.cells.specs.Failures.{Counts};
 
 use cells::{Node, Receipt};
@@ -22,7 +22,7 @@ pub fn deliver<T: Node>(hub: &mut Hub, node: &mut T, position: u64) -> Result<Re
         (slice_get hub.old.net.frames position) hub.old.net hub.new.net (T.log node.old)
         (T.log node.new) result }
     ensures why { IfErr result
-        (IsWhyNot (T.rules (T.opening node.old)) (T.log node.old)
+        (RefusedAt (T.rules (T.opening node.old)) (T.log node.old)
         (slice_get hub.old.net.frames position)) }
     ensures replay { Replays (T.rules (T.opening node.new)) (T.log node.new) }
 {
@@ -41,7 +41,7 @@ pub fn post<T: Node>(hub: &mut Hub, node: &mut T, command: T::Command) -> Result
         (T.name (T.opening node.old)) hub.old.net hub.new.net (T.log node.old)
         (T.log node.new) result }
     ensures why { IfErr result
-        (HasWhy (T.rules (T.opening node.old)) (T.log node.old) (T.asks command)) }
+        (RefusedAfter (T.rules (T.opening node.old)) (T.log node.old) (T.asks command)) }
     ensures replay { Replays (T.rules (T.opening node.new)) (T.log node.new) }
 {
     node.post(hub, command)

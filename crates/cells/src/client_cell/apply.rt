@@ -27,16 +27,16 @@ impl<N: Notes + Drop> ClientCell<N> {
         ensures ends { Applies self.old task self.new result }
         ensures replay { (past : List FrameEntry) × IsReplay self.new past }
     {
-        if self.history.reserve().is_err() {
+        if self.cell.history.reserve().is_err() {
             return Err(Fault::NoMemory);
         }
-        let (alloc, servers) = (self.alloc, self.servers);
+        let (alloc, servers) = (self.cell.alloc, self.servers);
         let came = task.came();
-        let answer = perform(&mut self.power, alloc, servers, &task);
+        let answer = perform(&mut self.cell.power, alloc, servers, &task);
         if lacks_memory(&answer) {
             return Err(Fault::NoMemory);
         }
-        self.history.push(entry(alloc, came, &answer));
+        self.cell.history.push(entry(alloc, came, &answer));
         told_at(0, 0, &answer)
     }
 }

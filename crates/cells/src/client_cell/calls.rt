@@ -1,6 +1,6 @@
 //! The client under its lock is a node.
 
-ghost use Rattle.messages.specs.declared.node.Node.TheVariants.{Client};
+ghost use Rattle.messages.specs.declared.node.Node.TheVariants.{Client as ClientNode};
 ghost use Rattle.client_core.specs.History.{Opening as ClientOpening};
 ghost use Rattle.client_core.specs.Hearing.{FrameEntry};
 ghost use Rattle.client_core.specs.Inputs.{FrameInput as ClientInput};
@@ -10,8 +10,8 @@ ghost use Rattle.cells.specs.ClientAsks.{asks_of};
 use super::ClientCell;
 use super::command::ClientCommand;
 use super::incoming::Incoming;
+use super::tick::tick;
 use crate::answer::Receipt;
-use crate::at_hub::frame_came;
 use crate::cell::Node;
 use crate::history::History;
 use disk_model::Notes;
@@ -29,7 +29,7 @@ impl<N: Notes + Drop> Node for ClientCell<N> {
 
     ghost rules = { client_rules };
 
-    ghost name = { λ opening. Client };
+    ghost name = { λ opening. ClientNode };
 
     ghost asks = { asks_of };
 
@@ -48,17 +48,16 @@ impl<N: Notes + Drop> Node for ClientCell<N> {
     }
 
     fn deliver(&mut self, hub: &mut Hub, position: u64) -> Result<Receipt, Fault> {
-        if self.client().is_none() {
-            return Err(Fault::NodeOff);
-        }
-        let (came, frame) = frame_came(self.alloc, hub, position)?;
-        self.hear(hub, Incoming::Frame(came, frame), Some(position))
+        self.cell.deliver(hub, NodeName::Client, position)
     }
 
     fn post(&mut self, hub: &mut Hub, command: ClientCommand) -> Result<Receipt, Fault> {
         match command {
-            ClientCommand::Request(request) => self.hear(hub, Incoming::Request(request), None),
-            ClientCommand::Tick => self.tick(hub),
+            ClientCommand::Request(request) => {
+                let incoming = Incoming::Request(request);
+                self.cell.hear(hub, NodeName::Client, incoming, None)
+            }
+            ClientCommand::Tick => tick(&mut self.cell, hub),
         }
     }
 }

@@ -32,15 +32,15 @@ impl<N: Notes + Drop> ServerCell<N> {
         if !self.is_right(seat) {
             return Err(Fault::WrongSeat);
         }
-        if self.history.reserve().is_err() {
+        if self.cell.history.reserve().is_err() {
             return Err(Fault::NoMemory);
         }
-        let (alloc, me) = (self.alloc, self.me);
-        let answer = perform(&mut self.power, alloc, me, &task);
+        let (alloc, me) = (self.cell.alloc, self.me);
+        let answer = perform(&mut self.cell.power, alloc, me, &task);
         if lacks_memory(&answer) {
             return Err(Fault::NoMemory);
         }
-        enter(&mut self.history, seat, &task, &answer);
+        enter(&mut self.cell.history, seat, &task, &answer);
         self.applied[seat.number() as usize] += 1;
         seat.advance(&answer);
         told_at(0, 0, &answer)

@@ -1,25 +1,28 @@
 //! What a server takes that has power, or none.
 
-ghost use Rattle.std.specs.Prelude.{◌≡◌, ◌<◌, false, List};
+ghost use Rattle.std.specs.Prelude.{◌≡◌, ◌<◌, false, List, IfOk};
+ghost use Rattle.node.specs.Kinds.{Stands};
 ghost use Rattle.server_core.specs.declared.input.Input.TheVariants as inputs;
+ghost use Rattle.server_core.specs.Bounds.{AreShort};
 ghost use Rattle.server_core.specs.Handles.{outs_of_issue, outs_of_end};
 ghost use Rattle.server_core.specs.Hearing.{FrameEntry};
 ghost use Rattle.server_core.specs.History.{Opening};
-ghost use Rattle.cells.specs.ServerKind.{server_kind};
+ghost use Rattle.server_core.specs.NodeKind.{server_kind};
 ghost use Rattle.cells.specs.Failures.{Counts};
 ghost use Rattle.cells.specs.Moves.{StepEnds, TaskEnds};
-ghost use Rattle.cells.specs.ServerRules.{ask_of};
-ghost use Rattle.cells.specs.ServerStands.{failures_of, reply_and_frames, Stands};
+ghost use Rattle.cells.specs.ServerRules.{ask_of, core};
+ghost use Rattle.cells.specs.ServerStands.{failures_of, reply_and_frames};
 ghost use Rattle.cells.specs.ServerTasks.{came_by, loads_note};
 
 use super::task::ServerTask;
 use crate::answer::{Answer, Reply};
+use crate::node_cell::{cut, restart};
 use disk_model::Notes;
 use engine::{Issue, Ticket};
 use fc_base::{Fault, JobNo, MAX_SERVERS, ServerNo};
 use messages::{Act, Frame};
 use node::Power;
-use server_core::{Input, Outs, Server, WriteEnd, one_note};
+use server_core::{Input, Outs, Server, WriteEnd};
 use std::alloc::Global;
 
 /// Takes what comes. `NodeOff`: it isn't on, and nothing changes. Any other fault is the server's.
@@ -28,12 +31,16 @@ pub(crate) fn step<N: Notes + Drop>(
     input: Input<Frame>,
 ) -> Result<Outs, Fault>
     ensures ends { (opening : Opening) (past : List FrameEntry) →
-        Stands N.note opening past power.old →
-        StepEnds (server_kind N.note opening) past input power.new (reply_and_frames result) }
+        Stands (server_kind N.note opening) past power.old →
+        StepEnds (server_kind N.note opening) (core opening) past input power.new
+        (reply_and_frames result) }
     ensures count { (opening : Opening) (past : List FrameEntry) →
-        Stands N.note opening past power.old →
+        Stands (server_kind N.note opening) past power.old →
         Counts false (failures_of N.note power.old) (failures_of N.note power.new)
         (reply_and_frames result) }
+    ensures short { (opening : Opening) (past : List FrameEntry) →
+        Stands (server_kind N.note opening) past power.old → (core opening).InRange past →
+        IfOk result (λ outs. AreShort outs.frames) }
 {
     power.on()?.step(input)
 }
@@ -42,11 +49,11 @@ pub(crate) fn step<N: Notes + Drop>(
 #[inline(always)]
 fn issue<N: Notes + Drop>(power: &mut Power<Server<N>, N>, job: JobNo) -> Result<Issue, Fault>
     ensures ends { (opening : Opening) (past : List FrameEntry) →
-        Stands N.note opening past power.old →
-        StepEnds (server_kind N.note opening) past (inputs.Issue job) power.new
+        Stands (server_kind N.note opening) past power.old →
+        StepEnds (server_kind N.note opening) (core opening) past (inputs.Issue job) power.new
         (reply_and_frames (outs_of_issue result)) }
     ensures count { (opening : Opening) (past : List FrameEntry) →
-        Stands N.note opening past power.old →
+        Stands (server_kind N.note opening) past power.old →
         Counts false (failures_of N.note power.old) (failures_of N.note power.new)
         (reply_and_frames (outs_of_issue result)) }
 {
@@ -61,11 +68,11 @@ fn end_write<N: Notes + Drop>(
     end: WriteEnd,
 ) -> Result<(), Fault>
     ensures ends { (opening : Opening) (past : List FrameEntry) →
-        Stands N.note opening past power.old →
-        StepEnds (server_kind N.note opening) past (inputs.WriteDone ticket end) power.new
-        (reply_and_frames (outs_of_end result)) }
+        Stands (server_kind N.note opening) past power.old →
+        StepEnds (server_kind N.note opening) (core opening) past (inputs.WriteDone ticket end)
+        power.new (reply_and_frames (outs_of_end result)) }
     ensures count { (opening : Opening) (past : List FrameEntry) →
-        Stands N.note opening past power.old →
+        Stands (server_kind N.note opening) past power.old →
         Counts false (failures_of N.note power.old) (failures_of N.note power.new)
         (reply_and_frames (outs_of_end result)) }
 {
@@ -82,10 +89,11 @@ pub(crate) fn perform<N: Notes + Drop>(
 ) -> Result<Reply, Fault>
     requires { me < MAX_SERVERS }
     ensures ends { (opening : Opening) (past : List FrameEntry) → opening.me ≡ me →
-        Stands N.note opening past power.old →
-        TaskEnds (server_kind N.note opening) past (ask_of (came_by task.now)) power.new result }
+        Stands (server_kind N.note opening) past power.old →
+        TaskEnds (server_kind N.note opening) (core opening) past (ask_of (came_by task.now))
+        power.new result }
     ensures count { (opening : Opening) (past : List FrameEntry) → opening.me ≡ me →
-        Stands N.note opening past power.old →
+        Stands (server_kind N.note opening) past power.old →
         Counts (loads_note task.now) (failures_of N.note power.old)
         (failures_of N.note power.new) result }
 {
@@ -99,10 +107,7 @@ pub(crate) fn perform<N: Notes + Drop>(
             end_write(power, *ticket, *end)?;
             Ok(Reply::plain())
         }
-        ServerTask::Cut => Reply::of_power(power.cut()),
-        ServerTask::Restart => {
-            one_note();
-            Reply::of_power(power.restart(alloc, me))
-        }
+        ServerTask::Cut => cut(power),
+        ServerTask::Restart => restart(power, alloc, me),
     }
 }

@@ -1,11 +1,11 @@
-use Rattle.node.proofs.PowerLemmas.{hidden, there}
+use Rattle.std.proofs.Common.{sym, ◌∙◌}
 use Rattle.cells.proofs.entered.make_room.Goals as goal
 
-pub returns-then-is_none-clause-ready : goal.returns-then-is_none-clause-ready
-returns-then-is_none-clause-ready g c o past s = hidden (g.C.NodeCore.kind o) past c.args.power.now c.core.result (c.core.ensures o past s) c.if-is_none.ensures
+pub returns-then-not-is_on-clause-ready : goal.returns-then-not-is_on-clause-ready
+returns-then-not-is_on-clause-ready g c o past s = sym (c.is_on.ensures o past s) ∙ c.if-not-is_on.true
 
 pub returns-in-Ok-clause-ready : goal.returns-in-Ok-clause-ready
-returns-in-Ok-clause-ready g c o past s = there (g.C.NodeCore.kind o) past c.args.power.now c.core.result (c.core.ensures o past s) c.if-is_none.ensures
+returns-in-Ok-clause-ready g c o past s = sym (c.is_on.ensures o past s) ∙ c.if-not-is_on.false
 
 pub returns-in-Err-clause-ready : goal.returns-in-Err-clause-ready
-returns-in-Err-clause-ready g c o past s = there (g.C.NodeCore.kind o) past c.args.power.now c.core.result (c.core.ensures o past s) c.if-is_none.ensures
+returns-in-Err-clause-ready g c o past s = sym (c.is_on.ensures o past s) ∙ c.if-not-is_on.false

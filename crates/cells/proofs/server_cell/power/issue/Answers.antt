@@ -1,7 +1,8 @@
 use Rattle.std.proofs.lemmas.Result.{err_from_is_err_and}
 use Rattle.server_core.specs.declared.input.Input.TheVariants as inputs
 use Rattle.server_core.specs.Handles.{outs_of_issue}
-use Rattle.cells.specs.ServerKind.{server_kind}
+use Rattle.server_core.specs.NodeKind.{server_kind}
+use Rattle.cells.specs.ServerRules.{core}
 use Rattle.cells.proofs.StepLemmas.{off_ends}
 use Rattle.cells.proofs.ServerPowerLemmas.{step_ends, step_counts}
 use Rattle.cells.proofs.server_cell.power.issue.Goals as goal
@@ -9,7 +10,7 @@ use Rattle.cells.proofs.server_cell.power.issue.Goals as goal
 pub returns-in_err-on-clause-ends : goal.returns-in_err-on-clause-ends
 returns-in_err-on-clause-ends g c o past s =
     let p = err_from_is_err_and c.from_residual.result c.from_residual.ensures.1 in
-    rw p.1 (off_ends (server_kind g.N.Notes.note o) past (inputs.Issue c.args.job) c.args.power.now p.0 (rw p.2 (c.in_err-on.ensures.lent o past s)) s)
+    rw p.1 (off_ends (server_kind g.N.Notes.note o) (core o) past (inputs.Issue c.args.job) c.args.power.now p.0 (rw p.2 (c.in_err-on.ensures.lent o past s)) s)
 
 pub returns-clause-ends : goal.returns-clause-ends
 returns-clause-ends g c o past s =

@@ -2,7 +2,7 @@ use Rattle.std.proofs.Common.{Ok}
 use Rattle.client_core.specs.Inputs.{Tick}
 use Rattle.client_core.specs.Answers.{sent_alone}
 use Rattle.cells.proofs.ClientPowerLemmas.{stepped, heard, ticked}
-use Rattle.cells.proofs.client_cell.power.tick.Goals as goal
+use Rattle.cells.proofs.client_cell.tick.ask_again.Goals as goal
 
 pub returns-in_ok-frames-in-Some-clause-ends : goal.returns-in_ok-frames-in-Some-clause-ends
 returns-in_ok-frames-in-Some-clause-ends g c o past s =
