@@ -50,6 +50,7 @@ MAY_BE = {
     "lintian": ("where it isn't installed", lacks("lintian")),
     "man": ("where man isn't installed", lacks("man")),
     "zsh": ("where it isn't installed", lacks("zsh")),
+    "two processors": ("where a program may run on one alone", lambda: len(os.sched_getaffinity(0)) < 2),
     "harness": ("where harness/build has built none, which the gate has", lambda: False),
     "proved program": ("where ./build has built none, which the gate has", lambda: False),
     "mkfs.ext4": ("where mkfs.ext4 isn't installed", lacks("mkfs.ext4")),
