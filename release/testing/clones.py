@@ -27,6 +27,8 @@ int main(void) {
     return 1;
 }
 """
+# How long a command is waited for, in seconds: a limit that only a hang reaches.
+HANG = 1800
 counts = {"passed": 0, "failed": 0, "skipped": 0}
 
 
@@ -62,7 +64,7 @@ def read(path):
 def run(*words, at=None, **env):
     """Runs a command without the kit: its status, what it printed and what it said."""
     own = {**os.environ, "PATH": "/usr/local/sbin:/usr/sbin:/usr/bin:/sbin:/bin", **env}
-    ran = subprocess.run(words, cwd=at, env=own, input="read\n", capture_output=True, text=True, errors="replace", timeout=300)
+    ran = subprocess.run(words, cwd=at, env=own, input="read\n", capture_output=True, text=True, errors="replace", timeout=HANG)
     return ran.returncode, ran.stdout, ran.stderr
 
 

@@ -4,6 +4,8 @@ import shutil
 
 from clones import make_clone, make_release, put_built, run, tell, tell_has, write
 
+# In so many seconds a run by the kit that stands here has long ended.
+LONG = 120
 OWN = "#!/bin/sh\necho own \"$@\"\nexit 1\n"
 # What stands for the kit's command: it tells that it was called.
 KIT = "#!/bin/sh\ncase $1 in version) echo planted-kit ;; try) echo unproved; echo 'run=ended status=1 x' >&2 ;; esac\n"
@@ -67,4 +69,12 @@ def unproved(room):
     status, printed, said = fiocut("--unproved", "jobs")
     tell("--unproved runs the sources", (status, printed), (1, "unproved\n"))
     tell_has("--unproved says what it does", said, "this run is unproved")
+    tell("its clock ends with it, also where TERM is ignored", fiocut_read_to_its_end(room, clone), (0, "unproved\n"))
     tell("--unproved without the kit", run(f"{clone}/fiocut", "--unproved", "jobs")[:2], (70, ""))
+
+
+def fiocut_read_to_its_end(room, clone):
+    """What an unproved run prints and says, as who reads both gets it until nobody can write there any
+    more: the status of that, and the last line."""
+    command = f"env --ignore-signal=TERM {clone}/fiocut --unproved jobs 2>&1 | timeout {LONG} tail -n 1"
+    return run("sh", "-c", f"{command}; exit $?", PATH=f"{room}/kit:/usr/bin:/bin")[:2]
