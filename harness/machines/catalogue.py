@@ -1,0 +1,58 @@
+"""The rows of a catalogue of stacks: what came of each, as a line of a table."""
+import json
+import os
+import re
+
+HEAD = "| Stack | Asked | Cuts | Told as done | Checked | Faults | fio, of so many cuts | With, on |\n|---|---|---|---|---|---|---|---|"
+ROW = re.compile(r"\| `([a-z0-9-]+)` \|.*\| ([0-9,]+) of [0-9,]+(?:: [^|]*)? in [0-9]+ cuts[^|]*\|[^|]*\|[^|]*\|$")
+
+
+def count(number):
+    return f"{number:,}"
+
+
+def fio_of(row):
+    """In how many of its cuts fio told of faults."""
+    ran = [it for it in row["fio"] if "why" not in it]
+    found = sum(it["fault"] for it in ran)
+    return f"faults in {found} of {len(ran)}" if ran else "not asked"
+
+
+def line_of(stack, row):
+    """The line of a stack's row."""
+    kinds = " ".join(f"{word} {count(number)}" for word, number in row["kinds"].items())
+    faults = f"{count(row['faults'])} of {count(row['checked'])}{': ' + kinds if kinds else ''} in {row['faulty']} cuts"
+    members = "; each disk by itself: " + ", ".join(f"{count(it['faults'])} of {count(it['checked'])}" for it in row["members"]) if row["members"] else ""
+    asked = f"`{stack.promise.partition(' ')[0]}`" + (f", {row['ways'][0].partition(' by ')[2]}" if len(row["ways"]) == 1 else "")
+    return f"| `{stack.name}` | {asked} | {row['cuts']}, {row['flying']} with writes in flight ({count(row['in_flight'])}) | {count(row['told'])} | {count(row['checked'])} | {faults}{members} | {fio_of(row)} | {row['kernel']}, {row['qemu']}, {row['date']} |"
+
+
+def print_rows(folder, stacks):
+    """Prints a line for each of these stacks that has a row in the folder."""
+    print(HEAD)
+    for stack in stacks:
+        path = f"{folder}/{stack.name}/row.json"
+        if os.path.exists(path):
+            with open(path, encoding="utf-8") as it:
+                print(line_of(stack, json.load(it)))
+    return 0
+
+
+def wrong_in(stacks, text):
+    """Yields what isn't right in the page: each row is of a stack, each stack has one, and it has faults in
+    each cut or in none, as its file says is due."""
+    rows = {found[1]: found for found in map(ROW.match, text.splitlines()) if found}
+    yield from (f"{name} has a row, and is no stack" for name in rows if name not in stacks)
+    for name, stack in stacks.items():
+        if name not in rows:
+            yield f"{name} has no row"
+        elif (rows[name][2] != "0") != (stack.due == "faulty"):
+            yield f"{name}: its row isn't {stack.due}"
+
+
+def look(stacks, page):
+    """Tells of the files of stacks, and of the page; they were read already."""
+    with open(page, encoding="utf-8") as it:
+        wrong = [*wrong_in(stacks, it.read())]
+    print("".join(f"FAILED: {it}\n" for it in wrong) + f"{len(stacks) - len(wrong)} passed, {len(wrong)} failed")
+    return 1 if wrong else 0
