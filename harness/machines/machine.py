@@ -146,6 +146,8 @@ class Machine:
     def disk_on(self):
         cache = CACHES[self.stack.cache]
         for name in self.all_disks():
+            if name in self.running:
+                continue  # (a series that goes on gives the power that is there already)
             if os.path.exists(f"{self.work}/{name}.socket"):
                 os.remove(f"{self.work}/{name}.socket")
             self.start(name, ["nbdkit", "-f", "-U", f"{name}.socket", *(["--filter=cache"] if cache else []), "file", name, *cache, *(["cache-max-size=64M"] if cache else [])], subprocess.DEVNULL)
