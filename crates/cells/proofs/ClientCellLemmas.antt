@@ -8,7 +8,7 @@ use Rattle.client_core.specs.declared.client.Client.{Client}
 use Rattle.client_core.specs.declared.note.ClientNote.{ClientNote}
 use Rattle.client_core.specs.History.{Opening}
 use Rattle.client_core.specs.Hearing.{FrameEntry, Restart}
-use Rattle.client_core.specs.FrameEnds.{StandsFor, Opens}
+use Rattle.client_core.specs.FrameEnds.{noted_in, StandsFor, Opens}
 use Rattle.client_core.specs.NodeKind.{client_kind}
 use Rattle.cells.specs.declared.answer.Reply.{Reply}
 use Rattle.cells.specs.declared.answer.Receipt.{Receipt}
@@ -41,11 +41,11 @@ opened_once note servers notes client h = h.stands (opening_by servers h.said) [
 
 -- It knew then what its note said.
 pub said_then : {T : Type 0} (note : T → Note) (servers : ℕ) (notes : T) (client : Client T) (h : Opens note servers false (note notes) client)
-    → client.hearer.core.noted ≡ h.said
+    → noted_in client ≡ h.said
 said_then note servers notes client h = (opened_once note servers notes client h).core.knows
 
 pub seen_said : {T : Type 0} (note : T → Note) (servers : ℕ) (notes : T) (client seen : Client T) (h : Opens note servers false (note notes) client)
-    → seen ≡ client → seen.hearer.core.noted ≡ h.said
+    → seen ≡ client → noted_in seen ≡ h.said
 seen_said note servers notes client seen h is = rw is (said_then note servers notes client h)
 
 pub new_cell : {T : Type 0} (note : T → Note) (servers : ℕ) (notes : T) (client seen : Client T) (h : Opens note servers false (note notes) client)

@@ -4,6 +4,7 @@ use Rattle.disk_model.specs.Notes.{Note}
 use Rattle.client_core.specs.declared.client.Client.{Client}
 use Rattle.client_core.specs.History.{Opening}
 use Rattle.client_core.specs.Hearing.{FrameEntry}
+use Rattle.client_core.specs.FrameEnds.{noted_in}
 use Rattle.client_core.specs.NodeKind.{client_kind}
 use Rattle.cells.specs.declared.entry.HistoryEntry.{HistoryEntry}
 use Rattle.node.specs.declared.power.Power.{Power}
@@ -20,7 +21,7 @@ pub record ClientLog : Type 0 where
 
 -- With how many servers, and over what note, a client was opened that was then so.
 abbrev pub opening_of : {T : Type 0} → ℕ → Client T → Opening
-opening_of servers client = record { servers = servers; noted = client.hearer.core.noted }
+opening_of servers client = record { servers = servers; noted = noted_in client }
 
 -- The history makes this list by the rules.
 abbrev pub IsReplay : ClientLog → List FrameEntry → Type 0

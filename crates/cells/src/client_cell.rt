@@ -50,6 +50,7 @@ impl<N: Notes + Drop> Drop for ClientCell<N> {
 
 impl<N: Notes + Drop> Model for ClientCell<N> {
     ghost use Rattle.std.specs.Prelude.{◌≡◌, reverse};
+    ghost use Rattle.client_core.specs.FrameEnds.{noted_in};
     ghost use Rattle.client_core.specs.Note.{is_blank as says_nothing};
     ghost use Rattle.cells.specs.ClientStands.{failures_of};
     ghost use Rattle.cells.specs.ClientCells.{opening_of, ClientLog, IsCell};
@@ -68,7 +69,7 @@ impl<N: Notes + Drop> Model for ClientCell<N> {
           history = reverse c.cell.history.items;
           failures = failures_of N.note c.cell.power;
         }) c.cell.power
-        × (c.is_blank ≡ says_nothing c.opened.value.hearer.core.noted) };
+        × (c.is_blank ≡ says_nothing (noted_in c.opened.value)) };
 }
 
 impl<N: Notes + Drop> ClientCell<N> {

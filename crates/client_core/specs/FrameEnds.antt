@@ -30,6 +30,10 @@ use Rattle.client_core.specs.HearingKind.{hearing_kind}
 abbrev pub note_in : {T : Type 0} → (T → Note) → Client T → Note
 note_in note client = note client.hearer.core.durable.notes
 
+-- What a client knows of its note.
+abbrev pub noted_in : {T : Type 0} → Client T → ClientNote
+noted_in client = client.hearer.core.noted
+
 -- A client stands for a list of frames where its core stands for the packets that are heard in it,
 -- and, while it is on, keeps what has come together of pieces.
 abbrev pub StandsFor : {T : Type 0} → (T → Note) → Client T → Opening → List FrameEntry → Type 0

@@ -12,7 +12,7 @@ use Rattle.mirror_core.specs.Ends.{answered_entry}
 use Rattle.mirror_core.specs.History.{Entry, Restart}
 use Rattle.mirror_core.specs.Note.{Says, spelling}
 use Rattle.mirror_core.specs.Packets.{packets, frame_bytes}
-use Rattle.mirror_core.specs.Stands.{StandsFor}
+use Rattle.mirror_core.specs.Stands.{note_in, StandsFor}
 use Rattle.mirror_core.specs.Words.{words_noted, refusal, due, would_save}
 use Rattle.filters.specs.declared.kinds.InRecordKind.{InRecordKind}
 use Rattle.filters.specs.declared.kinds.InRecordKind.TheVariants as told
@@ -31,7 +31,7 @@ pub record MirrorAt : Type 0 where
 -- A mirror is at this moment.
 abbrev pub IsAt : {T : Type 0} → (T → Note) → Mirror T → MirrorNote → MirrorAt → Type 0
 IsAt note mirror opening at =
-    StandsFor note mirror opening at.list × ((note mirror.durable.notes).bytes ≡ at.note)
+    StandsFor note mirror opening at.list × ((note_in note mirror).bytes ≡ at.note)
 
 -- The list behind a frame that is answered.
 abbrev pub after_answer : MirrorNote → List Entry → Frame → List Entry

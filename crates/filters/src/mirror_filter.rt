@@ -5,7 +5,7 @@ ghost use Rattle.std.specs.Io.KnownBytes.{Appends};
 ghost use Rattle.std.specs.Io.Buffered.{reader_remaining};
 ghost use Rattle.mirror_core.specs.declared.note.MirrorNote.{MirrorNote};
 ghost use Rattle.mirror_core.specs.History.{Entry};
-ghost use Rattle.mirror_core.specs.Stands.{StandsFor};
+ghost use Rattle.mirror_core.specs.Stands.{note_in, StandsFor};
 ghost use Rattle.filters.specs.Written.{Puts};
 ghost use Rattle.filters.specs.Kept.{note_kept};
 ghost use Rattle.filters.specs.Records.{end_bytes};
@@ -129,7 +129,7 @@ impl MirrorFilter {
     /// Writes an answer, or why there is none.
     fn write_answer<W: Output>(&self, answer: Result<NodeStep, Fault>, writer: &mut W)
         ensures { Puts (W.written writer.old) (W.written writer.new)
-            (result_bytes (note_kept self.now.mirror.durable.notes).bytes answer) }
+            (result_bytes (note_in note_kept self.now.mirror).bytes answer) }
     {
         put_result(writer, self.mirror.notes().as_slice(), answer)
     }

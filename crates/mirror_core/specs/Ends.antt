@@ -13,7 +13,7 @@ use Rattle.mirror_core.specs.Note.{spelling}
 use Rattle.mirror_core.specs.Saves.{Addition, with_addition}
 use Rattle.mirror_core.specs.Words.{is_on, words_noted, refusal, due}
 use Rattle.mirror_core.specs.Packets.{packets, frame_bytes}
-use Rattle.mirror_core.specs.Stands.{StandsFor}
+use Rattle.mirror_core.specs.Stands.{note_in, StandsFor}
 
 -- What an answered frame leaves in the list: it saved, where it was due to.
 abbrev pub answered_entry : MirrorNote → List Entry → Frame → Entry
@@ -31,7 +31,7 @@ steps note opening = record {
     met = Met;
     spelled = λ past. spelling (words_noted opening past);
   };
-  note = λ mirror. note mirror.durable.notes;
+  note = note_in note;
   StandsFor = λ past mirror. StandsFor note mirror opening past;
   Sends = λ past f frames.
       frames ≡ frame_bytes (packets opening past (answered_entry opening past f));
@@ -54,11 +54,11 @@ save_of noted old new = record {
 abbrev pub Stores : {T : Type 0} → (T → Note) → Addition → Mirror T → Mirror T →
     Result (Unit {0}) Fault → Type 0
 Stores note a old new result =
-    Saves (λ mirror. note mirror.durable.notes) (save_of (with_addition a old.noted) old new)
+    Saves (note_in note) (save_of (with_addition a old.noted) old new)
     old new result
 
 -- How the save of what is noted ends.
 abbrev pub Writes : {T : Type 0} → (T → Note) → Mirror T → Mirror T →
     Result (Unit {0}) Fault → Type 0
 Writes note old new result =
-    Saves (λ mirror. note mirror.durable.notes) (save_of old.noted old new) old new result
+    Saves (note_in note) (save_of old.noted old new) old new result

@@ -9,18 +9,22 @@ use Rattle.mirror_core.specs.Note.{Says}
 use Rattle.mirror_core.specs.History.{Entry, Restart}
 use Rattle.mirror_core.specs.Words.{is_on, words_noted, shown_entries}
 
+-- What a mirror's note says, by what is said of its notes.
+abbrev pub note_in : {T : Type 0} → (T → Note) → Mirror T → Note
+note_in note mirror = note mirror.durable.notes
+
 -- A mirror stands for a list where it is on as the list says, where the durable bytes say what the
 -- list says, and where it knows of its note what that said before the first failed save.
 pub record StandsFor {T : Type 0} (note : T → Note) (mirror : Mirror T) (opening : MirrorNote)
     (past : List Entry) : Type 0 where
   pub on : mirror.durable.down ≡ not (is_on past)
-  pub durable : Says (note mirror.durable.notes).bytes (words_noted opening past)
+  pub durable : Says (note_in note mirror).bytes (words_noted opening past)
   pub knows : mirror.noted ≡ words_noted opening (shown_entries past)
 
 -- For each list of which the durable bytes say what it says, the mirror stands for that list with a
 -- restart. They say something, so there is such a list: the empty one. They stay as they were.
 pub record Opens {T : Type 0} (note : T → Note) (old : Note) (mirror : Mirror T) : Type 0 where
-  pub same : note mirror.durable.notes ≡ old
+  pub same : note_in note mirror ≡ old
   pub said : MirrorNote
   pub says : Says old.bytes said
   pub stands :

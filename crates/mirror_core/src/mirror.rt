@@ -32,7 +32,7 @@ pub struct Mirror<N> {
 }
 
 impl<N: Notes> Mirror<N> {
-    ghost use Rattle.mirror_core.specs.Stands.{StandsFor, Restarts};
+    ghost use Rattle.mirror_core.specs.Stands.{note_in, StandsFor, Restarts};
 
     /// Opens a mirror over its note, and saves nothing. The notes come back where it can't:
     /// [`Fault::LoadFault`], the device failed; [`Fault::BadNote`], the bytes are no note;
@@ -59,7 +59,7 @@ impl<N: Notes> Mirror<N> {
 
     /// The notes of a mirror that is taken off.
     pub fn off(self) -> N
-        ensures note { N.note result ≡ N.note self.durable.notes }
+        ensures note { N.note result ≡ note_in N.note self }
         ensures says { (opening : Opening) (past : List Entry) →
             StandsFor N.note self opening past →
             Says (N.note result).bytes (words_noted opening past) }
@@ -74,7 +74,7 @@ impl<N: Notes> Mirror<N> {
 
     /// The note that it keeps, as it is durable. Behind a failed save it is what that left.
     pub fn notes(&self) -> &N
-        ensures note { N.note result.now ≡ N.note self.now.durable.notes }
+        ensures note { N.note result.now ≡ note_in N.note self.now }
         ensures says { (opening : Opening) (past : List Entry) →
             StandsFor N.note self.now opening past →
             Says (N.note result.now).bytes (words_noted opening past) }
