@@ -39,6 +39,7 @@ use Rattle.client_core.specs.FrameAnswers as answers
 use Rattle.client_core.specs.FrameEnds.{words_of}
 use Rattle.cells.specs.declared.input.NodeInput.{NodeInput}
 use Rattle.cells.specs.declared.input.NodeInput.TheVariants as came
+use Rattle.cells.specs.declared.client_cell.request.ClientRequest.TheVariants as requests
 use Rattle.cells.specs.Rules.{Ask, Meets, Cuts, Restarts, Nothing}
 use Rattle.cells.specs.CoreRules.{left_by}
 use Rattle.cells.specs.ClientRules.{ask_of, ask_of_frame, core}
@@ -195,10 +196,10 @@ asked_of frames (came.Frame bytes) h = asked_frame frames (frame_at bytes) h
 asked_of frames (came.Issue j) h = tt
 asked_of frames (came.WriteDone ticket end) h = tt
 asked_of frames (came.CheckDone boot a j report) h = tt
-asked_of frames (came.Begin text) h = tt
-asked_of frames (came.Trigger run act) h = tt
-asked_of frames (came.Stop run) h = tt
-asked_of frames (came.Verify run text) h = tt
+asked_of frames (came.Request (requests.Begin text)) h = tt
+asked_of frames (came.Request (requests.Trigger run act)) h = tt
+asked_of frames (came.Request (requests.Stop run)) h = tt
+asked_of frames (came.Request (requests.Verify run text)) h = tt
 asked_of frames came.Tick h = tt
 asked_of frames came.Cut h = tt
 asked_of frames came.Restart h = tt

@@ -26,8 +26,7 @@ use Rattle.client_core.specs.FrameAnswers.{entry_heard}
 use Rattle.client_core.specs.FrameEnds.{StandsFor, most_packets}
 use Rattle.node.specs.declared.power.Power.{Power}
 use Rattle.node.specs.Kinds.{Shows}
-use Rattle.cells.specs.Rules.{Meets}
-use Rattle.cells.specs.ClientRules.{ask_of, core}
+use Rattle.cells.specs.ClientRules.{core}
 use Rattle.cells.specs.CoreLaws.{IsWithin}
 use Rattle.cells.specs.declared.client_cell.incoming.Incoming.{Incoming}
 use Rattle.cells.specs.declared.client_cell.incoming.Incoming.TheVariants as incoming
@@ -35,7 +34,7 @@ use Rattle.cells.specs.declared.client_cell.request.ClientRequest.{ClientRequest
 use Rattle.cells.specs.declared.client_cell.request.ClientRequest.TheVariants as requests
 use Rattle.cells.specs.ClientStands.{reply_and_frames}
 use Rattle.cells.specs.ClientCells.{ClientLog, IsReplay, IsCell}
-use Rattle.cells.specs.ClientTasks.{came_of, input_of, input_in}
+use Rattle.cells.specs.ClientTasks.{input_in}
 use Rattle.cells.proofs.HubLemmas.{packets_spelled}
 
 -- ---- the room for its frames
@@ -81,14 +80,6 @@ pub spelled : FramesAreSpelled → PacketsAreInRange → (o : Opening) (past : L
 spelled law ranges o past x came =
     by_entry law ranges o (packets_heard o past) came.0 (entry_heard o past x)
     (λ y is. subst (λ (z : Option history.Entry). CameInRange (with_entry z (packets_heard o past))) is came.1)
-
--- ---- what a request asks
-
-pub request_asks : (r : ClientRequest) → ask_of (came_of r) ≡ Meets (input_of r)
-request_asks (requests.Begin text) = refl
-request_asks (requests.Trigger run act) = refl
-request_asks (requests.Stop run) = refl
-request_asks (requests.Verify run text) = refl
 
 -- ---- what it shows
 

@@ -17,6 +17,7 @@ use Rattle.cells.specs.declared.input.NodeInput.{NodeInput}
 use Rattle.cells.specs.declared.input.NodeInput.TheVariants as came
 use Rattle.cells.specs.declared.answer.Answer.{Answer}
 use Rattle.cells.specs.declared.answer.Answer.TheVariants.{Plain, Run, Attempt}
+use Rattle.cells.specs.ClientTasks.{input_of}
 use Rattle.cells.specs.CoreRules.{CoreRules, rules_of}
 use Rattle.cells.specs.Rules.{Ask, Meets, Cuts, Restarts, Nothing, Rules}
 
@@ -28,10 +29,7 @@ ask_of_frame (Some f) = Meets (inputs.Deliver f)
 -- What is asked of the client.
 abbrev pub ask_of : NodeInput → Ask FrameInput
 ask_of (came.Frame bytes) = ask_of_frame (frame_at bytes)
-ask_of (came.Begin text) = Meets (inputs.Begin text)
-ask_of (came.Trigger run act) = Meets (inputs.Trigger run act)
-ask_of (came.Stop run) = Meets (inputs.Stop run)
-ask_of (came.Verify run text) = Meets (inputs.Verify run text)
+ask_of (came.Request request) = Meets (input_of request)
 ask_of came.Tick = Meets inputs.Tick
 ask_of came.Cut = Cuts
 ask_of came.Restart = Restarts

@@ -21,13 +21,6 @@ abbrev pub loads_note : ClientTask → Bool
 loads_note Cut = false
 loads_note Restart = true
 
--- What comes to the client by a request.
-abbrev pub came_of : ClientRequest → NodeInput
-came_of (Begin text) = came.Begin text
-came_of (Trigger run act) = came.Trigger run act
-came_of (Stop run) = came.Stop run
-came_of (Verify run text) = came.Verify run text
-
 -- What its core meets by a request.
 abbrev pub input_of : ClientRequest → FrameInput
 input_of (Begin text) = inputs.Begin text
@@ -38,7 +31,7 @@ input_of (Verify run text) = inputs.Verify run text
 -- What comes to the client at the hub.
 abbrev pub came_in : Incoming → NodeInput
 came_in (Frame came frame) = came
-came_in (Request request) = came_of request
+came_in (Request request) = came.Request request
 
 -- What its core meets of that.
 abbrev pub input_in : Incoming → FrameInput

@@ -2,9 +2,9 @@
 
 ghost use Rattle.std.specs.Prelude.{◌≡◌};
 
+use crate::client_cell::ClientRequest;
 use engine::Ticket;
-use fc_base::{Attempt, CheckReport, JobNo, RunNo};
-use messages::{Act, Text};
+use fc_base::{Attempt, CheckReport, JobNo};
 use server_core::WriteEnd;
 use std::marker::Model;
 
@@ -55,14 +55,8 @@ pub enum NodeInput {
         job: JobNo,
         report: Box<CheckReport>,
     },
-    /// The client begins a run with this job file.
-    Begin(Text),
-    /// The client triggers the verify states of a run, and then this act.
-    Trigger(RunNo, Act),
-    /// The client stops a run.
-    Stop(RunNo),
-    /// The client verifies a run by this job file.
-    Verify(RunNo, Text),
+    /// The client is asked by its caller to begin, trigger, stop or verify.
+    Request(ClientRequest),
     /// The client asks again for all that isn't answered.
     Tick,
     /// The node loses its power.

@@ -2,7 +2,8 @@
 use Rattle.std.specs.Prelude.{◌≡◌, ℕ, Bool, true, false, not, List, [], ◌∷◌, filter, map, reverse}
 use Rattle.messages.specs.declared.refusal.Act.TheVariants.{Cut as WithCut}
 use Rattle.cells.specs.declared.input.NodeInput.{NodeInput}
-use Rattle.cells.specs.declared.input.NodeInput.TheVariants.{Frame, Begin, Trigger, Verify}
+use Rattle.cells.specs.declared.client_cell.request.ClientRequest.TheVariants.{Begin, Trigger, Verify}
+use Rattle.cells.specs.declared.input.NodeInput.TheVariants.{Frame, Request}
 use Rattle.cells.specs.declared.entry.HistoryEntry.{HistoryEntry}
 use Rattle.cells.specs.ClientCells.{ClientLog}
 
@@ -17,7 +18,8 @@ asked_of_client history = filter (λ came. not (is_frame came)) (map (λ logged.
 
 -- To begin a run by one text, to trigger it with a cut, and to verify it by another text.
 abbrev pub errand : ℕ → List ℕ → List ℕ → List NodeInput
-errand run write read = Begin write ∷ Trigger run WithCut ∷ Verify run read ∷ []
+errand run write read =
+    map (λ request. Request request) (Begin write ∷ Trigger run WithCut ∷ Verify run read ∷ [])
 
 -- This is all that a client was asked for, whose history is kept with the newest first.
 pub record IsAsked (client : ClientLog) (write read : List ℕ) : Type 0 where

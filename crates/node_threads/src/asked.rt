@@ -3,7 +3,7 @@
 ghost use Rattle.std.specs.Prelude.{◌≡◌, IsTrue, Some, OnOk, slice_get};
 ghost use Rattle.node_threads.specs.Asked.{IsAsked, is_frame, asked_of_client, errand};
 
-use cells::{History, NodeInput};
+use cells::{ClientRequest, History, NodeInput};
 use fc_base::RunNo;
 use fleet_threads::{Client, FleetFault};
 use messages::Act;
@@ -59,9 +59,11 @@ fn is_next(done: usize, came: &NodeInput, run: RunNo, write: &[u8], read: &[u8])
     ensures { IsTrue result → slice_get (errand run write.now read.now) done ≡ Some came.now }
 {
     match (done, came) {
-        (0, NodeInput::Begin(text)) => text.as_slice() == write,
-        (1, NodeInput::Trigger(triggered, Act::Cut)) => *triggered == run,
-        (2, NodeInput::Verify(verified, text)) => *verified == run && text.as_slice() == read,
+        (0, NodeInput::Request(ClientRequest::Begin(text))) => text.as_slice() == write,
+        (1, NodeInput::Request(ClientRequest::Trigger(asked, Act::Cut))) => *asked == run,
+        (2, NodeInput::Request(ClientRequest::Verify(asked, text))) => {
+            *asked == run && text.as_slice() == read
+        }
         _ => false,
     }
 }

@@ -90,7 +90,7 @@ pub(crate) fn hear<N: Notes + Drop>(
         Incoming::Frame(came, frame) => (step(power, Input::Deliver(frame)), came),
         Incoming::Request(request) => {
             let done = step(power, request.as_input());
-            (done, request.into_came())
+            (done, NodeInput::Request(request))
         }
     }
 }

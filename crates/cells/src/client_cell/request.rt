@@ -2,9 +2,8 @@
 
 ghost use Rattle.std.specs.Prelude.{◌≡◌};
 ghost use Rattle.client_core.specs.Answers as core;
-ghost use Rattle.cells.specs.ClientTasks.{came_of, input_of};
+ghost use Rattle.cells.specs.ClientTasks.{input_of};
 
-use crate::input::NodeInput;
 use client_core::Input;
 use fc_base::RunNo;
 use messages::{Act, Text};
@@ -32,18 +31,6 @@ impl ClientRequest {
             ClientRequest::Trigger(run, act) => Input::Trigger(*run, *act),
             ClientRequest::Stop(run) => Input::Stop(*run),
             ClientRequest::Verify(run, text) => Input::Verify(*run, text.as_slice()),
-        }
-    }
-
-    /// What comes to the client.
-    pub(crate) fn into_came(self) -> NodeInput
-        ensures { result ≡ came_of self }
-    {
-        match self {
-            ClientRequest::Begin(text) => NodeInput::Begin(text),
-            ClientRequest::Trigger(run, act) => NodeInput::Trigger(run, act),
-            ClientRequest::Stop(run) => NodeInput::Stop(run),
-            ClientRequest::Verify(run, text) => NodeInput::Verify(run, text),
         }
     }
 }

@@ -3,7 +3,7 @@
 use fc_base::{Fault, ServerNo};
 use messages::{Node, Text};
 use net_world::{Config, PlainEvent, World, WorldEvent};
-use node_threads::{FleetLeft, Hub, LentEntry, NodeInput, Place};
+use node_threads::{ClientRequest, FleetLeft, Hub, LentEntry, NodeInput, Place};
 use server_core::WriteEnd;
 use std::alloc::Global;
 
@@ -107,21 +107,28 @@ fn event_of(
             }
         }
         NodeInput::CheckDone { job, .. } => PlainEvent::Check { server, job: *job },
-        NodeInput::Begin(text) => PlainEvent::Begin {
-            text: bytes_of(alloc, text)?,
-        },
-        NodeInput::Trigger(run, act) => PlainEvent::Trigger {
-            run: *run,
-            act: *act,
-        },
-        NodeInput::Stop(run) => PlainEvent::StopRun { run: *run },
-        NodeInput::Verify(run, text) => PlainEvent::Verify {
-            run: *run,
-            text: bytes_of(alloc, text)?,
-        },
+        NodeInput::Request(request) => asked(alloc, request)?,
         NodeInput::Tick => PlainEvent::Tick,
         NodeInput::Cut => PlainEvent::Cut { node },
         NodeInput::Restart => PlainEvent::Restart { node },
+    })
+}
+
+/// What a request of the client's caller is in a world.
+fn asked(alloc: Global, request: &ClientRequest) -> Result<PlainEvent, Fault> {
+    Ok(match request {
+        ClientRequest::Begin(text) => PlainEvent::Begin {
+            text: bytes_of(alloc, text)?,
+        },
+        ClientRequest::Trigger(run, act) => PlainEvent::Trigger {
+            run: *run,
+            act: *act,
+        },
+        ClientRequest::Stop(run) => PlainEvent::StopRun { run: *run },
+        ClientRequest::Verify(run, text) => PlainEvent::Verify {
+            run: *run,
+            text: bytes_of(alloc, text)?,
+        },
     })
 }
 

@@ -7,13 +7,12 @@ use Rattle.cells.specs.ClientAsks.{asks_of}
 use Rattle.cells.specs.ClientCells.{ClientLog, opening_of}
 use Rattle.cells.specs.ClientRules.{rules}
 use Rattle.cells.specs.ClientStands.{failures_of}
-use Rattle.cells.proofs.ClientHearLemmas.{request_asks}
 use Rattle.cells.proofs.client_cell.calls.ClientCellNode.post.Goals as goal
 
 -- ---- a request
 
 pub hear-requires-clause-asks : goal.hear-requires-clause-asks
-hear-requires-clause-asks g c o = request_asks c.in-Request.request
+hear-requires-clause-asks g c o = refl
 
 pub hear-requires-clause-kept : goal.hear-requires-clause-kept
 hear-requires-clause-kept g c = (opening_of c.self.inside.servers c.self.inside.opened.value, c.self.invariant.0.kept)
@@ -33,7 +32,7 @@ pub returns-in-Request-clause-ends : goal.returns-in-Request-clause-ends
 returns-in-Request-clause-ends g c =
     subst (λ (log : ClientLog). Commands (rules log.opening) (asks_of c.args.command) ClientNode c.args.hub.now.net c.hear.new.hub.net
     log.history (reverse c.hear.new.self.history.items) c.hear.result) c.self.view_is
-    (rw c.in-Request.is (inr (_, request_asks c.in-Request.request, c.hear.ensures.ends)))
+    (rw c.in-Request.is (inr (_, refl, c.hear.ensures.ends)))
 
 pub returns-in-Request-clause-why : goal.returns-in-Request-clause-why
 returns-in-Request-clause-why g c =
