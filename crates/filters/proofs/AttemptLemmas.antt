@@ -19,7 +19,7 @@ use Rattle.client_core.specs.History as history
 use Rattle.client_core.specs.History.{Opening}
 use Rattle.client_core.specs.Hearing.{FrameEntry, Met, packets_heard, heard_at, rules}
 use Rattle.client_core.specs.FrameAnswers.{sense, refusal, due}
-use Rattle.client_core.specs.FrameEnds.{note_in}
+use Rattle.client_core.specs.FrameEnds.{note_in, steps}
 use Rattle.client_core.specs.Refusals.{refusal_by}
 use Rattle.client_core.specs.Saves.{Addition, is_answer}
 use Rattle.client_core.specs.Words as words
@@ -29,8 +29,8 @@ use Rattle.attempt_ends.specs.declared.asked.AskedPlace.{AskedPlace}
 use Rattle.attempt_ends.specs.Asked.{places_asked}
 use Rattle.attempt_ends.specs.Attempts.{attempt_by, attempts_made}
 use Rattle.filters.specs.declared.node_step.NodeStep.{NodeStep}
-use Rattle.filters.specs.NodeSteps.{with_frame}
-use Rattle.filters.specs.ClientSteps.{noted, after_answer, after_refusal, BodyEnds, NotAnswered}
+use Rattle.filters.specs.NodeSteps.{BodyEnds, NotTaken, with_frame}
+use Rattle.filters.specs.ClientSteps.{answer_to, noted, after_answer, after_refusal}
 use Rattle.filters.specs.declared.beginning.Beginning.{Beginning}
 use Rattle.filters.specs.declared.beginning.Beginning.TheVariants.{Alone, Mirrored, Renewed}
 use Rattle.filters.specs.declared.client_filter.ClientFilter.{ClientFilter}
@@ -99,7 +99,7 @@ refused_attempts o past Tick = refl
 
 -- What an input that isn't answered makes of them.
 not_taken_attempts : {T : Type 0} (note : T → Note) (o : Opening) (at : ClientAt) (e : FrameInput) (old new : Client T) (sort : FaultSort) (fault : Fault)
-    (is : sort_of fault ≡ sort) (was : (note_in note old).bytes ≡ at.note) (ends : NotAnswered note o at.list e sort fault old new)
+    (is : sort_of fault ≡ sort) (was : (note_in note old).bytes ≡ at.note) (ends : NotTaken (steps note o) at.list e sort fault old new)
     → attempts_made o (packets_heard o (not_taken note o at e old new sort fault is was ends).0.list) ≡ attempts_made o (packets_heard o at.list)
 unfolding not_taken
 not_taken_attempts note o at e old new sorts.Memory fault is was ends = refl
@@ -108,15 +108,15 @@ not_taken_attempts note o at e old new sorts.Refusal fault is was ends = refused
 
 -- What a body makes of them.
 pub taken_attempts : {T : Type 0} (note : T → Note) (o : Opening) (at : ClientAt) (asked : Result FrameInput Fault) (old new : Client T)
-    (result : Result NodeStep Fault) (was : (note_in note old).bytes ≡ at.note) (h : BodyEnds note o at.list asked old new result)
-    → attempts_made o (packets_heard o (body_taken note o at asked old new result was h).0.list)
+    (result : Result NodeStep Fault) (is : IsAt note old o at) (h : BodyEnds (steps note o) (answer_to o at.list) at.list asked old new result)
+    → attempts_made o (packets_heard o (body_taken note o at asked old new result is h).0.list)
     ≡ attempts_made o (packets_heard o at.list) ++ attempts_added o at.list asked result
 unfolding body_taken not_taken
-taken_attempts note o at (Ok e) old new (Ok a) was h = answered_attempts o at.list e h.free
-taken_attempts note o at (Ok e) old new (Err fault) was h =
-    not_taken_attempts note o at e old new (sort_of fault) fault refl was h ∙ sym (append-nil _)
-taken_attempts note o at (Err why) old new (Ok a) was h = absurd h
-taken_attempts note o at (Err why) old new (Err fault) was h = sym (append-nil _)
+taken_attempts note o at (Ok e) old new (Ok a) is h = answered_attempts o at.list e h.free
+taken_attempts note o at (Ok e) old new (Err fault) is h =
+    not_taken_attempts note o at e old new (sort_of fault) fault refl is.1 h ∙ sym (append-nil _)
+taken_attempts note o at (Err why) old new (Ok a) is h = absurd h
+taken_attempts note o at (Err why) old new (Err fault) is h = sym (append-nil _)
 
 -- The bytes of a frame make no attempt.
 pub frame_adds : (o : Opening) (past : List FrameEntry) (faults : List Fault) (frame : Option Frame) (r : Result NodeStep Fault)

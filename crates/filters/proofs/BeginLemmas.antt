@@ -13,7 +13,8 @@ use Rattle.filters.specs.declared.beginning.Beginning.TheVariants.{Alone, Mirror
 use Rattle.filters.specs.declared.note_buffer.NoteBuffer.{NoteBuffer}
 use Rattle.filters.specs.Kept.{note_kept}
 use Rattle.filters.specs.Records.{end_bytes}
-use Rattle.filters.specs.ClientSteps.{noted, save_bytes}
+use Rattle.filters.specs.ClientSteps.{noted}
+use Rattle.filters.specs.NodeTells.{save_bytes}
 use Rattle.filters.specs.ClientLives.{IsAt, MayBegin, NotRestarted, RefusesNote, restarts, starts, is_renewal, first_note, opening_bytes}
 use Rattle.filters.specs.ClientRuns.{IsOpened}
 

@@ -1,13 +1,16 @@
 -- What bytes say that are no frame.
-use Rattle.std.proofs.Common.{◌≡◌, ◌⊎◌, ℕ, List, [], ◌∷◌, ◌++◌, length, refl, sym, ap, subst, inl, inr, true≢false, arith, Option, None, Some, Ok, Err}
+use Rattle.std.proofs.Common.{◌≡◌, ◌⊎◌, ℕ, List, [], ◌∷◌, ◌++◌, length, refl, sym, ap, subst, inl, inr, true≢false, arith, Option, None, Some, Err}
 use Rattle.std.specs.Prelude.{is_none, is_some, slice_get, unwrap_or}
+use Rattle.fc_base.specs.Fault.{sort_of}
 use Rattle.fc_base.specs.Faults.{when}
 use Rattle.fc_base.specs.declared.fault.Fault.{Fault}
 use Rattle.fc_base.specs.declared.fault.Fault.TheVariants.{FrameBadField, FrameNoMemory}
 use Rattle.messages.specs.FrameBytes.{frame_at, frame_faults, frame_limit, is_frame_kind}
 use Rattle.messages.specs.Packets.{header_faults}
 use Rattle.messages.specs.declared.frame.Frame.{Frame}
-use Rattle.filters.specs.NodeSteps.{with_frame}
+use Rattle.node.specs.Steps.{Steps}
+use Rattle.filters.specs.declared.node_step.NodeStep.{NodeStep}
+use Rattle.filters.specs.NodeSteps.{BodyEnds, NotTaken, with_frame}
 
 -- A list that ends in a fault has one.
 has_one : (xs : List Fault) (f : Fault) → xs ++ f ∷ [] ≡ [] → ⊥
@@ -20,17 +23,17 @@ says_one bytes empty none =
     has_one (header_faults is_frame_kind frame_limit bytes) FrameBadField
     (subst (λ (a : Option Frame). header_faults is_frame_kind frame_limit bytes ++ when (is_none a) FrameBadField ≡ []) none empty)
 
--- Bytes that aren't read: they are a frame, for which memory is wanting; or they are none, and the first fault is told.
-pub unread : {A : Type 0} (ask : Frame → A) (bytes : List ℕ) (fault : Fault)
-    → ((fault ≡ FrameNoMemory) × (frame_faults bytes ≡ [])) ⊎ (slice_get (frame_faults bytes) 0 ≡ Some fault)
-    → ((frame : Frame) × (with_frame ask (frame_faults bytes) (frame_at bytes) ≡ Ok (ask frame)) × (fault ≡ FrameNoMemory))
-    ⊎ (with_frame ask (frame_faults bytes) (frame_at bytes) ≡ Err fault)
-unread ask bytes fault why = by (frame_faults bytes) (frame_at bytes) why (says_one bytes)
+-- Bytes that aren't read leave a node as it was: they are a frame, for which memory is wanting; or they are none, and the first fault is told.
+pub not_read : {S E X D O : Type 0} (s : Steps S E X D O) (answer_to : E → NodeStep) (past : List X) (ask : Frame → E) (bytes : List ℕ) (fault : Fault) (node : S)
+    → ((fault ≡ FrameNoMemory) × (frame_faults bytes ≡ [])) ⊎ (slice_get (frame_faults bytes) 0 ≡ Some fault) → s.StandsFor past node
+    → BodyEnds s answer_to past (with_frame ask (frame_faults bytes) (frame_at bytes)) node node (Err fault)
+not_read s answer_to past ask bytes fault node why stands = by (frame_faults bytes) (frame_at bytes) why (says_one bytes)
   where
     by : (faults : List Fault) (at : Option Frame) → ((fault ≡ FrameNoMemory) × (faults ≡ [])) ⊎ (slice_get faults 0 ≡ Some fault) → (faults ≡ [] → at ≡ None → ⊥)
-        → ((frame : Frame) × (with_frame ask faults at ≡ Ok (ask frame)) × (fault ≡ FrameNoMemory)) ⊎ (with_frame ask faults at ≡ Err fault)
-    by [] (Some frame) (inl (is, none)) some = inl (frame, refl, is)
+        → BodyEnds s answer_to past (with_frame ask faults at) node node (Err fault)
+    by [] (Some frame) (inl (is, none)) some =
+        subst (λ (f : Fault). NotTaken s past (ask frame) (sort_of f) f node node) (sym is) (refl, stands)
     by [] None (inl (is, none)) some = absurd (some refl refl)
     by [] at (inr first) some = absurd (true≢false (sym (ap is_some first)))
     by (f ∷ fs) at (inl (is, none)) some = absurd (omega (arith, ap length none))
-    by (f ∷ fs) at (inr first) some = inr (ap (λ (x : Fault). with_frame ask (x ∷ fs) at) (ap (λ (a : Option Fault). unwrap_or a f) first))
+    by (f ∷ fs) at (inr first) some = (sym (ap (λ (a : Option Fault). unwrap_or a f) first), refl)

@@ -5,7 +5,6 @@ pub mod ReadLemmas
 pub mod RunLemmas
 pub mod FrameLemmas
 pub mod NodeLemmas
-pub mod ClientLemmas
 pub mod TakeLemmas
 pub mod AttemptLemmas
 pub mod EndingLemmas
@@ -16,7 +15,6 @@ pub mod NodeCutLemmas
 pub mod ClientCutLemmas
 pub mod MirrorLemmas
 pub mod MirrorCutLemmas
-pub mod ServerLemmas
 pub mod CameLemmas
 pub mod CheckLemmas
 pub mod KeptLemmas

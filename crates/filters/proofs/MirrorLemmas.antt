@@ -10,30 +10,19 @@ use Rattle.messages.specs.declared.frame.Frame.{Frame}
 use Rattle.mirror_core.specs.declared.mirror.Mirror.{Mirror}
 use Rattle.mirror_core.specs.declared.note.MirrorNote.{MirrorNote}
 use Rattle.mirror_core.specs.Ends.{steps}
-use Rattle.mirror_core.specs.History.{Entry}
 use Rattle.mirror_core.specs.Note.{Says}
 use Rattle.mirror_core.specs.Stands.{Opens, NotOpened}
-use Rattle.mirror_core.specs.Words.{words_noted, due, would_save}
+use Rattle.mirror_core.specs.Words.{words_noted, due}
 use Rattle.filters.specs.declared.node_step.NodeStep.{NodeStep}
 use Rattle.filters.specs.Records.{end_bytes}
-use Rattle.filters.specs.NodeSteps.{NotTaken}
-use Rattle.filters.specs.ClientSteps.{save_bytes, number_bytes, send_bytes, result_bytes}
-use Rattle.filters.specs.MirrorLives.{MirrorAt, IsAt, TakesBody, BeginsBehind, RefusesNote, at_by, new_note, reply_by, taken_bytes}
-use Rattle.filters.specs.MirrorSteps.{FrameEnds, BodyEnds}
-use Rattle.filters.proofs.TakeLemmas.{saved_so, note_so}
+use Rattle.filters.specs.NodeSteps.{BodyEnds, NotTaken}
+use Rattle.filters.specs.NodeTells.{result_bytes}
+use Rattle.filters.specs.MirrorLives.{MirrorAt, IsAt, TakesBody, BeginsBehind, RefusesNote, answer_to, at_by, new_note, reply_by}
+use Rattle.filters.proofs.NodeLemmas.{answer_is, note_so}
 
 -- The note of a mirror says what its list does.
 pub note_says : {T : Type 0} (note : T → Note) (mirror : Mirror T) (o : MirrorNote) (at : MirrorAt) → IsAt note mirror o at → Says at.note (words_noted o at.list)
 note_says note mirror o at (stands, is) = subst (λ bytes. Says bytes (words_noted o at.list)) is stands.durable
-
--- What is written of an answer is what the list says.
-answer_is : {T : Type 0} (note : T → Note) (o : MirrorNote) (past : List Entry) (f : Frame) (old new : Mirror T) (a : NodeStep)
-    → FrameEnds note o past f old new (Ok a) → result_bytes (note new.durable.notes).bytes (Ok a) ≡ taken_bytes o past f
-answer_is note o past f old new a (h, none) =
-    let saved = saved_so (due o past f) (new_note o past f) (note old.durable.notes) (note new.durable.notes) a.saves h.saves_are h.answers.leaves in
-    ap (λ s. (s ++ (number_bytes a.number ++ send_bytes a.frames)) ++ end_bytes (Ok tt)) saved
-    ∙ ap (λ n. (save_bytes (would_save o past f) (new_note o past f) ++ (number_bytes n ++ send_bytes a.frames)) ++ end_bytes (Ok tt)) none
-    ∙ ap (λ sent. (save_bytes (would_save o past f) (new_note o past f) ++ send_bytes sent) ++ end_bytes (Ok tt)) h.answers.sends
 
 -- What a frame that isn't answered leaves.
 frame_not_taken : {T : Type 0} (note : T → Note) (o : MirrorNote) (at : MirrorAt) (f : Frame) (old new : Mirror T) (sort : FaultSort) (fault : Fault)
@@ -51,14 +40,15 @@ frame_not_taken note o at f old new sorts.Refusal fault is was h = (
 -- What the mirror makes of a body, by how its call ends.
 pub body_taken : {T : Type 0} (note : T → Note) (o : MirrorNote) (at : MirrorAt) (asked : Result Frame Fault) (old new : Mirror T)
     (result : Result NodeStep Fault)
-    → IsAt note old o at → BodyEnds note o at.list asked old new result
+    → IsAt note old o at → BodyEnds (steps note o) (answer_to o at.list) at.list asked old new result
     → (now : MirrorAt) × IsAt note new o now × TakesBody o at asked now (result_bytes (note new.durable.notes).bytes result)
-body_taken note o at (Ok f) old new (Ok a) is (h, none) = (
+body_taken note o at (Ok f) old new (Ok a) is h = (
   at_by None o at f,
-  (h.answers.stands, note_so (due o at.list f) (new_note o at.list f) at.note (note old.durable.notes) (note new.durable.notes) h.answers.leaves is.1),
+  (h.stands, note_so (due o at.list f) (new_note o at.list f) at.note (note old.durable.notes) (note new.durable.notes) h.leaves is.1),
   inl (
-    sym (ap (λ w. at_by w o at f) h.answers.free),
-    answer_is note o at.list f old new a (h, none) ∙ sym (ap (λ w. reply_by w o at.list f) h.answers.free),
+    sym (ap (λ w. at_by w o at f) h.free),
+    ap (λ l. l ++ end_bytes (Ok tt)) (answer_is (steps note o) (answer_to o at.list) at.list f old new a refl h)
+        ∙ sym (ap (λ w. reply_by w o at.list f) h.free),
   ),
 )
 body_taken note o at (Ok f) old new (Err fault) is h = frame_not_taken note o at f old new (sort_of fault) fault refl is.1 h

@@ -2,7 +2,7 @@
 use Rattle.std.proofs.Common.{◌≡◌, ◌⊎◌, ℕ, List, [], ◌∷◌, ◌++◌, Option, None, Some, append_assoc, append-nil, refl, sym, ap, ◌∙◌, subst, inl, inr, arith}
 use Rattle.std.specs.Prelude.{is_some}
 use Rattle.filters.specs.Kept.{note_with}
-use Rattle.filters.specs.ClientSteps.{save_bytes}
+use Rattle.filters.specs.NodeTells.{save_bytes}
 use Rattle.filters.specs.Lives.{RecordParts, Lives}
 use Rattle.filters.specs.Cuts.{CutsNext, CutsBehind}
 use Rattle.filters.specs.NodeCuts.{saved, CutsAnswer}

@@ -12,7 +12,7 @@ use Rattle.filters.specs.declared.checking.Checking.{Checking}
 use Rattle.filters.specs.Kept.{note_kept}
 use Rattle.filters.specs.ServerAt.{IsAt, no_checks, noted}
 use Rattle.filters.specs.Records.{end_bytes}
-use Rattle.filters.specs.ClientSteps.{save_bytes}
+use Rattle.filters.specs.NodeTells.{save_bytes}
 use Rattle.filters.specs.Steps.{IsOpened}
 use Rattle.filters.specs.ServerLives.{RefusesNote, server_filter}
 use Rattle.filters.specs.CheckRuns.{AreChecks}

@@ -1,6 +1,6 @@
 -- What is answered to a record by a server's filter, from how its server's calls end.
-use Rattle.std.proofs.Common.{length, length-append, ◌+◌, ◌≤◌, ◌≡◌, ℕ, Bool, false, List, [], ◌++◌, map, Option, None, Some, Result, Ok, Err, refl, sym, ap, ◌∙◌, subst, inl, inr, arith}
-use Rattle.std.specs.Prelude.{is_some, Vec}
+use Rattle.std.proofs.Common.{length, length-append, ◌+◌, ◌≤◌, ◌≡◌, ℕ, Bool, false, List, [], ◌++◌, Option, None, Some, Result, Ok, Err, refl, sym, ap, ◌∙◌, subst, inl, inr, arith}
+use Rattle.std.specs.Prelude.{Vec}
 use Rattle.std.specs.declared.alloc.Global.{Global}
 use Rattle.std.specs.Int.{w32, w64}
 use Rattle.fc_base.specs.Layouts.{bytes_of}
@@ -18,7 +18,6 @@ use Rattle.node.specs.Steps.{Ends, Faults}
 use Rattle.engine.specs.declared.issue.Issue.{Issue as Answer}
 use Rattle.engine.specs.Answers.{is_write}
 use Rattle.job_file.specs.declared.job.Job.{Job}
-use Rattle.messages.specs.FrameBytes.{frame_spelling}
 use Rattle.server_core.specs.Inputs.{FrameInput}
 use Rattle.server_core.specs.declared.input.Input.TheVariants.{Issue, CheckDone}
 use Rattle.server_core.specs.declared.server.Server.{Server}
@@ -26,7 +25,7 @@ use Rattle.server_core.specs.History.{Opening}
 use Rattle.server_core.specs.Note.{Says}
 use Rattle.server_core.specs.Answers.{shown_entries, run_job}
 use Rattle.server_core.specs.Hearing.{FrameEntry, packets_heard}
-use Rattle.server_core.specs.FrameAnswers.{due, frames, issue, refusal, answered_entry}
+use Rattle.server_core.specs.FrameAnswers.{due, issue, refusal}
 use Rattle.server_core.specs.FrameEnds.{StandsFor, steps, note_in}
 use Rattle.server_core.specs.Handles.{outs_of_issue}
 use Rattle.server_core.specs.Memory.{TakesNone}
@@ -36,41 +35,29 @@ use Rattle.filters.proofs.OutputLemmas.{puts_both}
 use Rattle.filters.specs.declared.checking.Checking.{Checking}
 use Rattle.filters.specs.declared.note_buffer.NoteBuffer.{NoteBuffer}
 use Rattle.filters.specs.declared.server_filter.ServerFilter.{ServerFilter}
-use Rattle.filters.specs.declared.server_filter.writes.ServerStep.{ServerStep}
+use Rattle.filters.specs.declared.node_step.NodeStep.{NodeStep}
 use Rattle.filters.specs.Kept.{note_kept}
 use Rattle.filters.specs.declared.kinds.OutRecordKind.TheVariants.{Order, Want}
 use Rattle.filters.specs.Kinds.{said_number}
 use Rattle.filters.specs.Records.{head_bytes, record_bytes, end_bytes}
-use Rattle.filters.specs.ClientSteps.{save_bytes, send_bytes}
-use Rattle.filters.specs.ServerTells.{act_bytes, order_name}
-use Rattle.filters.specs.ServerSteps.{IsHanded, NotHanded, HandsOut, BodyHands, handed_bytes}
+use Rattle.filters.specs.NodeSteps.{IsTaken, NotTaken, InputEnds, BodyEnds}
+use Rattle.filters.specs.NodeTells.{answer_bytes}
 use Rattle.filters.specs.UnderWay.{UnderWay}
-use Rattle.filters.specs.ServerAt.{ServerAt, IsAt, at_by, handed, new_note, noted}
-use Rattle.filters.specs.ServerTurns.{Asks, TakesTurn, TellsBy, TellsIt, order_bytes, order_if, ordered, ordered_by, want_bytes}
+use Rattle.filters.specs.ServerAt.{ServerAt, IsAt, answer_to, at_by, new_note, noted}
+use Rattle.filters.specs.ServerTurns.{Asks, TakesTurn, TellsBy, TellsIt, order_bytes, order_if, order_name, ordered, ordered_by, want_bytes}
 use Rattle.filters.specs.ServerLives.{TakesBody, TakesBy}
 use Rattle.filters.specs.CheckRuns.{AreChecks, IsHere}
 use Rattle.filters.specs.Steps.{AnswersBy}
-use Rattle.filters.specs.ServerRuns.{Asked, WritesHanded}
-use Rattle.filters.proofs.TakeLemmas.{saved_so, note_so}
+use Rattle.filters.specs.ServerRuns.{Asked, WritesAnswer}
+use Rattle.filters.proofs.NodeLemmas.{answer_is, note_so}
 use Rattle.filters.proofs.OrderLemmas.{gave, refused_gives}
 
--- What is written of what is handed out is what the list says.
-handed_is : {T : Type 0} (note : T → Note) (o : Opening) (past : List FrameEntry) (e : FrameInput) (old new : Server T) (h : ServerStep)
-    → IsHanded note o past e old new h → handed_bytes (note_in note new).bytes h ≡ handed o past e
-handed_is note o past e old new h is =
-    ap (λ s. s ++ (send_bytes h.outs.frames ++ act_bytes h.outs.act))
-    (saved_so (due o past e) (new_note o past e) (note_in note old) (note_in note new) h.saves is.saves is.answers.leaves)
-    ∙ ap (λ f. save_bytes (is_some (due o past e)) (new_note o past e) ++ (send_bytes f ++ act_bytes h.outs.act)) is.answers.sends.frames_are
-    ∙ ap (λ a. save_bytes (is_some (due o past e)) (new_note o past e)
-    ++ (send_bytes (map frame_spelling (frames o past (answered_entry o past e))) ++ act_bytes a))
-    is.answers.sends.act_is
-
 -- The server behind an input that is taken.
-at_taken : {T : Type 0} (note : T → Note) (o : Opening) (at : ServerAt) (e : FrameInput) (old new : Server T) (h : ServerStep)
-    → (note_in note old).bytes ≡ at.note → IsHanded note o at.list e old new h → IsAt note new o (at_by None o at e)
-at_taken note o at e old new h was is = (
-  is.answers.stands,
-  note_so (due o at.list e) (new_note o at.list e) at.note (note_in note old) (note_in note new) is.answers.leaves was,
+at_taken : {T : Type 0} (note : T → Note) (o : Opening) (at : ServerAt) (e : FrameInput) (old new : Server T) (a : NodeStep)
+    → (note_in note old).bytes ≡ at.note → IsTaken (steps note o) (answer_to o at.list) at.list e old new a → IsAt note new o (at_by None o at e)
+at_taken note o at e old new a was h = (
+  h.stands,
+  note_so (due o at.list e) (new_note o at.list e) at.note (note_in note old) (note_in note new) h.leaves was,
 )
 
 -- No input changes which checks are under way.
@@ -81,7 +68,7 @@ by_checks (Some fault) o at e = refl
 -- A body that isn't taken.
 not_taken_here : (o : Opening) (at : ServerAt) (e : FrameInput) (old mid : ServerFilter) (sort : FaultSort) (fault : Fault) → sort_of fault ≡ sort
     → (note_in note_kept old.server).bytes ≡ at.note → AreChecks mid.checks.items at.checks
-    → NotHanded note_kept o at.list e sort fault old.server mid.server
+    → NotTaken (steps note_kept o) at.list e sort fault old.server mid.server
     → (now : ServerAt) × IsHere mid o now × TakesBody o at (Ok e) now (end_bytes (Err fault))
 not_taken_here o at e old mid sorts.Memory fault is was checks (same, stands) =
     (at, ((stands, ap (λ (n : Note). n.bytes) same ∙ was), checks), inr (fault, is, (refl, refl)))
@@ -93,43 +80,46 @@ not_taken_here o at e old mid sorts.Refusal fault is was checks r = (
 )
 
 -- What is made of a body, by how the call ends and what is written of it.
-pub body_taken : (asked : Opening → List FrameEntry → Result FrameInput Fault) (old mid new : ServerFilter) (result : Result ServerStep Fault)
+pub body_taken : (asked : Opening → List FrameEntry → Result FrameInput Fault) (old mid new : ServerFilter) (result : Result NodeStep Fault)
     (first text : Written)
     → ((o : Opening) (past : List FrameEntry) → StandsFor note_kept old.server o past
-    → BodyHands note_kept o past (asked o past) old.server mid.server result)
-    → mid.checks ≡ old.checks → WritesHanded result mid new first text
+    → BodyEnds (steps note_kept o) (answer_to o past) past (asked o past) old.server mid.server result)
+    → mid.checks ≡ old.checks → WritesAnswer result mid new first text
     → AnswersBy (λ o at now answer. TakesBody o at (asked o at.list) now answer) (IsHere old) (IsHere new) first text
-body_taken asked old mid new (Ok h) first text hands kept (written, wrote, turns) = record {
-  answer = handed_bytes (note_in note_kept mid.server).bytes h ++ (written ++ end_bytes (Ok tt));
+body_taken asked old mid new (Ok a) first text ends kept (written, wrote, turns) = record {
+  answer = answer_bytes (note_in note_kept mid.server).bytes a ++ (written ++ end_bytes (Ok tt));
   written = wrote;
-  takes = λ o at here. by o at here (asked o at.list) (hands o at.list here.0.0);
+  takes = λ o at here. by o at here (asked o at.list) (ends o at.list here.0.0);
 }
   where
-    by : (o : Opening) (at : ServerAt) → IsHere old o at → (a : Result FrameInput Fault) → BodyHands note_kept o at.list a old.server mid.server (Ok h)
-        → (now : ServerAt) × IsHere new o now × TakesBody o at a now (handed_bytes (note_in note_kept mid.server).bytes h ++ (written ++ end_bytes (Ok tt)))
-    by o at here (Ok e) is =
+    by : (o : Opening) (at : ServerAt) → IsHere old o at → (said : Result FrameInput Fault)
+        → BodyEnds (steps note_kept o) (answer_to o at.list) at.list said old.server mid.server (Ok a)
+        → (now : ServerAt) × IsHere new o now × TakesBody o at said now (answer_bytes (note_in note_kept mid.server).bytes a ++ (written ++ end_bytes (Ok tt)))
+    by o at here (Ok e) h =
         let checks = subst (λ (cs : Vec (Option Checking) Global). AreChecks cs.items at.checks) (sym kept) here.1 in
-        let t = turns o (at_by None o at e) (at_taken note_kept o at e old.server mid.server h here.0.1 is, checks) in (
+        let t = turns o (at_by None o at e) (at_taken note_kept o at e old.server mid.server a here.0.1 h, checks) in (
           t.0,
           t.1,
-          inl (subst (λ w. TakesBy w o at e t.0 (handed_bytes (note_in note_kept mid.server).bytes h ++ (written ++ end_bytes (Ok tt)))) (sym is.answers.free)
+          inl (subst (λ w. TakesBy w o at e t.0 (answer_bytes (note_in note_kept mid.server).bytes a ++ (written ++ end_bytes (Ok tt)))) (sym h.free)
               (record {
                 written = written;
                 turns = t.2.0;
                 ordered = t.2.1;
-                all = ap (λ l. l ++ (written ++ end_bytes (Ok tt))) (handed_is note_kept o at.list e old.server mid.server h is);
+                all = ap (λ l. l ++ (written ++ end_bytes (Ok tt)))
+                    (answer_is (steps note_kept o) (answer_to o at.list) at.list e old.server mid.server a refl h);
               })),
         )
-    by o at here (Err why) is = absurd is
-body_taken asked old mid new (Err fault) first text hands kept (wrote, same) = record {
+    by o at here (Err why) h = absurd h
+body_taken asked old mid new (Err fault) first text ends kept (wrote, same) = record {
   answer = end_bytes (Err fault);
   written = wrote;
   takes = λ o at here. subst (λ (f : ServerFilter). (now : ServerAt) × IsHere f o now × TakesBody o at (asked o at.list) now (end_bytes (Err fault)))
-      (sym same) (by o at here (asked o at.list) (hands o at.list here.0.0));
+      (sym same) (by o at here (asked o at.list) (ends o at.list here.0.0));
 }
   where
-    by : (o : Opening) (at : ServerAt) → IsHere old o at → (a : Result FrameInput Fault) → BodyHands note_kept o at.list a old.server mid.server (Err fault)
-        → (now : ServerAt) × IsHere mid o now × TakesBody o at a now (end_bytes (Err fault))
+    by : (o : Opening) (at : ServerAt) → IsHere old o at → (said : Result FrameInput Fault)
+        → BodyEnds (steps note_kept o) (answer_to o at.list) at.list said old.server mid.server (Err fault)
+        → (now : ServerAt) × IsHere mid o now × TakesBody o at said now (end_bytes (Err fault))
     by o at here (Ok e) is =
         let checks = subst (λ (cs : Vec (Option Checking) Global). AreChecks cs.items at.checks) (sym kept) here.1 in
         not_taken_here o at e old mid (sort_of fault) fault refl here.0.1 checks is
@@ -207,30 +197,30 @@ pub note_says : {T : Type 0} (note : T → Note) (server : Server T) (o : Openin
 note_says note server o at (stands, is) = subst (λ bytes. Says bytes (noted o at.list)) is stands.core.durable
 
 -- What is written where a report was told, and how that ends.
-abbrev pub handed_if : Result ServerStep Fault → List ℕ → List ℕ
-handed_if (Ok h) note = handed_bytes note h
-handed_if (Err fault) note = []
+abbrev pub answer_if : Result NodeStep Fault → List ℕ → List ℕ
+answer_if (Ok a) note = answer_bytes note a
+answer_if (Err fault) note = []
 
-abbrev pub end_of : Result ServerStep Fault → Result (Unit {0}) Fault
-end_of (Ok h) = Ok tt
+abbrev pub end_of : Result NodeStep Fault → Result (Unit {0}) Fault
+end_of (Ok a) = Ok tt
 end_of (Err fault) = Err fault
 
 -- A report was told.
-pub told_it : (o : Opening) (at : ServerAt) (boot a j : ℕ) (report : ReportParts) (old new : Server NoteBuffer) (result : Result ServerStep Fault)
-    → IsAt note_kept old o at → HandsOut note_kept o at.list (CheckDone boot a j report) old new result
+pub told_it : (o : Opening) (at : ServerAt) (boot a j : ℕ) (report : ReportParts) (old new : Server NoteBuffer) (result : Result NodeStep Fault)
+    → IsAt note_kept old o at → InputEnds (steps note_kept o) (answer_to o at.list) at.list (CheckDone boot a j report) old new result
     → (now : ServerAt) × IsAt note_kept new o now
-    × TellsIt o at (CheckDone boot a j report) (end_of result) now (handed_if result (note_in note_kept new).bytes) × (now.checks ≡ at.checks)
-told_it o at boot a j report old new (Ok h) (stands, was) is =
+    × TellsIt o at (CheckDone boot a j report) (end_of result) now (answer_if result (note_in note_kept new).bytes) × (now.checks ≡ at.checks)
+told_it o at boot a j report old new (Ok told) (stands, was) h =
     let e = CheckDone boot a j report in (
       at_by None o at e,
-      at_taken note_kept o at e old new h was is,
-      inl (subst (λ w. TellsBy w o at e (Ok tt) (at_by None o at e) (handed_bytes (note_in note_kept new).bytes h)) (sym is.answers.free)
-          (refl, (refl, handed_is note_kept o at.list e old new h is))),
+      at_taken note_kept o at e old new told was h,
+      inl (subst (λ w. TellsBy w o at e (Ok tt) (at_by None o at e) (answer_bytes (note_in note_kept new).bytes told)) (sym h.free)
+          (refl, (refl, answer_is (steps note_kept o) (answer_to o at.list) at.list e old new told refl h))),
       refl,
     )
 told_it o at boot a j report old new (Err fault) (stands, was) ends = by (sort_of fault) refl ends
   where
-    by : (sort : FaultSort) → sort_of fault ≡ sort → NotHanded note_kept o at.list (CheckDone boot a j report) sort fault old new
+    by : (sort : FaultSort) → sort_of fault ≡ sort → NotTaken (steps note_kept o) at.list (CheckDone boot a j report) sort fault old new
         → (now : ServerAt) × IsAt note_kept new o now × TellsIt o at (CheckDone boot a j report) (Err fault) now [] × (now.checks ≡ at.checks)
     by sorts.Memory is (same, stays) = (at, (stays, ap (λ (n : Note). n.bytes) same ∙ was), inr (fault, is, refl, (refl, refl)), refl)
     by sorts.Save is f = absurd f

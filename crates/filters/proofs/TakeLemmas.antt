@@ -1,87 +1,77 @@
 -- What is answered to a record by the client's filter, from how its client's calls end.
-use Rattle.std.proofs.Common.{◌≡◌, ℕ, Bool, true, List, [], ◌∷◌, ◌++◌, Option, None, Some, Result, Ok, Err}
+use Rattle.std.proofs.Common.{◌≡◌, ℕ, Bool, true, false, if◌then◌else◌, List, [], ◌∷◌, ◌++◌, None, Some, Result, Ok, Err}
 use Rattle.std.proofs.Common.{length, length-append, refl, sym, ap, ◌∙◌, subst, inl, inr, arith, ◌+◌, ◌*◌}
-use Rattle.std.specs.Prelude.{is_some}
 use Rattle.fc_base.specs.Fault.{sort_of}
 use Rattle.fc_base.specs.Layouts.{bytes_of, spelled_blocks}
 use Rattle.fc_base.specs.declared.fault.Fault.{Fault}
 use Rattle.fc_base.specs.declared.fault.FaultSort.{FaultSort}
 use Rattle.fc_base.specs.declared.fault.FaultSort.TheVariants as sorts
 use Rattle.disk_model.specs.Notes.{Note}
-use Rattle.node.specs.Steps.{LeavesNote}
+use Rattle.disk_model.specs.declared.save_outcome.SaveOutcome.TheVariants.{NoSave}
+use Rattle.messages.specs.Senses.{is_drop}
 use Rattle.client_core.specs.declared.client.Client.{Client}
 use Rattle.client_core.specs.Inputs.{FrameInput}
 use Rattle.client_core.specs.declared.received.Received.{Received}
 use Rattle.client_core.specs.History.{Opening}
 use Rattle.client_core.specs.Note.{Says}
-use Rattle.client_core.specs.Hearing.{FrameEntry}
-use Rattle.client_core.specs.FrameAnswers.{due}
-use Rattle.client_core.specs.FrameEnds.{note_in}
+use Rattle.client_core.specs.Hearing.{FrameEntry, Met}
+use Rattle.client_core.specs.FrameAnswers.{due, sense}
+use Rattle.client_core.specs.FrameEnds.{StandsFor, note_in, steps}
 use Rattle.filters.specs.Written.{Written, Puts}
 use Rattle.filters.proofs.OutputLemmas.{puts_both}
 use Rattle.filters.specs.declared.node_step.NodeStep.{NodeStep}
 use Rattle.filters.specs.declared.kinds.InRecordKind.{InRecordKind}
 use Rattle.filters.specs.declared.kinds.InRecordKind.TheVariants as told
 use Rattle.filters.specs.declared.kinds.OutRecordKind.TheVariants.{Report}
-use Rattle.filters.specs.Kept.{note_with}
 use Rattle.filters.specs.Kinds.{said_number}
 use Rattle.filters.specs.Records.{head_bytes, end_bytes}
 use Rattle.filters.specs.ClientAsks.{input_in, report_names, report_counts}
-use Rattle.filters.specs.ClientSteps.{IsAnswered, NotAnswered, BodyEnds, noted, after_refusal, number_given}
-use Rattle.filters.specs.ClientSteps.{save_bytes, number_bytes, send_bytes, result_bytes}
-use Rattle.filters.specs.ClientLives.{ClientAt, IsAt, TakesBody, TakesKind, at_by, new_note, reply_by, report_bytes, taken_bytes}
+use Rattle.filters.specs.NodeSteps.{BodyEnds, NotTaken}
+use Rattle.filters.specs.NodeTells.{result_bytes}
+use Rattle.filters.specs.ClientSteps.{answer_to, noted, after_refusal}
+use Rattle.filters.specs.ClientLives.{ClientAt, IsAt, TakesBody, TakesKind, at_by, new_note, reply_by, report_bytes}
 use Rattle.filters.specs.Steps.{AnswersBy}
+use Rattle.filters.proofs.NodeLemmas.{answer_is, note_so}
 
--- What is saved is the spelling that is due, where something is.
-pub saved_so : {D : Type 0} (addition : Option D) (spelled : List ℕ) (old new : Note) (saves : Bool) → saves ≡ is_some addition
-    → LeavesNote addition spelled old new → save_bytes saves new.bytes ≡ save_bytes (is_some addition) spelled
-saved_so None spelled old new saves is leaves = ap (λ b. save_bytes b new.bytes) is
-saved_so (Some x) spelled old new saves is leaves =
-    ap (λ b. save_bytes b new.bytes) is ∙ ap (λ (n : Note). save_bytes true n.bytes) leaves
-
--- The note is that, or the old one.
-pub note_so : {D : Type 0} (addition : Option D) (spelled was : List ℕ) (old new : Note) → LeavesNote addition spelled old new → old.bytes ≡ was
-    → new.bytes ≡ note_with addition spelled was
-note_so None spelled was old new leaves is = ap (λ (n : Note). n.bytes) leaves ∙ is
-note_so (Some x) spelled was old new leaves is = ap (λ (n : Note). n.bytes) leaves
-
--- What is written of an answer is what the list says.
-pub answer_is : {T : Type 0} (note : T → Note) (o : Opening) (past : List FrameEntry) (e : FrameInput) (old new : Client T) (a : NodeStep)
-    → IsAnswered note o past e old new a → result_bytes (note_in note new).bytes (Ok a) ≡ taken_bytes o past e
-answer_is note o past e old new a h =
-    let saved = saved_so (due o past e) (new_note o past e) (note_in note old) (note_in note new) a.saves h.saves h.leaves in
-    ap (λ s. (s ++ (number_bytes a.number ++ send_bytes a.frames)) ++ end_bytes (Ok tt)) saved
-    ∙ ap (λ n. (save_bytes (is_some (due o past e)) (new_note o past e) ++ (number_bytes n ++ send_bytes a.frames)) ++ end_bytes (Ok tt)) h.number
-    ∙ ap (λ f. (save_bytes (is_some (due o past e)) (new_note o past e) ++ (number_bytes (number_given o past e) ++ send_bytes f)) ++ end_bytes (Ok tt))
-    h.frames_are
+-- What a refused input leaves.
+pub stood : {T : Type 0} (note : T → Note) (o : Opening) (past : List FrameEntry) (e : FrameInput) (new : Client T) (b : Bool)
+    → is_drop (sense o past e) ≡ b → StandsFor note new o (Met e NoSave ∷ past)
+    → (is_drop (sense o past e) ≡ false → StandsFor note new o past)
+    → StandsFor note new o (if b then Met e NoSave ∷ past else past)
+stood note o past e new true is stands unchanged = stands
+stood note o past e new false is stands unchanged = unchanged is
 
 -- What an input that isn't answered leaves.
 unfoldable pub not_taken : {T : Type 0} (note : T → Note) (o : Opening) (at : ClientAt) (e : FrameInput) (old new : Client T) (sort : FaultSort) (fault : Fault)
-    → sort_of fault ≡ sort → (note_in note old).bytes ≡ at.note → NotAnswered note o at.list e sort fault old new
+    → sort_of fault ≡ sort → (note_in note old).bytes ≡ at.note → NotTaken (steps note o) at.list e sort fault old new
     → (now : ClientAt) × IsAt note new o now × TakesBody o at (Ok e) now (end_bytes (Err fault))
 not_taken note o at e old new sorts.Memory fault is was (same, stands) =
     (at, (stands, ap (λ (n : Note). n.bytes) same ∙ was), inr (fault, is, (refl, refl)))
 not_taken note o at e old new sorts.Save fault is was ends = absurd ends
-not_taken note o at e old new sorts.Refusal fault is was (why, (same, stands)) = (
+not_taken note o at e old new sorts.Refusal fault is was r = (
   record at { list = after_refusal o at.list e },
-  (stands, ap (λ (n : Note). n.bytes) same ∙ was),
-  inl (sym (ap (λ w. at_by w o at e) why), sym (ap (λ w. reply_by w o at.list e) why)),
+  (stood note o at.list e new (is_drop (sense o at.list e)) refl r.stands r.unchanged, ap (λ (n : Note). n.bytes) r.same_note ∙ was),
+  inl (sym (ap (λ w. at_by w o at e) r.why), sym (ap (λ w. reply_by w o at.list e) r.why)),
 )
 
 -- What the client makes of a body, by how its call ends.
 unfoldable pub body_taken : {T : Type 0} (note : T → Note) (o : Opening) (at : ClientAt) (asked : Result FrameInput Fault) (old new : Client T)
     (result : Result NodeStep Fault)
-    → (note_in note old).bytes ≡ at.note → BodyEnds note o at.list asked old new result
+    → IsAt note old o at → BodyEnds (steps note o) (answer_to o at.list) at.list asked old new result
     → (now : ClientAt) × IsAt note new o now × TakesBody o at asked now (result_bytes (note_in note new).bytes result)
-body_taken note o at (Ok e) old new (Ok a) was h = (
+body_taken note o at (Ok e) old new (Ok a) is h = (
   at_by None o at e,
-  (h.stands, note_so (due o at.list e) (new_note o at.list e) at.note (note_in note old) (note_in note new) h.leaves was),
-  inl (sym (ap (λ w. at_by w o at e) h.free), answer_is note o at.list e old new a h ∙ sym (ap (λ w. reply_by w o at.list e) h.free)),
+  (h.stands, note_so (due o at.list e) (new_note o at.list e) at.note (note_in note old) (note_in note new) h.leaves is.1),
+  inl (
+    sym (ap (λ w. at_by w o at e) h.free),
+    ap (λ l. l ++ end_bytes (Ok tt)) (answer_is (steps note o) (answer_to o at.list) at.list e old new a refl h)
+        ∙ sym (ap (λ w. reply_by w o at.list e) h.free),
+  ),
 )
-body_taken note o at (Ok e) old new (Err fault) was h = not_taken note o at e old new (sort_of fault) fault refl was h
-body_taken note o at (Err why) old new (Ok a) was h = absurd h
-body_taken note o at (Err why) old new (Err fault) was (is, (same, stands)) =
-    (at, (stands, ap (λ (n : Note). n.bytes) same ∙ was), (refl, ap (λ (f : Fault). end_bytes (Err f)) is))
+body_taken note o at (Ok e) old new (Err fault) is h = not_taken note o at e old new (sort_of fault) fault refl is.1 h
+body_taken note o at (Err why) old new (Ok a) is h = absurd h
+body_taken note o at (Err why) old new (Err fault) is (told, same) =
+    (at, subst (λ client. IsAt note client o at) (sym same) is, (refl, ap (λ (f : Fault). end_bytes (Err f)) told))
 
 -- The note of a client says what its list does.
 pub note_says : {T : Type 0} (note : T → Note) (client : Client T) (o : Opening) (at : ClientAt) → IsAt note client o at → Says at.note (noted o at.list)

@@ -1,12 +1,11 @@
 -- What the client's filter makes of each record, by the list of all that came to its client, and
 -- how it runs.
-use Rattle.std.specs.Prelude.{◌≡◌, ◌≢◌, ◌⊎◌, ⊤, ℕ, Bool, true, false, List, [], ◌∷◌, ◌++◌, map, is_some, slice_get, Option, Some, None, Result, Ok, Err, IsTrue}
+use Rattle.std.specs.Prelude.{◌≡◌, ◌≢◌, ◌⊎◌, ⊤, ℕ, Bool, true, false, List, [], ◌∷◌, ◌++◌, slice_get, Option, Some, None, Result, Ok, Err, IsTrue}
 use Rattle.fc_base.specs.Layouts.{spelled_blocks}
 use Rattle.fc_base.specs.declared.fault.Fault.{Fault}
 use Rattle.fc_base.specs.declared.fault.Fault.TheVariants.{BadNotice, BadNote, BadGeneration, NoMemory}
 use Rattle.disk_model.specs.Notes.{Note}
 use Rattle.disk_model.specs.declared.save_outcome.SaveOutcome.TheVariants.{Saved}
-use Rattle.messages.specs.FrameBytes.{frame_spelling}
 use Rattle.messages.specs.Ranges.{is_generation}
 use Rattle.client_core.specs.declared.client.Client.{Client}
 use Rattle.client_core.specs.Inputs.{FrameInput}
@@ -20,7 +19,7 @@ use Rattle.client_core.specs.Outcomes.{outcome}
 use Rattle.client_core.specs.Reports.{reports}
 use Rattle.client_core.specs.Stands.{IsBadNote}
 use Rattle.client_core.specs.Hearing.{FrameEntry, Restart, Renew, packets_heard}
-use Rattle.client_core.specs.FrameAnswers.{refusal, due, frames, answered_entry}
+use Rattle.client_core.specs.FrameAnswers.{refusal, due}
 use Rattle.client_core.specs.FrameEnds.{StandsFor, note_in}
 use Rattle.attempt_ends.specs.AttemptEnds.{ends_told}
 use Rattle.filters.specs.declared.asking.EndsAsked.{EndsAsked}
@@ -35,7 +34,8 @@ use Rattle.filters.specs.Kinds.{told_numbered, said_number}
 use Rattle.filters.specs.Records.{record_bytes, end_bytes}
 use Rattle.filters.specs.EndTells.{told_bytes}
 use Rattle.filters.specs.ClientAsks.{number_alone, look_in, ends_in, input_in, outcome_number, report_names, report_counts}
-use Rattle.filters.specs.ClientSteps.{noted, after_answer, after_refusal, number_given, save_bytes, number_bytes, send_bytes}
+use Rattle.filters.specs.ClientSteps.{noted, after_answer, after_refusal, answer_to}
+use Rattle.filters.specs.NodeTells.{answer_bytes}
 use Rattle.filters.specs.NodeSteps.{Leaves, WantsMemory}
 use Rattle.filters.specs.Lives.{RecordParts, Filter}
 
@@ -53,18 +53,13 @@ IsAt note client opening at =
 abbrev pub new_note : Opening → List FrameEntry → FrameInput → List ℕ
 new_note opening past e = spelling (noted opening (after_answer opening past e))
 
--- What is answered to an input that is taken: the note, where something is due to be saved; the
--- number that is given; the frames; and the end.
+-- What is written for an input that is taken: its answer, over the note as it leaves that.
 abbrev pub taken_bytes : Opening → List FrameEntry → FrameInput → List ℕ
-taken_bytes opening past e =
-    (save_bytes (is_some (due opening past e)) (new_note opening past e)
-    ++ (number_bytes (number_given opening past e)
-    ++ send_bytes (map frame_spelling (frames opening past (answered_entry opening past e)))))
-    ++ end_bytes (Ok tt)
+taken_bytes opening past e = answer_bytes (new_note opening past e) (answer_to opening past e)
 
 -- What is answered to an input, by why it is refused, if it is.
 abbrev pub reply_by : Option Fault → Opening → List FrameEntry → FrameInput → List ℕ
-reply_by None opening past e = taken_bytes opening past e
+reply_by None opening past e = taken_bytes opening past e ++ end_bytes (Ok tt)
 reply_by (Some fault) opening past e = end_bytes (Err fault)
 
 -- The client behind an input.

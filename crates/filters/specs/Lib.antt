@@ -6,6 +6,7 @@ pub mod Kept
 pub mod Lives
 pub mod Cuts
 pub mod Steps
+pub mod NodeTells
 pub mod NodeSteps
 pub mod NodeCuts
 pub mod ClientAsks
@@ -15,10 +16,7 @@ pub mod ClientLives
 pub mod ClientRuns
 pub mod ClientCuts
 pub mod MirrorLives
-pub mod MirrorSteps
 pub mod MirrorCuts
-pub mod ServerTells
-pub mod ServerSteps
 pub mod UnderWay
 pub mod ServerAt
 pub mod ServerOrders

@@ -6,6 +6,7 @@ use Rattle.fc_base.specs.declared.fault.Fault.TheVariants.{BadNotice, BadNote, N
 use Rattle.disk_model.specs.Notes.{Note}
 use Rattle.messages.specs.FrameBytes.{frame_at, frame_faults}
 use Rattle.messages.specs.declared.frame.Frame.{Frame}
+use Rattle.messages.specs.declared.refusal.Act.TheVariants as acts
 use Rattle.mirror_core.specs.declared.mirror.Mirror.{Mirror}
 use Rattle.mirror_core.specs.declared.note.MirrorNote.{MirrorNote}
 use Rattle.mirror_core.specs.Ends.{answered_entry}
@@ -16,11 +17,12 @@ use Rattle.mirror_core.specs.Stands.{note_in, StandsFor}
 use Rattle.mirror_core.specs.Words.{words_noted, refusal, due, would_save}
 use Rattle.filters.specs.declared.kinds.InRecordKind.{InRecordKind}
 use Rattle.filters.specs.declared.kinds.InRecordKind.TheVariants as told
+use Rattle.filters.specs.declared.node_step.NodeStep.{NodeStep}
 use Rattle.filters.specs.Kept.{note_with}
 use Rattle.filters.specs.Kinds.{told_numbered}
 use Rattle.filters.specs.Records.{end_bytes}
 use Rattle.filters.specs.NodeSteps.{Leaves, WantsMemory, with_frame}
-use Rattle.filters.specs.ClientSteps.{save_bytes, send_bytes}
+use Rattle.filters.specs.NodeTells.{answer_bytes}
 use Rattle.filters.specs.Lives.{RecordParts, Filter}
 
 -- A mirror at some moment: the list of all that came to it, the newest first, and its note.
@@ -41,17 +43,23 @@ after_answer opening past f = answered_entry opening past f ∷ past
 abbrev pub new_note : MirrorNote → List Entry → Frame → List ℕ
 new_note opening past f = spelling (words_noted opening (after_answer opening past f))
 
--- What is answered to a frame that is taken: the note, where something is due to be saved; the
--- frames that are sent; and the end.
+-- What is answered to a frame that is taken: whether something is due to be saved, and the frames;
+-- no number is given, and no cut asked for.
+abbrev pub answer_to : MirrorNote → List Entry → Frame → NodeStep
+answer_to opening past f = record {
+  saves = would_save opening past f;
+  number = None;
+  frames = frame_bytes (packets opening past (answered_entry opening past f));
+  act = acts.None;
+}
+
+-- What is written for a frame that is taken: its answer, over the note as it leaves that.
 abbrev pub taken_bytes : MirrorNote → List Entry → Frame → List ℕ
-taken_bytes opening past f =
-    (save_bytes (would_save opening past f) (new_note opening past f)
-    ++ send_bytes (frame_bytes (packets opening past (answered_entry opening past f))))
-    ++ end_bytes (Ok tt)
+taken_bytes opening past f = answer_bytes (new_note opening past f) (answer_to opening past f)
 
 -- What is answered to a frame, by why it is refused, if it is.
 abbrev pub reply_by : Option Fault → MirrorNote → List Entry → Frame → List ℕ
-reply_by None opening past f = taken_bytes opening past f
+reply_by None opening past f = taken_bytes opening past f ++ end_bytes (Ok tt)
 reply_by (Some fault) opening past f = end_bytes (Err fault)
 
 -- The mirror behind a frame: one that is refused changes nothing.

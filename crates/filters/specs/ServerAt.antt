@@ -1,5 +1,5 @@
--- A server's filter at some moment, and what an input leaves of its server and hands out.
-use Rattle.std.specs.Prelude.{◌≡◌, ℕ, ◌==◌, if◌then◌else◌, List, ◌∷◌, ◌++◌, map, is_some, Option, Some, None}
+-- A server's filter at some moment, and what an input leaves of its server and is answered.
+use Rattle.std.specs.Prelude.{◌≡◌, ℕ, ◌==◌, if◌then◌else◌, List, ◌∷◌, map, is_some, Option, Some, None}
 use Rattle.fc_base.specs.declared.fault.Fault.{Fault}
 use Rattle.disk_model.specs.Notes.{Note}
 use Rattle.disk_model.specs.declared.save_outcome.SaveOutcome.TheVariants.{NoSave}
@@ -14,8 +14,8 @@ use Rattle.server_core.specs.Hearing.{FrameEntry, Met, packets_heard}
 use Rattle.server_core.specs.FrameAnswers.{due, frames, act, answered_entry}
 use Rattle.server_core.specs.FrameEnds.{StandsFor, note_in}
 use Rattle.filters.specs.Kept.{note_with}
-use Rattle.filters.specs.ClientSteps.{save_bytes, send_bytes}
-use Rattle.filters.specs.ServerTells.{act_bytes}
+use Rattle.filters.specs.declared.node_step.NodeStep.{NodeStep}
+use Rattle.filters.specs.NodeTells.{answer_bytes}
 use Rattle.filters.specs.UnderWay.{UnderWay}
 pub use Rattle.filters.specs.NodeSteps.{Leaves}
 
@@ -55,10 +55,16 @@ at_by None opening at e = record at {
 }
 at_by (Some fault) opening at e = record at { list = Met e NoSave ∷ at.list }
 
--- What is handed out for an input that is taken: the note, where something is due to be saved; the
--- frames; and the cut.
-abbrev pub handed : Opening → List FrameEntry → FrameInput → List ℕ
-handed opening past e =
-    save_bytes (is_some (due opening past e)) (new_note opening past e)
-    ++ (send_bytes (map frame_spelling (frames opening past (answered_entry opening past e)))
-    ++ act_bytes (act opening past e))
+-- What is answered to an input that is taken: whether something is due to be saved, the frames, and
+-- whether the cut is asked for; no number is given.
+abbrev pub answer_to : Opening → List FrameEntry → FrameInput → NodeStep
+answer_to opening past e = record {
+  saves = is_some (due opening past e);
+  number = None;
+  frames = map frame_spelling (frames opening past (answered_entry opening past e));
+  act = act opening past e;
+}
+
+-- What is written for an input that is taken: its answer, over the note as it leaves that.
+abbrev pub taken_bytes : Opening → List FrameEntry → FrameInput → List ℕ
+taken_bytes opening past e = answer_bytes (new_note opening past e) (answer_to opening past e)

@@ -1,10 +1,10 @@
 -- What a server's filter makes of each record, by the list of all that came to its server, and how
 -- it runs.
-use Rattle.std.specs.Prelude.{◌≡◌, ◌⊎◌, ⊤, ℕ, ◌+◌, ◌-◌, ◌^◌, ◌==◌, if◌then◌else◌, List, [], ◌∷◌, ◌++◌, length, drop, Option, Some, None, Result, Ok, Err}
+use Rattle.std.specs.Prelude.{◌≡◌, ◌⊎◌, ⊤, ℕ, ◌+◌, ◌-◌, ◌^◌, ◌==◌, if◌then◌else◌, List, ◌∷◌, ◌++◌, length, drop, Option, Some, None, Result, Ok, Err}
 use Rattle.std.specs.Int.{w32, w64}
 use Rattle.fc_base.specs.Layouts.{number_in}
 use Rattle.fc_base.specs.declared.fault.Fault.{Fault}
-use Rattle.fc_base.specs.declared.fault.Fault.TheVariants.{BadNotice, NotInFlight, FrameBadField, BadNote, NumbersSpent, NoMemory}
+use Rattle.fc_base.specs.declared.fault.Fault.TheVariants.{BadNotice, NotInFlight, BadNote, NumbersSpent, NoMemory}
 use Rattle.engine.specs.declared.issue.Ticket.{Ticket}
 use Rattle.disk_model.specs.declared.save_outcome.SaveOutcome.TheVariants.{Saved}
 use Rattle.messages.specs.FrameBytes.{frame_at, frame_faults}
@@ -27,8 +27,8 @@ use Rattle.filters.specs.declared.names.WriteName.{WriteName}
 use Rattle.filters.specs.Kinds.{told_numbered, said_number}
 use Rattle.filters.specs.Records.{record_bytes, end_bytes}
 use Rattle.filters.specs.ServerOrders.{AreAllGiven}
-use Rattle.filters.specs.ServerAt.{ServerAt, Leaves, at_by, handed, no_checks, noted}
-use Rattle.filters.specs.NodeSteps.{WantsMemory}
+use Rattle.filters.specs.ServerAt.{ServerAt, Leaves, at_by, taken_bytes, no_checks, noted}
+use Rattle.filters.specs.NodeSteps.{WantsMemory, with_frame}
 use Rattle.filters.specs.ServerTurns.{Turns}
 use Rattle.filters.specs.ServerChecks.{Feeds, GivesUp}
 use Rattle.filters.specs.Lives.{RecordParts, Filter}
@@ -44,7 +44,7 @@ pub record Follows (opening : Opening) (at : ServerAt) (front : List ℕ) (now :
 -- What is made of an input, by why it is refused, if it is.
 abbrev pub TakesBy : Option Fault → Opening → ServerAt → FrameInput → ServerAt → List ℕ → Type 0
 TakesBy None opening at e now answer =
-    Follows opening (at_by None opening at e) (handed opening at.list e) now answer
+    Follows opening (at_by None opening at e) (taken_bytes opening at.list e) now answer
 TakesBy (Some fault) opening at e now answer =
     Leaves (at_by (Some fault) opening at e) (end_bytes (Err fault)) now answer
 
@@ -55,11 +55,9 @@ TakesBody opening at (Ok e) now answer =
     TakesBy (refusal opening at.list e) opening at e now answer ⊎ WantsMemory at now answer
 TakesBody opening at (Err why) now answer = Leaves at (end_bytes (Err why)) now answer
 
--- The frame that bytes are, by the list of their faults.
+-- What is asked by the frame that a body is, by the list of its faults.
 abbrev pub frame_in : List Fault → Option Frame → Result FrameInput Fault
-frame_in [] (Some frame) = Ok (Deliver frame)
-frame_in [] None = Err FrameBadField
-frame_in (fault ∷ faults) frame = Err fault
+frame_in faults frame = with_frame Deliver faults frame
 
 -- The write that twenty bytes name: its run in eight, its job in four, its number in eight.
 abbrev pub write_in : List ℕ → Option WriteName

@@ -10,11 +10,11 @@ use Rattle.server_core.specs.Run.{Work, history, origin_of}
 use Rattle.server_core.specs.Words.{work}
 use Rattle.server_core.specs.FrameEnds.{note_in}
 use Rattle.filters.specs.declared.server_filter.ServerFilter.{ServerFilter}
-use Rattle.filters.specs.declared.server_filter.writes.ServerStep.{ServerStep}
+use Rattle.filters.specs.declared.node_step.NodeStep.{NodeStep}
 use Rattle.filters.specs.Written.{Written, Puts}
 use Rattle.filters.specs.Kept.{note_kept}
 use Rattle.filters.specs.Records.{end_bytes}
-use Rattle.filters.specs.ServerSteps.{handed_bytes}
+use Rattle.filters.specs.NodeTells.{answer_bytes}
 use Rattle.filters.specs.ServerOrders.{GivesNone, AreAllGiven}
 use Rattle.filters.specs.ServerAt.{ServerAt}
 use Rattle.filters.specs.ServerTurns.{Turns}
@@ -51,16 +51,16 @@ abbrev pub Gave : ℕ → ℕ → Opening → ServerAt → ServerAt → Type 0
 Gave j n opening at now =
     (n ≤ issued_at opening now.list j) × (0 < n → issued_at opening now.list j ≤ MAX_WRITES)
 
--- What is handed out is written, with what follows from it and the end; or just the fault, and the
--- filter stays as it was.
-abbrev pub WritesHanded : Result ServerStep Fault → ServerFilter → ServerFilter → Written
+-- An answer is written, with what follows from it and the end; or just the fault, and the filter
+-- stays as it was.
+abbrev pub WritesAnswer : Result NodeStep Fault → ServerFilter → ServerFilter → Written
     → Written → Type 0
-WritesHanded (Ok h) filter after old new =
+WritesAnswer (Ok a) filter after old new =
     (written : List ℕ)
-    × Puts old new (handed_bytes (note_in note_kept filter.server).bytes h
+    × Puts old new (answer_bytes (note_in note_kept filter.server).bytes a
     ++ (written ++ end_bytes (Ok tt)))
     × ((opening : Opening) (at : ServerAt) → IsHere filter opening at →
     (now : ServerAt) × IsHere after opening now
     × TurnsTo (λ opening at now. AreAllGiven opening now.list) opening at now written)
-WritesHanded (Err fault) filter after old new =
+WritesAnswer (Err fault) filter after old new =
     Puts old new (end_bytes (Err fault)) × (after ≡ filter)

@@ -5,6 +5,7 @@ use Rattle.fc_base.specs.Layouts.{bytes_of}
 use Rattle.fc_base.specs.Fault.{sort_of}
 use Rattle.fc_base.specs.declared.fault.Fault.{Fault}
 use Rattle.fc_base.specs.declared.fault.FaultSort.TheVariants.{Memory}
+use Rattle.fc_base.specs.declared.numbers.Key.{Key}
 use Rattle.fc_base.specs.declared.record.JobParts.{JobParts}
 use Rattle.fc_base.specs.declared.report.ReportParts.{ReportParts}
 use Rattle.fc_base.specs.Report.{is_report}
@@ -26,10 +27,14 @@ use Rattle.server_core.specs.FrameAnswers.{refusal, issue}
 use Rattle.filters.specs.declared.kinds.OutRecordKind.TheVariants.{Order, Want}
 use Rattle.filters.specs.Kinds.{said_number}
 use Rattle.filters.specs.Records.{record_bytes}
-use Rattle.filters.specs.ServerTells.{order_name}
 use Rattle.filters.specs.UnderWay.{UnderWay, IsOver, WantsMore}
-use Rattle.filters.specs.ServerAt.{ServerAt, Leaves, at_by, handed, with_check}
+use Rattle.filters.specs.ServerAt.{ServerAt, Leaves, at_by, taken_bytes, with_check}
 use Rattle.filters.specs.Lives.{Lives}
+
+-- Which write is ordered: its run, its job, its number, and the block that it goes to.
+abbrev pub order_name : Key → ℕ → ℕ → List ℕ
+order_name key k b =
+    bytes_of w64 key.run ++ (bytes_of w32 key.job ++ (bytes_of w64 k ++ bytes_of w32 b))
 
 -- The order of a write: which it is and where it goes, and the bytes of its block.
 abbrev pub order_bytes : Ticket → JobParts → List ℕ
@@ -66,7 +71,7 @@ want_bytes a j first count size =
 abbrev pub TellsBy : Option Fault → Opening → ServerAt → FrameInput → Result (Unit {0}) Fault
     → ServerAt → List ℕ → Type 0
 TellsBy None opening at e end now answer =
-    (end ≡ Ok tt) × Leaves (at_by None opening at e) (handed opening at.list e) now answer
+    (end ≡ Ok tt) × Leaves (at_by None opening at e) (taken_bytes opening at.list e) now answer
 TellsBy (Some fault) opening at e end now answer =
     (end ≡ Err fault) × Leaves (at_by (Some fault) opening at e) [] now answer
 

@@ -12,7 +12,7 @@ ghost use Rattle.filters.specs.Kept.{note_kept};
 ghost use Rattle.filters.specs.Lives.{Breaks, Runs};
 ghost use Rattle.filters.specs.Records.{end_bytes};
 ghost use Rattle.filters.specs.Steps.{AnswersBy, AnswersRecord, parts_of};
-ghost use Rattle.filters.specs.ClientSteps.{save_bytes};
+ghost use Rattle.filters.specs.NodeTells.{save_bytes};
 ghost use Rattle.filters.specs.ClientLives.{ClientAt, ClientTakes, TakesKind, client_filter, is_renewal};
 ghost use Rattle.filters.specs.ClientRuns.{FilterIsAt};
 

@@ -7,8 +7,8 @@
 //! let status = run_mirror(alloc, &mut reader, &mut writer)?;
 //! ```
 //!
-//! Begin with `specs/Records.antt`, which has the bytes, and with `specs/ClientSteps.antt`, which says what comes of
-//! what the client is asked.
+//! Begin with `specs/Records.antt`, which has the bytes, and with `specs/NodeTells.antt`, which says how what a node
+//! answers is spelled.
 #![tactic(auto)]
 
 mod asking;

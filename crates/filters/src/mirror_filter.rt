@@ -4,6 +4,7 @@ ghost use Rattle.std.specs.Prelude.{List, Some, Ok, IfOk, OnErr, IfSome};
 ghost use Rattle.std.specs.Io.KnownBytes.{Appends};
 ghost use Rattle.std.specs.Io.Buffered.{reader_remaining};
 ghost use Rattle.mirror_core.specs.declared.note.MirrorNote.{MirrorNote};
+ghost use Rattle.mirror_core.specs.Ends.{steps};
 ghost use Rattle.mirror_core.specs.History.{Entry};
 ghost use Rattle.mirror_core.specs.Stands.{note_in, StandsFor};
 ghost use Rattle.filters.specs.Written.{Puts};
@@ -11,9 +12,9 @@ ghost use Rattle.filters.specs.Kept.{note_kept};
 ghost use Rattle.filters.specs.Records.{end_bytes};
 ghost use Rattle.filters.specs.Lives.{Breaks, Runs};
 ghost use Rattle.filters.specs.Steps.{AnswersBy, AnswersRecord, parts_of};
-ghost use Rattle.filters.specs.ClientSteps.{result_bytes};
-ghost use Rattle.filters.specs.MirrorLives.{MirrorAt, IsAt, MirrorTakes, TakesBody, TakesKind, frame_in, mirror_filter};
-ghost use Rattle.filters.specs.MirrorSteps.{FrameEnds, BodyEnds};
+ghost use Rattle.filters.specs.NodeSteps.{InputEnds, BodyEnds};
+ghost use Rattle.filters.specs.NodeTells.{result_bytes};
+ghost use Rattle.filters.specs.MirrorLives.{MirrorAt, IsAt, MirrorTakes, TakesBody, TakesKind, answer_to, frame_in, mirror_filter};
 
 use crate::kinds::InRecordKind;
 use crate::node_step::{NodeStep, put_result};
@@ -24,7 +25,7 @@ use crate::records_node::RecordsNode;
 use crate::running::run;
 use crate::writing::put_end;
 use fc_base::Fault;
-use messages::{Frame, decode_frame};
+use messages::{Act, Frame, decode_frame};
 use mirror_core::Mirror;
 use std::alloc::Global;
 use std::io;
@@ -138,7 +139,7 @@ impl MirrorFilter {
     fn take(&mut self, bytes: &[u8]) -> Result<NodeStep, Fault>
         ensures { (opening : MirrorNote) (past : List Entry) →
             StandsFor note_kept self.old.mirror opening past →
-            BodyEnds note_kept opening past
+            BodyEnds (steps note_kept opening) (answer_to opening past) past
             (frame_in bytes.now) self.old.mirror self.new.mirror result }
     {
         match decode_frame(self.alloc, bytes) {
@@ -152,7 +153,8 @@ impl MirrorFilter {
     fn deliver(&mut self, frame: &Frame) -> Result<NodeStep, Fault>
         ensures { (opening : MirrorNote) (past : List Entry) →
             StandsFor note_kept self.old.mirror opening past →
-            FrameEnds note_kept opening past frame.now self.old.mirror self.new.mirror result }
+            InputEnds (steps note_kept opening) (answer_to opening past) past
+            frame.now self.old.mirror self.new.mirror result }
     {
         let saves = self.mirror.would_save(frame);
         let frames = self.mirror.deliver(frame)?;
@@ -160,6 +162,7 @@ impl MirrorFilter {
             saves,
             number: None,
             frames,
+            act: Act::None,
         })
     }
 }

@@ -1,15 +1,15 @@
-//! What the client or the mirror answers to an input, and how that is written.
+//! What a node answers to an input, whichever node it is, and how that is written.
 
 ghost use Rattle.filters.specs.Written.{Puts};
-ghost use Rattle.filters.specs.ClientSteps.{answer_bytes, result_bytes, number_bytes};
+ghost use Rattle.filters.specs.NodeTells.{answer_bytes, result_bytes, number_bytes, act_bytes};
 
 use crate::kinds::OutRecordKind;
 use crate::output::Output;
 use crate::writing::{put_end, put_frames, put_record, put_save};
 use fc_base::Fault;
-use messages::Frames;
+use messages::{Act, Frames};
 
-/// What the client or the mirror answers.
+/// What a node answers.
 #[derive(Drop)]
 pub(crate) struct NodeStep {
     /// Whether it has saved its note.
@@ -18,6 +18,8 @@ pub(crate) struct NodeStep {
     pub number: Option<u64>,
     /// The frames that it sends.
     pub frames: Frames,
+    /// What a server asks of its caller.
+    pub act: Act,
 }
 
 /// Writes what is answered over this note, or why there is no answer.
@@ -38,13 +40,14 @@ pub(crate) fn put_result<W: Output>(writer: &mut W, note: &[u8], answer: Result<
 /// Writes what is answered over this note: first what is saved, and then what may be carried out only once that
 /// is durable.
 #[tactic(auto, using(crate::proofs::OutputLemmas::puts_both))]
-fn put_answer<W: Output>(writer: &mut W, note: &[u8], answered: &NodeStep)
+pub(crate) fn put_answer<W: Output>(writer: &mut W, note: &[u8], answered: &NodeStep)
     ensures { Puts (W.written writer.old) (W.written writer.new)
         (answer_bytes note.now answered.now) }
 {
     put_save(writer, answered.saves, note);
     put_number(writer, answered.number);
-    put_frames(writer, &answered.frames)
+    put_frames(writer, &answered.frames);
+    put_act(writer, answered.act)
 }
 
 /// Writes a number that is given.
@@ -56,5 +59,16 @@ fn put_number<W: Output>(writer: &mut W, number: Option<u64>)
     match number {
         Some(number) => put_record(writer, OutRecordKind::Number, &number.to_be_bytes()),
         None => {}
+    }
+}
+
+/// Writes that the cut is asked for, where it is.
+fn put_act<W: Output>(writer: &mut W, act: Act)
+    ensures { Puts (W.written writer.old) (W.written writer.new)
+        (act_bytes act) }
+{
+    match act {
+        Act::Cut => put_record(writer, OutRecordKind::Cut, &[]),
+        Act::None => {}
     }
 }

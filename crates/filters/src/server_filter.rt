@@ -1,6 +1,6 @@
 //! A server as a filter.
 
-ghost use Rattle.std.specs.Prelude.{◌≡◌, ◌<◌, ◌++◌, true, Some, Ok, [], length, IfOk, OnErr, IfErr, IfSome};
+ghost use Rattle.std.specs.Prelude.{◌≡◌, ◌<◌, ◌++◌, true, Some, Ok, [], length, IfOk, OnErr, IfSome};
 ghost use Rattle.std.specs.Io.Buffered.{reader_remaining};
 ghost use Rattle.std.specs.Io.KnownBytes.{Appends};
 ghost use Rattle.fc_base.specs.declared.limits.TheConstants.{MAX_SERVERS, MAX_BLOCK_SIZE as BLOCK_SIZE, MAX_JOBS as JOBS};
@@ -9,7 +9,7 @@ ghost use Rattle.server_core.specs.History.{Opening as ServerOpening};
 ghost use Rattle.server_core.specs.FrameEnds.{note_in};
 ghost use Rattle.filters.specs.Written.{Puts};
 ghost use Rattle.filters.specs.Kept.{note_kept};
-ghost use Rattle.filters.specs.ClientSteps.{save_bytes};
+ghost use Rattle.filters.specs.NodeTells.{save_bytes};
 ghost use Rattle.filters.specs.Records.{end_bytes};
 ghost use Rattle.filters.specs.Lives.{Breaks, Runs};
 ghost use Rattle.filters.specs.Steps.{AnswersBy, AnswersRecord, parts_of};
@@ -24,6 +24,7 @@ mod writes;
 use crate::checking::Checking;
 use crate::kinds::{InRecordKind, OutRecordKind};
 use crate::names::write_name;
+use crate::node_step::NodeStep;
 use crate::note_buffer::NoteBuffer;
 use crate::output::Output;
 use crate::record::Record;
@@ -35,7 +36,6 @@ use server_core::{Server, WriteEnd};
 use std::alloc::{AllocError, Global};
 use std::io;
 use std::io::{BufReader, Read, Write};
-use writes::ServerStep;
 
 /// Serves as the server with this number, until the input ends, and answers the exit status: 0, or 2 where it
 /// can't go on, which the last record says.
@@ -128,7 +128,7 @@ impl RecordsNode for ServerFilter {
 
 impl ServerFilter {
     ghost use Rattle.filters.specs.CheckRuns.{AreChecks, IsHere};
-    ghost use Rattle.filters.specs.ServerRuns.{TurnsTo, WritesHanded};
+    ghost use Rattle.filters.specs.ServerRuns.{TurnsTo, WritesAnswer};
 
     /// No check of any job.
     fn no_checks(alloc: Global) -> Result<Vec<Option<Checking>>, AllocError>
@@ -188,13 +188,13 @@ impl ServerFilter {
     }
 
     /// Writes an answer and what follows from it, or why there is none.
-    fn write_answer<W: Output>(&mut self, answer: Result<ServerStep, Fault>, writer: &mut W)
-        ensures { WritesHanded answer self.old self.new
+    fn write_answer<W: Output>(&mut self, answer: Result<NodeStep, Fault>, writer: &mut W)
+        ensures { WritesAnswer answer self.old self.new
             (W.written writer.old) (W.written writer.new) }
     {
         match answer {
-            Ok(handed) => {
-                self.put_handed(&handed, writer);
+            Ok(answered) => {
+                self.put_answered(&answered, writer);
                 self.go_on(writer);
                 put_end(writer, Ok(()));
             }

@@ -10,7 +10,7 @@ ghost use Rattle.fc_base.specs.declared.fault.Fault.TheVariants.{NoMemory as NO_
 ghost use Rattle.filters.specs.declared.kinds.OutRecordKind.TheVariants.{Send as SENT};
 ghost use Rattle.filters.specs.Kinds.{said_number};
 ghost use Rattle.filters.specs.Records.{head_bytes, record_bytes, end_bytes};
-ghost use Rattle.filters.specs.ClientSteps.{save_bytes};
+ghost use Rattle.filters.specs.NodeTells.{save_bytes};
 
 use crate::kinds::OutRecordKind;
 use crate::output::{Guarded, Output, ended};

@@ -21,7 +21,7 @@ use Rattle.filters.specs.Records.{record_bytes, end_bytes}
 use Rattle.filters.specs.ServerAt.{ServerAt, no_checks, noted}
 use Rattle.filters.specs.ServerCuts.{GoesOnFrom}
 use Rattle.filters.specs.ServerLives.{ServerTakes, BeginsBehind, next_boot}
-use Rattle.filters.specs.ServerTells.{order_name}
+use Rattle.filters.specs.ServerTurns.{order_name}
 use Rattle.uses.specs.OneJob.{key, text}
 use Rattle.uses.specs.Packets.{to_server}
 

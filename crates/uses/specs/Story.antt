@@ -29,12 +29,12 @@ use Rattle.server_core.specs.Note.{spelling as server_note}
 use Rattle.filters.specs.declared.kinds.OutRecordKind.TheVariants.{Save, Number, Order, Want}
 use Rattle.filters.specs.declared.kinds.InRecordKind.TheVariants as told
 use Rattle.filters.specs.ClientLives.{ClientAt}
-use Rattle.filters.specs.ClientSteps.{send_bytes}
+use Rattle.filters.specs.NodeTells.{send_bytes}
 use Rattle.filters.specs.Kinds.{told_number, said_number}
 use Rattle.filters.specs.Lives.{RecordParts}
 use Rattle.filters.specs.Records.{record_bytes, end_bytes}
 use Rattle.filters.specs.ServerAt.{ServerAt, no_checks, with_check}
-use Rattle.filters.specs.ServerTells.{order_name}
+use Rattle.filters.specs.ServerTurns.{order_name}
 use Rattle.filters.specs.UnderWay.{UnderWay}
 use Rattle.uses.specs.OneJob.{key, job, text, reading_text, state}
 use Rattle.uses.specs.Packets.{to_server}

@@ -4,11 +4,12 @@ ghost use Rattle.std.specs.Prelude.{◌≡◌, ◌≤◌, ◌++◌, List, Ok};
 ghost use Rattle.client_core.specs.Inputs as inputs;
 ghost use Rattle.client_core.specs.History.{Opening};
 ghost use Rattle.client_core.specs.Hearing.{FrameEntry};
-ghost use Rattle.client_core.specs.FrameEnds.{StandsFor};
+ghost use Rattle.client_core.specs.FrameEnds.{StandsFor, steps};
 ghost use Rattle.filters.specs.declared.kinds.InRecordKind.TheVariants as told;
 ghost use Rattle.filters.specs.Kept.{note_kept};
 ghost use Rattle.filters.specs.ClientAsks.{input_in};
-ghost use Rattle.filters.specs.ClientSteps.{InputEnds, BodyEnds};
+ghost use Rattle.filters.specs.ClientSteps.{answer_to};
+ghost use Rattle.filters.specs.NodeSteps.{InputEnds, BodyEnds};
 ghost use Rattle.filters.specs.ClientRuns.{AttemptsGoOn, SameAttempts, attempts_numbered};
 
 use super::ClientFilter;
@@ -25,7 +26,7 @@ impl ClientFilter {
     pub(super) fn ask(&mut self, kind: InRecordKind, body: &[u8]) -> Result<NodeStep, Fault>
         ensures ends { (opening : Opening) (past : List FrameEntry) →
             StandsFor note_kept self.old.client opening past →
-            BodyEnds note_kept opening past
+            BodyEnds (steps note_kept opening) (answer_to opening past) past
             (input_in kind body.now) self.old.client self.new.client result }
         ensures attempts { (opening : Opening) (past : List FrameEntry) →
             StandsFor note_kept self.old.client opening past →
@@ -53,7 +54,7 @@ impl ClientFilter {
     fn take(&mut self, bytes: &[u8]) -> Result<NodeStep, Fault>
         ensures ends { (opening : Opening) (past : List FrameEntry) →
             StandsFor note_kept self.old.client opening past →
-            BodyEnds note_kept opening past
+            BodyEnds (steps note_kept opening) (answer_to opening past) past
             (input_in told.Frame bytes.now) self.old.client self.new.client
             result }
         ensures same { SameAttempts self.old self.new }
@@ -68,7 +69,7 @@ impl ClientFilter {
     fn verify_in(&mut self, body: &[u8]) -> Result<NodeStep, Fault>
         ensures ends { (opening : Opening) (past : List FrameEntry) →
             StandsFor note_kept self.old.client opening past →
-            BodyEnds note_kept opening past
+            BodyEnds (steps note_kept opening) (answer_to opening past) past
             (input_in told.Verify body.now) self.old.client self.new.client
             result }
         ensures attempts { (opening : Opening) (past : List FrameEntry) →
@@ -86,7 +87,7 @@ impl ClientFilter {
     fn begin(&mut self, text: &[u8]) -> Result<NodeStep, Fault>
         ensures ends { (opening : Opening) (past : List FrameEntry) →
             StandsFor note_kept self.old.client opening past →
-            InputEnds note_kept opening past
+            InputEnds (steps note_kept opening) (answer_to opening past) past
             (inputs.Begin text.now) self.old.client self.new.client result }
         ensures same { SameAttempts self.old self.new }
     {
@@ -96,13 +97,14 @@ impl ClientFilter {
             saves,
             number: Some(run.0),
             frames,
+            act: Act::None,
         })
     }
 
     fn trigger(&mut self, run: RunNo, act: Act) -> Result<NodeStep, Fault>
         ensures ends { (opening : Opening) (past : List FrameEntry) →
             StandsFor note_kept self.old.client opening past →
-            InputEnds note_kept opening past
+            InputEnds (steps note_kept opening) (answer_to opening past) past
             (inputs.Trigger run act) self.old.client self.new.client result }
         ensures same { SameAttempts self.old self.new }
     {
@@ -111,13 +113,14 @@ impl ClientFilter {
             saves: false,
             number: None,
             frames,
+            act: Act::None,
         })
     }
 
     fn stop(&mut self, run: RunNo) -> Result<NodeStep, Fault>
         ensures ends { (opening : Opening) (past : List FrameEntry) →
             StandsFor note_kept self.old.client opening past →
-            InputEnds note_kept opening past
+            InputEnds (steps note_kept opening) (answer_to opening past) past
             (inputs.Stop run) self.old.client self.new.client result }
         ensures same { SameAttempts self.old self.new }
     {
@@ -126,13 +129,14 @@ impl ClientFilter {
             saves: false,
             number: None,
             frames,
+            act: Act::None,
         })
     }
 
     fn verify(&mut self, run: RunNo, text: &[u8]) -> Result<NodeStep, Fault>
         ensures ends { (opening : Opening) (past : List FrameEntry) →
             StandsFor note_kept self.old.client opening past →
-            InputEnds note_kept opening past
+            InputEnds (steps note_kept opening) (answer_to opening past) past
             (inputs.Verify run text.now) self.old.client self.new.client result }
         ensures attempts { (opening : Opening) (past : List FrameEntry) →
             StandsFor note_kept self.old.client opening past →
@@ -161,7 +165,7 @@ impl ClientFilter {
     fn verify_by_client(&mut self, run: RunNo, text: &[u8]) -> Result<NodeStep, Fault>
         ensures ends { (opening : Opening) (past : List FrameEntry) →
             StandsFor note_kept self.old.client opening past →
-            InputEnds note_kept opening past
+            InputEnds (steps note_kept opening) (answer_to opening past) past
             (inputs.Verify run text.now) self.old.client self.new.client result }
         ensures same { SameAttempts self.old self.new }
     {
@@ -171,6 +175,7 @@ impl ClientFilter {
             saves,
             number: Some(attempt.0),
             frames,
+            act: Act::None,
         })
     }
 
@@ -178,7 +183,7 @@ impl ClientFilter {
     fn tick_in(&self, body: &[u8]) -> Result<NodeStep, Fault>
         ensures { (opening : Opening) (past : List FrameEntry) →
             StandsFor note_kept self.now.client opening past →
-            BodyEnds note_kept opening past
+            BodyEnds (steps note_kept opening) (answer_to opening past) past
             (input_in told.Tick body.now) self.now.client self.now.client result }
     {
         if !body.is_empty() {
@@ -190,21 +195,23 @@ impl ClientFilter {
     fn tick(&self) -> Result<NodeStep, Fault>
         ensures { (opening : Opening) (past : List FrameEntry) →
             StandsFor note_kept self.now.client opening past →
-            InputEnds note_kept opening past inputs.Tick self.now.client self.now.client result }
+            InputEnds (steps note_kept opening) (answer_to opening past) past
+            inputs.Tick self.now.client self.now.client result }
     {
         let frames = self.client.tick()?;
         Ok(NodeStep {
             saves: false,
             number: None,
             frames,
+            act: Act::None,
         })
     }
 
-    #[tactic(auto, using(crate::proofs::ClientLemmas::not_answered))]
+    #[tactic(auto, using(crate::proofs::NodeLemmas::not_taken))]
     fn deliver(&mut self, frame: Frame) -> Result<NodeStep, Fault>
         ensures ends { (opening : Opening) (past : List FrameEntry) →
             StandsFor note_kept self.old.client opening past →
-            InputEnds note_kept opening past
+            InputEnds (steps note_kept opening) (answer_to opening past) past
             (inputs.Deliver frame) self.old.client self.new.client result }
         ensures same { SameAttempts self.old self.new }
     {
@@ -216,6 +223,7 @@ impl ClientFilter {
             saves,
             number: None,
             frames,
+            act: Act::None,
         })
     }
 }

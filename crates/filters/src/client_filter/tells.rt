@@ -7,7 +7,7 @@ ghost use Rattle.filters.specs.declared.kinds.InRecordKind.TheVariants as told;
 ghost use Rattle.client_core.specs.FrameEnds.{note_in};
 ghost use Rattle.filters.specs.Kept.{note_kept};
 ghost use Rattle.filters.specs.ClientAsks.{input_in};
-ghost use Rattle.filters.specs.ClientSteps.{result_bytes};
+ghost use Rattle.filters.specs.NodeTells.{result_bytes};
 ghost use Rattle.filters.specs.ClientLives.{TakesBody, TakesKind, report_if};
 ghost use Rattle.filters.specs.ClientRuns.{FilterIsAt};
 ghost use Rattle.filters.specs.Steps.{AnswersBy};

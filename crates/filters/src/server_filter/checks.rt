@@ -9,19 +9,21 @@ ghost use Rattle.server_core.specs.History.{Opening};
 ghost use Rattle.server_core.specs.Hearing.{FrameEntry, packets_heard};
 ghost use Rattle.server_core.specs.Answers.{shown_entries};
 ghost use Rattle.server_core.specs.Check.{progress};
-ghost use Rattle.server_core.specs.FrameEnds.{StandsFor};
+ghost use Rattle.server_core.specs.FrameEnds.{StandsFor, steps};
 ghost use Rattle.filters.specs.Kept.{note_kept};
-ghost use Rattle.filters.specs.ServerSteps.{HandsOut};
+ghost use Rattle.filters.specs.NodeSteps.{InputEnds};
+ghost use Rattle.filters.specs.ServerAt.{answer_to};
 ghost use Rattle.filters.specs.ServerTurns.{Turns, ready_by, want_bytes};
 ghost use Rattle.filters.specs.ServerChecks.{Feeds, GivesUp, is_open_attempt};
 ghost use Rattle.filters.specs.CheckRuns.{GoesSo, IsHere, IsNewCheck, TakesOut, TellsSo, kept_in, is_same_check};
 ghost use Rattle.filters.specs.Steps.{AnswersBy};
 
 use super::ServerFilter;
-use super::writes::ServerStep;
+use super::writes::answered;
 use crate::checking::{CheckTurn, Checking};
 use crate::kinds::OutRecordKind;
 use crate::names::{BLOCK_NAME, BlockName, block_name};
+use crate::node_step::NodeStep;
 use crate::output::Output;
 use crate::writing::{put_head, put_u32, put_u64};
 use fc_base::{Attempt, CheckReport, Fault, JobNo, Key, MAX_BLOCKS, MAX_JOBS};
@@ -154,8 +156,8 @@ impl ServerFilter {
     {
         self.put(job, None);
         match self.report(boot, attempt, job, report) {
-            Ok(handed) => {
-                self.put_handed(&handed, writer);
+            Ok(told) => {
+                self.put_answered(&told, writer);
                 Ok(())
             }
             Err(fault) => Err(fault),
@@ -169,11 +171,11 @@ impl ServerFilter {
         attempt: Attempt,
         job: JobNo,
         report: CheckReport,
-    ) -> Result<ServerStep, Fault>
-        ensures hands { (opening : Opening) (past : List FrameEntry) →
+    ) -> Result<NodeStep, Fault>
+        ensures ends { (opening : Opening) (past : List FrameEntry) →
             StandsFor note_kept self.old.server opening past →
-            HandsOut note_kept opening past (CheckDone boot attempt job report)
-            self.old.server self.new.server result }
+            InputEnds (steps note_kept opening) (answer_to opening past) past
+            (CheckDone boot attempt job report) self.old.server self.new.server result }
         ensures checks { self.new.checks ≡ self.old.checks }
         ensures fits { IsTrue (is_report report) }
     {
@@ -185,7 +187,7 @@ impl ServerFilter {
             report,
         };
         match self.server.step(told) {
-            Ok(outs) => Ok(ServerStep { saves: false, outs }),
+            Ok(outs) => Ok(answered(false, outs)),
             Err(fault) => Err(fault),
         }
     }

@@ -1,6 +1,6 @@
 //! The frames that come to a server, and its writes.
 
-ghost use Rattle.std.specs.Prelude.{◌≡◌, List, length};
+ghost use Rattle.std.specs.Prelude.{◌≡◌, List, None, length};
 ghost use Rattle.filters.specs.Written.{Puts};
 ghost use Rattle.fc_base.specs.declared.limits.TheConstants.{MAX_BLOCK_SIZE};
 ghost use Rattle.engine.specs.Answers.{is_write};
@@ -8,12 +8,13 @@ ghost use Rattle.messages.specs.FrameBytes.{frame_at, frame_faults};
 ghost use Rattle.server_core.specs.declared.input.Input.TheVariants.{Deliver, WriteDone};
 ghost use Rattle.server_core.specs.History.{Opening};
 ghost use Rattle.server_core.specs.Hearing.{FrameEntry};
-ghost use Rattle.server_core.specs.FrameEnds.{StandsFor, note_in};
+ghost use Rattle.server_core.specs.FrameEnds.{StandsFor, note_in, steps};
 ghost use Rattle.filters.specs.Kept.{note_kept};
-ghost use Rattle.filters.specs.ServerTells.{order_name, outs_bytes};
-ghost use Rattle.filters.specs.ServerSteps.{HandsOut, BodyHands, handed_bytes};
+ghost use Rattle.filters.specs.NodeSteps.{InputEnds, BodyEnds};
+ghost use Rattle.filters.specs.NodeTells.{answer_bytes};
+ghost use Rattle.filters.specs.ServerAt.{answer_to};
 ghost use Rattle.filters.specs.ServerOrders.{GivesNone};
-ghost use Rattle.filters.specs.ServerTurns.{order_bytes, order_if};
+ghost use Rattle.filters.specs.ServerTurns.{order_bytes, order_if, order_name};
 ghost use Rattle.filters.specs.ServerLives.{frame_in, end_in};
 ghost use Rattle.filters.specs.ServerRuns.{Asked, TurnsTo};
 ghost use Rattle.filters.specs.CheckRuns.{IsHere};
@@ -22,32 +23,39 @@ ghost use Rattle.filters.specs.Steps.{AnswersBy};
 use super::ServerFilter;
 use crate::kinds::OutRecordKind;
 use crate::names::WriteName;
+use crate::node_step::{NodeStep, put_answer};
 use crate::output::Output;
-use crate::writing::{put_frames, put_head, put_record, put_save, put_u32, put_u64};
+use crate::writing::{put_head, put_u32, put_u64};
 use engine::{Issue, Ticket};
 use fc_base::{Fault, JobNo, JobRecord, MAX_WRITES};
-use messages::{Act, Frame, decode_frame};
+use messages::{Frame, decode_frame};
 use server_core::{Input, Outs, WriteEnd, looks_at_all};
 use write_order::fill_block;
 
 /// How often a job is asked for a write at the most: it gives no more than it has, and then none.
 const MOST_ASKED: u64 = MAX_WRITES + 1;
 
-/// What a server answers.
-#[derive(Drop)]
-pub(crate) struct ServerStep {
-    /// Whether it has saved its note.
-    pub saves: bool,
-    /// The frames that it sends, and what it asks of its caller.
-    pub outs: Outs,
+/// What a server answers that has saved its note, or not, and hands this out.
+pub(super) fn answered(saves: bool, outs: Outs) -> NodeStep
+    ensures saves { result.saves ≡ saves }
+    ensures number { result.number ≡ None }
+    ensures frames { result.frames ≡ outs.frames }
+    ensures act { result.act ≡ outs.act }
+{
+    NodeStep {
+        saves,
+        number: None,
+        frames: outs.frames,
+        act: outs.act,
+    }
 }
 
 impl ServerFilter {
     /// Takes the frame that these bytes are.
-    pub(super) fn deliver(&mut self, bytes: &[u8]) -> Result<ServerStep, Fault>
-        ensures hands { (opening : Opening) (past : List FrameEntry) →
+    pub(super) fn deliver(&mut self, bytes: &[u8]) -> Result<NodeStep, Fault>
+        ensures ends { (opening : Opening) (past : List FrameEntry) →
             StandsFor note_kept self.old.server opening past →
-            BodyHands note_kept opening past
+            BodyEnds (steps note_kept opening) (answer_to opening past) past
             (frame_in (frame_faults bytes.now) (frame_at bytes.now))
             self.old.server self.new.server result }
         ensures checks { self.new.checks ≡ self.old.checks }
@@ -59,16 +67,17 @@ impl ServerFilter {
     }
 
     /// Takes a frame.
-    #[tactic(auto, using(crate::proofs::ServerLemmas::not_handed))]
-    fn take(&mut self, frame: Frame) -> Result<ServerStep, Fault>
-        ensures hands { (opening : Opening) (past : List FrameEntry) →
+    #[tactic(auto, using(crate::proofs::NodeLemmas::not_taken))]
+    fn take(&mut self, frame: Frame) -> Result<NodeStep, Fault>
+        ensures ends { (opening : Opening) (past : List FrameEntry) →
             StandsFor note_kept self.old.server opening past →
-            HandsOut note_kept opening past (Deliver frame) self.old.server self.new.server result }
+            InputEnds (steps note_kept opening) (answer_to opening past) past
+            (Deliver frame) self.old.server self.new.server result }
         ensures checks { self.new.checks ≡ self.old.checks }
     {
         let saves = self.server.would_save(&frame);
         let outs = self.server.step(Input::Deliver(frame))?;
-        Ok(ServerStep { saves, outs })
+        Ok(answered(saves, outs))
     }
 
     /// Takes the end of a write of the present run.
@@ -76,11 +85,11 @@ impl ServerFilter {
         &mut self,
         name: Option<WriteName>,
         end: WriteEnd,
-    ) -> Result<ServerStep, Fault>
-        ensures hands { (opening : Opening) (past : List FrameEntry) →
+    ) -> Result<NodeStep, Fault>
+        ensures ends { (opening : Opening) (past : List FrameEntry) →
             StandsFor note_kept self.old.server opening past →
-            BodyHands note_kept opening past (end_in opening past end name)
-            self.old.server self.new.server result }
+            BodyEnds (steps note_kept opening) (answer_to opening past) past
+            (end_in opening past end name) self.old.server self.new.server result }
         ensures checks { self.new.checks ≡ self.old.checks }
     {
         let Some(WriteName { run, job, seq }) = name else {
@@ -99,26 +108,24 @@ impl ServerFilter {
     }
 
     /// Takes the end of an open write.
-    #[tactic(auto, using(crate::proofs::ServerLemmas::not_handed))]
-    fn end_open(&mut self, ticket: Ticket, end: WriteEnd) -> Result<ServerStep, Fault>
-        ensures hands { (opening : Opening) (past : List FrameEntry) →
+    #[tactic(auto, using(crate::proofs::NodeLemmas::not_taken))]
+    fn end_open(&mut self, ticket: Ticket, end: WriteEnd) -> Result<NodeStep, Fault>
+        ensures ends { (opening : Opening) (past : List FrameEntry) →
             StandsFor note_kept self.old.server opening past →
-            HandsOut note_kept opening past
+            InputEnds (steps note_kept opening) (answer_to opening past) past
             (WriteDone ticket end) self.old.server self.new.server result }
         ensures checks { self.new.checks ≡ self.old.checks }
     {
         let outs = self.server.step(Input::WriteDone(ticket, end))?;
-        Ok(ServerStep { saves: false, outs })
+        Ok(answered(false, outs))
     }
 
-    /// Writes what is handed out: first what is saved.
-    #[tactic(auto, using(crate::proofs::OutputLemmas::puts_both))]
-    pub(super) fn put_handed<W: Output>(&self, handed: &ServerStep, writer: &mut W)
+    /// Writes what is answered.
+    pub(super) fn put_answered<W: Output>(&self, answered: &NodeStep, writer: &mut W)
         ensures { Puts (W.written writer.old) (W.written writer.new)
-            (handed_bytes (note_in note_kept self.now.server).bytes handed.now) }
+            (answer_bytes (note_in note_kept self.now.server).bytes answered.now) }
     {
-        put_save(writer, handed.saves, self.server.notes().as_slice());
-        put_outs(writer, &handed.outs)
+        put_answer(writer, self.server.notes().as_slice(), answered)
     }
 
     /// Orders the writes of a job until none can be.
@@ -196,17 +203,4 @@ fn put_order_name<W: Output>(writer: &mut W, ticket: &Ticket)
     put_u32(writer, ticket.key.job.0);
     put_u64(writer, ticket.seq.0);
     put_u32(writer, ticket.block)
-}
-
-/// Writes the frames that are sent, and that the cut is asked for.
-#[tactic(auto, using(crate::proofs::OutputLemmas::puts_both))]
-pub(super) fn put_outs<W: Output>(writer: &mut W, outs: &Outs)
-    ensures { Puts (W.written writer.old) (W.written writer.new)
-        (outs_bytes outs.now) }
-{
-    put_frames(writer, &outs.frames);
-    match outs.act {
-        Act::Cut => put_record(writer, OutRecordKind::Cut, &[]),
-        Act::None => {}
-    }
 }

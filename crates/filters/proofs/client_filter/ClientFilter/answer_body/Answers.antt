@@ -2,7 +2,7 @@ use Rattle.std.proofs.Common.{◌∙◌, ◌++◌, ap, sym}
 use Rattle.client_core.specs.FrameEnds.{note_in}
 use Rattle.filters.specs.Kept.{note_kept}
 use Rattle.filters.specs.ClientAsks.{input_in}
-use Rattle.filters.specs.ClientSteps.{result_bytes}
+use Rattle.filters.specs.NodeTells.{result_bytes}
 use Rattle.filters.specs.ClientRuns.{attempts_added}
 use Rattle.filters.proofs.AttemptLemmas.{taken_attempts}
 use Rattle.filters.proofs.TakeLemmas.{body_taken}
@@ -19,14 +19,14 @@ returns g c =
       written = wrote;
       takes = λ o at h.
           let ends = c.ask-answer.ensures.ends o at.list h.client.0 in
-          let t = body_taken note_kept o at asked old new c.ask-answer.result h.client.1 ends in (
+          let t = body_taken note_kept o at asked old new c.ask-answer.result h.client ends in (
             t.0,
             record {
               client = t.1;
               servers = h.servers ∙ sym c.ask-answer.ensures.servers;
               attempts = c.ask-answer.ensures.attempts o at.list h.client.0 h.servers
                   ∙ ap (λ ms. ms ++ attempts_added o at.list asked c.ask-answer.result) h.attempts
-                  ∙ sym (taken_attempts note_kept o at asked old new c.ask-answer.result h.client.1 ends);
+                  ∙ sym (taken_attempts note_kept o at asked old new c.ask-answer.result h.client ends);
             },
             t.2,
           );

@@ -1,6 +1,6 @@
 use Rattle.std.proofs.Common.{Ok, ◌++◌, ◌∙◌, ap}
 use Rattle.filters.specs.Records.{end_bytes}
-use Rattle.filters.specs.ClientSteps.{save_bytes}
+use Rattle.filters.specs.NodeTells.{save_bytes}
 use Rattle.filters.specs.ClientLives.{is_renewal}
 use Rattle.filters.specs.declared.client_filter.ClientFilter.{ClientFilter}
 use Rattle.filters.proofs.AttemptLemmas.{begun}

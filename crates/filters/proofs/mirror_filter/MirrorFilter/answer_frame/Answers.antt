@@ -1,5 +1,5 @@
 use Rattle.filters.specs.Kept.{note_kept}
-use Rattle.filters.specs.ClientSteps.{result_bytes}
+use Rattle.filters.specs.NodeTells.{result_bytes}
 use Rattle.filters.specs.MirrorLives.{frame_in}
 use Rattle.filters.proofs.MirrorLemmas.{body_taken}
 use Rattle.filters.proofs.mirror_filter.MirrorFilter.answer_frame.Goals as goal

@@ -18,7 +18,7 @@ returns-in-Frame g c =
     subst (λ k. AnswersBy (λ o at now answer. TakesKind o at (Some k) body now answer) (IsHere old) (IsHere new) first text)
     (sym c.in-Frame.is)
     (body_taken (λ o past. frame_in (frame_faults body) (frame_at body)) old c.deliver-answer.new.self new c.deliver-answer.result first text
-    c.deliver-answer.ensures.hands c.deliver-answer.ensures.checks wrote)
+    c.deliver-answer.ensures.ends c.deliver-answer.ensures.checks wrote)
 
 pub returns-in-Done : goal.returns-in-Done
 returns-in-Done g c =
@@ -33,7 +33,7 @@ returns-in-Done g c =
     (subst (λ name. AnswersBy (λ o at now answer. TakesBody o at (end_in o at.list ends.Done name) now answer) (IsHere old) (IsHere new) first text)
     c.write_name.ensures
     (body_taken (λ o past. end_in o past ends.Done c.write_name.result) old c.end_write-answer.new.self new c.end_write-answer.result
-    first text c.end_write-answer.ensures.hands c.end_write-answer.ensures.checks wrote))
+    first text c.end_write-answer.ensures.ends c.end_write-answer.ensures.checks wrote))
 
 pub returns-in-Failed : goal.returns-in-Failed
 returns-in-Failed g c =
@@ -48,7 +48,7 @@ returns-in-Failed g c =
     (subst (λ name. AnswersBy (λ o at now answer. TakesBody o at (end_in o at.list ends.Failed name) now answer) (IsHere old) (IsHere new) first text)
     c.write_name-in-Failed.ensures
     (body_taken (λ o past. end_in o past ends.Failed c.write_name-in-Failed.result) old c.end_write-answer-in-Failed.new.self new c.end_write-answer-in-Failed.result
-    first text c.end_write-answer-in-Failed.ensures.hands c.end_write-answer-in-Failed.ensures.checks wrote))
+    first text c.end_write-answer-in-Failed.ensures.ends c.end_write-answer-in-Failed.ensures.checks wrote))
 
 pub returns-in-Blocks : goal.returns-in-Blocks
 returns-in-Blocks g c =

@@ -2,7 +2,7 @@ use Rattle.std.proofs.Common.{Ok, true}
 use Rattle.server_core.specs.FrameEnds.{note_in}
 use Rattle.filters.specs.Kept.{note_kept}
 use Rattle.filters.specs.Records.{end_bytes}
-use Rattle.filters.specs.ClientSteps.{save_bytes}
+use Rattle.filters.specs.NodeTells.{save_bytes}
 use Rattle.filters.proofs.OutputLemmas.{puts_both}
 use Rattle.filters.proofs.server_filter.ServerFilterRecordsNode.answer_note.Goals as goal
 
