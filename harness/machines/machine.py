@@ -14,14 +14,17 @@ from modules import in_order
 from stack import CACHES, DISKS
 
 HARNESS = os.path.dirname(os.path.dirname(os.path.realpath(__file__)))
-UP_SECONDS, STARTS, DISK_BYTES = 90, 5, 64 << 20
+UP_SECONDS, STARTS, DISK_BYTES = 300, 5, 64 << 20
+FALLEN_SECONDS = 1, 3  # from the fall of a disk to the cut of all
+# Linux names SCSI disks as they come, each start anew: /dev/disk0 is the first one of qemu.
 INIT = """#!/bin/busybox sh
 /bin/busybox --install -s /bin
 mount -t proc none /proc && mount -t sysfs none /sys && mount -t devtmpfs none /dev
 for word in $(cat /proc/cmdline); do case $word in do=* | disk=* | after=* | options=* | script=*) export "$word" ;; esac done
 export options="$(echo "$options" | tr , ' ')" target="$(cat /stack/target)"
 for module in $(cat /stack/order); do insmod /modules/$module; done
-until [ -b /dev/$disk ]; do usleep 10000; done
+for device in $(cat /stack/devices); do until [ -b $device ]; do usleep 10000; done; done
+for it in /sys/block/sd*; do at=$(readlink $it/device) && at=${at%:*} && ln -s ${it##*/} /dev/disk${at##*:}; done
 echo && echo "DISK $(cat /sys/block/$disk/queue/write_cache), FUA $(cat /sys/block/$disk/queue/fua)"
 sh -e /stack/$script >/dev/console 2>&1 || echo "NO STACK: $script has failed"
 sync
@@ -58,6 +61,12 @@ def pack(folder, archive):
         subprocess.run("find . | cpio -o -H newc --quiet", shell=True, cwd=folder, stdout=to, check=True)
 
 
+def append(archive, path):
+    """Appends an archive to one: Linux unpacks both."""
+    with open(archive, "rb") as more, open(path, "ab") as to:
+        shutil.copyfileobj(more, to)
+
+
 def write_all(root, texts):
     for name, text in texts.items():
         with open(f"{root}/{name}", "wb") as it:
@@ -65,15 +74,19 @@ def write_all(root, texts):
         os.chmod(f"{root}/{name}", 0o755)
 
 
-def make_root(work, kernel, job, stacks=()):
+def make_root(work, kernel, job, stacks=(), agents=""):
     """Makes the file system that a machine has in memory, with a job for what runs there alone, and what
-    these stacks take along."""
+    these stacks take along. Where an agent that needs no library is in a folder already, it has that alone."""
     root = f"{work}/root"
     for folder in "bin proc sys dev tmp mnt modules stack".split():
         os.makedirs(f"{root}/{folder}")
-    subprocess.run([f"{HARNESS}/build", "-static"], env={**os.environ, "OUT": f"{root}/bin"}, check=True)
+    if agents:
+        shutil.copy(f"{agents}/drive-agent", f"{root}/bin")
+    else:
+        subprocess.run([f"{HARNESS}/build", "-static"], env={**os.environ, "OUT": f"{root}/bin"}, check=True)
     shutil.copy("/bin/busybox", f"{root}/bin")
-    programs = {"fiocut": os.environ["FIOCUT"], "drive": os.environ["DRIVE"], **{it: shutil.which(it) for stack in stacks for it in ("fio", *stack.tools)}}
+    own = {} if agents else {"fiocut": os.environ["FIOCUT"], "drive": os.environ["DRIVE"]}
+    programs = {**own, **{it: shutil.which(it) for stack in stacks for it in stack.tools}}
     for name, program in programs.items():
         copy_program(program, root, name)
     wanted = sorted({it for stack in stacks for it in stack.all_modules()}) or sorted({it for disk in DISKS.values() for it in disk.modules.split()} | {"virtio_net"})
@@ -81,6 +94,18 @@ def make_root(work, kernel, job, stacks=()):
         shutil.copy(path, f"{root}/modules")
     write_all(root, {"init": INIT, "agent": AGENT, "job.fio": job})
     pack(root, f"{work}/base.cpio")
+
+
+def add_program(work, base, name):
+    """Makes the base of a machine of that of another one, with a program of this machine besides: fio has
+    so many libraries that a machine without them is up in three quarters of the time."""
+    root = f"{work}/program"
+    shutil.rmtree(root, ignore_errors=True)
+    os.makedirs(f"{root}/bin")
+    copy_program(shutil.which(name), root, name)
+    pack(root, f"{root}.cpio")
+    shutil.copy(base, f"{work}/base.cpio")
+    append(f"{root}.cpio", f"{work}/base.cpio")
 
 
 def free_port():
@@ -95,7 +120,7 @@ class Machine:
     def __init__(self, work, kernel):
         self.work, self.kernel, self.port, self.running = work, kernel, free_port(), {}
         self.disks_said = set()  # by its kernel at each start
-        self.keep, self.kept = False, 0  # whether a copy of the disks is kept at each cut, and how many are
+        self.number = None  # where a copy of the disks is kept at each cut: tells which cut it is
 
     def make_ready(self, stack, does):
         """Sets which stack it has, and what it does once it is up."""
@@ -112,8 +137,7 @@ class Machine:
             os.makedirs(os.path.dirname(f"{self.work}/add/{name}"), exist_ok=True)
         write_all(f"{self.work}/add", texts)
         pack(f"{self.work}/add", f"{self.work}/add.cpio")
-        with open(f"{self.work}/add.cpio", "rb") as more, open(f"{self.work}/initrd", "ab") as to:
-            to.write(more.read())
+        append(f"{self.work}/add.cpio", f"{self.work}/initrd")
 
     def images(self):
         return [f"{self.work}/disk{at}" for at in range(len(self.stack.disks))]
@@ -161,7 +185,7 @@ class Machine:
     def member_off(self):
         """Cuts the second disk's power, and while the others are written on that of all."""
         self.kill("disk1")
-        time.sleep(random.uniform(1, 3))
+        time.sleep(random.uniform(*FALLEN_SECONDS))
         self.off()
 
     def begin(self):
@@ -181,7 +205,7 @@ class Machine:
         """Gives all their power. A machine that isn't up by then never will be: qemu without
         -enable-kvm sometimes stops before its kernel begins, and nothing is written then."""
         for _ in range(STARTS):
-            self.off()
+            self.stop()
             self.begin()
             if self.awaits("UP", UP_SECONDS):
                 self.disks_said.update(re.findall(r"^DISK (.*)", self.said(), re.M))
@@ -191,14 +215,17 @@ class Machine:
                 return
         sys.exit(f"the machine doesn't come up: {self.said()[-300:]}")
 
-    def off(self):
-        """Cuts the power of all, and may keep what the disks hold then."""
-        was_on = bool(self.running)
+    def stop(self):
+        """Cuts the power of all."""
         self.kill("machine", *self.all_disks())
-        if self.keep and was_on:
-            self.kept += 1
-            for at, image in enumerate(self.images()):
-                subprocess.run(["cp", "--sparse=always", image, f"{self.work}/cut-{self.kept}-disk{at}"], check=True)
+
+    def off(self):
+        """Cuts the power of all, and may keep what the disks hold then: under its name once it is whole."""
+        self.stop()
+        for at, image in enumerate(self.images() if self.number else []):
+            copy = f"{self.work}/cut-{self.number()}-disk{at}"
+            subprocess.run(["cp", "--sparse=always", image, f"{copy}.new"], check=True)
+            os.replace(f"{copy}.new", copy)
 
     def said(self):
         """What its console said since it was started."""
