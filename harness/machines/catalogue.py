@@ -12,10 +12,12 @@ def count(number):
 
 
 def fio_of(row):
-    """In how many of its cuts fio told of faults."""
+    """In how many of its cuts fio told of faults, and in how many on each disk by itself."""
     ran = [it for it in row["fio"] if "why" not in it]
-    found = sum(it["fault"] for it in ran)
-    return f"faults in {found} of {len(ran)}" if ran else "not asked"
+    if not ran:
+        return "no answer"
+    members = ", ".join(f"{sum(it)} of {len(it)}" for it in zip(*(it.get("members", []) for it in ran)))
+    return f"faults in {sum(it['fault'] for it in ran)} of {len(ran)}" + (f"; each disk by itself: in {members}" if members else "")
 
 
 def line_of(stack, row):

@@ -8,6 +8,7 @@ import fio
 import series
 from modules import in_order
 from stack import BLANK, NoStack, plain, read_stack, stacks_in
+from sittings import read
 from trying import HERE, tell, write
 
 GOOD = "# A disk.\ndisks    scsi scsi\npromise  flush --flush 8\nmake     one\nmake     two\ntarget   /dev/md0\n"
@@ -98,7 +99,7 @@ class FakeMachine:
     """A machine that says these words, one at each start."""
 
     def __init__(self, *says):
-        self.says, self.files = [*says], []
+        self.says, self.files, self.did, self.work = [*says], [], [], "."
 
     def give_new_disks(self, size):
         self.files.append("new disks")
@@ -113,10 +114,23 @@ class FakeMachine:
         self.now = self.says.pop(0)
 
     def awaits(self, word, seconds):
+        self.did.append(word)
         return word in self.now
 
     def off(self):
-        pass
+        self.did.append("off")
+
+    def kill(self, name):
+        self.did.append(f"no {name}")
+
+    def disk_off(self):
+        self.did.append("no disks")
+
+    def disk_on(self):
+        self.did.append("disks")
+
+    def images(self):
+        return ["disk0", "disk1"]
 
     def said(self):
         return self.now
@@ -129,6 +143,27 @@ def answers_of_fio():
     tell("over the same disks, by its state", machine.files, ["new disks", None, b"fio"])
     tell("none", fio.answer(FakeMachine("FIOSTATE:Zmlv:\n", "\nFIO SOUND\nFIO DONE\n"), plain("scsi"), 1), {"fault": False, "sound": True, "told": 0})
     tell("no state, and so no cut", fio.answer(FakeMachine("nothing"), plain("scsi"), 1), {"why": "nothing"})
+    tell("a check that didn't end", fio.answer(FakeMachine("FIOSTATE:Zmlv:\n", "nothing"), plain("scsi"), 1), {"why": "nothing"})
+
+
+def answers_of_fio_where_some_are_cut():
+    """fio is cut as the stack is: a disk falls out while it writes, and then it reads each one by itself,
+    too; or all disks lose their power alone, and it reads as they have it again."""
+    os.makedirs("bin", exist_ok=True)
+    write("disk1", b"x" * fio.REGION)
+    write("bin/fio", '#!/bin/sh\necho "$2 $(cat local-a-0-verify.state)" >>asked\n[ $2 = --filename=disk0 ]\n')
+    os.chmod("bin/fio", 0o755)
+    os.environ["PATH"] = f"{os.path.abspath('bin')}:{os.environ['PATH']}"
+    stack = plain("scsi")
+    stack.cut, stack.each = "member", True
+    machine = FakeMachine("FIOSTATE:Zmlv:\n", "\nFIO SOUND\nFIO DONE\n")
+    tell("a disk falls out, and has a fault", fio.answer(machine, stack, 0), {"fault": False, "sound": True, "told": 0, "members": [False, True]})
+    tell("it falls out while fio writes", machine.did, [fio.BEGUN, "no disk1", "FIOSTATE", "off", "FIO DONE", "off"])
+    tell("each disk is read by the state", read("asked"), "--filename=disk0 fio\n--filename=disk1 fio\n")
+    stack.cut, stack.each = "disks", False
+    machine = FakeMachine("\nFIO ENDED\nFIO FAULT\nverify: bad\nFIO DONE\n")
+    tell("disks without power", fio.answer(machine, stack, 0), {"fault": True, "sound": False, "told": 1})
+    tell("they have it again once fio has ended", machine.did, [fio.BEGUN, "no disks", "FIO ENDED", "disks", "FIO DONE", "off"])
 
 
 def rows_of_stacks():
@@ -143,7 +178,9 @@ def rows_of_stacks():
     tell("it is there", wrong(line, scsi=stack), [])
     many = catalogue.line_of(stack, {**row, "faults": 1234, "checked": 5678, "kinds": {"torn": 1234}})
     tell("one of thousands isn't sound", wrong(many, scsi=stack), ["scsi: its row isn't sound"])
-    tell("fio that wasn't asked", "| not asked |" in catalogue.line_of(stack, {**row, "fio": []}), True)
+    tell("fio without an answer", "| no answer |" in catalogue.line_of(stack, {**row, "fio": [{"why": "?"}]}), True)
+    members = [{"fault": False, "members": [False, True]}, {"fault": False, "members": [False, True]}]
+    tell("fio of each disk", "| faults in 0 of 2; each disk by itself: in 0 of 2, 2 of 2 |" in catalogue.line_of(stack, {**row, "fio": members}), True)
     tell("one lacks", wrong(line, scsi=stack, virtio=other), ["virtio has no row"])
     tell("one is of no stack", wrong(line), ["scsi has a row, and is no stack"])
     stack.due = "faulty"
