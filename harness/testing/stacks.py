@@ -172,12 +172,15 @@ def rows_of_stacks():
     row |= {"members": [{"checked": 9, "faults": 0, "faulty": 0}, {"checked": 9, "faults": 8, "faulty": 3}], "fio": [{"fault": True}, {"fault": False}, {"why": "?"}]}
     stack = plain("scsi")
     line = catalogue.line_of(stack, row)
-    tell("a row", line, f"| `scsi` | `fua`, io_uring | 3, 3 with writes in flight (24) | 300 | 270 | 0 of 270 in 0 cuts; each disk by itself: 0 of 9, 8 of 9 | faults in 1 of 2 | 6.1, {row['qemu']}, {row['date']} |")
+    tell("a row", line, f"| `scsi` | A disk. | `fua`, io_uring | 3, 3 with writes in flight (24) | 300 | 270 | 0 of 270 in 0 cuts; each disk by itself: 0 of 9, 8 of 9 | faults in 1 of 2 | 6.1, {row['qemu']}, {row['date']} |")
     wrong = lambda text, **stacks: [*catalogue.wrong_in(stacks, text)]
     other = plain("virtio")
+    stack.cut = "disks"
+    tell("a row of disks alone", "| 3 of the disks alone, 3 with" in catalogue.line_of(stack, row), True)
     tell("it is there", wrong(line, scsi=stack), [])
     many = catalogue.line_of(stack, {**row, "faults": 1234, "checked": 5678, "kinds": {"torn": 1234}})
     tell("one of thousands isn't sound", wrong(many, scsi=stack), ["scsi: its row isn't sound"])
+    tell("fio that wasn't asked", "| not asked |" in catalogue.line_of(stack, {**row, "fio": []}), True)
     tell("fio without an answer", "| no answer |" in catalogue.line_of(stack, {**row, "fio": [{"why": "?"}]}), True)
     members = [{"fault": False, "members": [False, True]}, {"fault": False, "members": [False, True]}]
     tell("fio of each disk", "| faults in 0 of 2; each disk by itself: in 0 of 2, 2 of 2 |" in catalogue.line_of(stack, {**row, "fio": members}), True)
