@@ -8,12 +8,15 @@ import subprocess
 import time
 
 SECONDS = 120
-BEGUN, BLOCK = "Starting 1 process", 4096
+BLOCK = 4096
+# It is cut so many seconds behind its first writes: a machine may take some until it makes them. Its state
+# is there once the line behind it is.
+BEGUN = "writes() { awk '{ n += $5 } END { print n }' /sys/block/*/stat; }; was=$(writes); (until [ $(writes) -ge $((was + 100)) ]; do usleep 50000; done; (echo; echo FIO WRITES) >/dev/console; sleep {seconds}; touch now) &\n"
+TRIGGER = "--trigger-file=now --trigger='(echo; echo FIOSTATE:$(base64 -w 0 local-a-0-verify.state):; echo FIO KEPT) >/dev/console; sleep 1000'"
 # A disk falls out once it has each block of a region of 1 MiB, and so long is written in all.
 SIZES = {"all": "--size=4m", "disks": "--size=4m", "member": "--size=1m --io_size=3g"}
 REGION, FALLEN_SECONDS = 1 << 20, 12
 SYNC = {"fua": "--sync=dsync", "flush": "--fdatasync=8", "through": ""}
-TRIGGER = "--trigger-timeout={seconds} --trigger='(echo; echo FIOSTATE:$(base64 -w 0 local-a-0-verify.state):) >/dev/console; sleep 1000'"
 # A disk that lost its power alone fails a write: fio ends, and keeps its state then.
 ALONE = "echo FIO ENDED; until dd if=$target of=/dev/null bs=4096 count=1 iflag=direct 2>/dev/null; do usleep 50000; done; "
 
@@ -24,8 +27,8 @@ def job(stack, name, more):
 
 
 def write_of(stack, seconds):
-    trigger = "" if stack.cut == "disks" else TRIGGER.format(seconds=seconds)
-    return job(stack, "$target", f"--direct=1 --rw=randwrite --do_verify=0 --verify_state_save=1 {SYNC[stack.promise.split()[0]]} --rate_iops=200 {trigger}")
+    trigger = "" if stack.cut == "disks" else TRIGGER
+    return BEGUN.replace("{seconds}", str(seconds)) + job(stack, "$target", f"--direct=1 --rw=randwrite --do_verify=0 --verify_state_save=1 {SYNC[stack.promise.split()[0]]} --rate_iops=200 {trigger}")
 
 
 def check_of(stack):
@@ -47,7 +50,7 @@ def answer(machine, stack, seconds):
         return verdict(run(machine, stack, {"fio/run": script(command)}, "FIO DONE", lambda: cut_alone(machine, seconds)))
     is_member = stack.cut == "member"
     command = write_of(stack, seconds + FALLEN_SECONDS * is_member)
-    said = run(machine, stack, {"fio/run": script(command)}, "FIOSTATE", lambda: fall_out(machine, seconds) if is_member else None)
+    said = run(machine, stack, {"fio/run": script(command)}, "FIO KEPT", lambda: fall_out(machine, seconds) if is_member else None)
     found = re.search(r"FIOSTATE:([A-Za-z0-9+/=]+):", said)
     if not found:
         return {"why": said[-500:]}
@@ -84,7 +87,7 @@ def has_all(image):
 def fall_out(machine, seconds):
     """Cuts the second disk's power, once it has each block and was written on for so many seconds."""
     until = time.monotonic() + SECONDS
-    machine.awaits(BEGUN, SECONDS)
+    machine.awaits("FIO WRITES", SECONDS)
     while not has_all(f"{machine.work}/disk1") and time.monotonic() < until:
         time.sleep(0.1)
     time.sleep(seconds)
@@ -93,7 +96,7 @@ def fall_out(machine, seconds):
 
 def cut_alone(machine, seconds):
     """Cuts the disks' power while fio writes, and gives it back as that has ended."""
-    machine.awaits(BEGUN, SECONDS)
+    machine.awaits("FIO WRITES", SECONDS)
     time.sleep(seconds)
     machine.disk_off()
     machine.awaits("FIO ENDED", SECONDS)

@@ -158,12 +158,12 @@ def answers_of_fio_where_some_are_cut():
     stack.cut, stack.each = "member", True
     machine = FakeMachine("FIOSTATE:Zmlv:\n", "\nFIO SOUND\nFIO DONE\n")
     tell("a disk falls out, and has a fault", fio.answer(machine, stack, 0), {"fault": False, "sound": True, "told": 0, "members": [False, True]})
-    tell("it falls out while fio writes", machine.did, [fio.BEGUN, "no disk1", "FIOSTATE", "off", "FIO DONE", "off"])
+    tell("it falls out while fio writes", machine.did, ["FIO WRITES", "no disk1", "FIO KEPT", "off", "FIO DONE", "off"])
     tell("each disk is read by the state", read("asked"), "--filename=disk0 fio\n--filename=disk1 fio\n")
     stack.cut, stack.each = "disks", False
     machine = FakeMachine("\nFIO ENDED\nFIO FAULT\nverify: bad\nFIO DONE\n")
     tell("disks without power", fio.answer(machine, stack, 0), {"fault": True, "sound": False, "told": 1})
-    tell("they have it again once fio has ended", machine.did, [fio.BEGUN, "no disks", "FIO ENDED", "disks", "FIO DONE", "off"])
+    tell("they have it again once fio has ended", machine.did, ["FIO WRITES", "no disks", "FIO ENDED", "disks", "FIO DONE", "off"])
 
 
 def rows_of_stacks():
