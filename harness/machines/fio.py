@@ -16,6 +16,7 @@ TRIGGER = "--trigger-file=now --trigger='(echo; echo FIOSTATE:$(base64 -w 0 loca
 # A disk falls out once it has each block of a region of 1 MiB, and so long is written in all.
 SIZES = {"all": "--size=4m", "disks": "--size=4m", "member": "--size=1m --io_size=3g"}
 REGION, FALLEN_SECONDS = 1 << 20, 12
+RATES = {"all": 50, "disks": 50, "member": 200}  # (so that it isn't through before it is cut)
 SYNC = {"fua": "--sync=dsync", "flush": "--fdatasync=8", "through": ""}
 # A disk that lost its power alone fails a write: fio ends, and keeps its state then.
 ALONE = "echo FIO ENDED; until dd if=$target of=/dev/null bs=4096 count=1 iflag=direct 2>/dev/null; do usleep 50000; done; "
@@ -28,7 +29,7 @@ def job(stack, name, more):
 
 def write_of(stack, seconds):
     trigger = "" if stack.cut == "disks" else TRIGGER
-    return BEGUN.replace("{seconds}", str(seconds)) + job(stack, "$target", f"--direct=1 --rw=randwrite --do_verify=0 --verify_state_save=1 {SYNC[stack.promise.split()[0]]} --rate_iops=200 {trigger}")
+    return BEGUN.replace("{seconds}", str(seconds)) + job(stack, "$target", f"--direct=1 --rw=randwrite --do_verify=0 --verify_state_save=1 {SYNC[stack.promise.split()[0]]} --rate_iops={RATES[stack.cut]} {trigger}")
 
 
 def check_of(stack):
