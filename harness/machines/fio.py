@@ -15,7 +15,7 @@ BEGUN = "writes() { awk '{ n += $5 } END { print n }' /sys/block/*/stat; }; was=
 TRIGGER = "--trigger-file=now --trigger='(echo; echo FIOSTATE:$(base64 -w 0 local-a-0-verify.state):; echo FIO KEPT) >/dev/console; sleep 1000'"
 # A disk falls out once it has each block of a region of 1 MiB, and so long is written in all.
 SIZES = {"all": "--size=4m", "disks": "--size=4m", "member": "--size=1m --io_size=3g"}
-REGION, FALLEN_SECONDS = 1 << 20, 12
+REGION, FALLEN_SECONDS = 1 << 20, 30
 RATES = {"all": 50, "disks": 50, "member": 200}  # (so that it isn't through before it is cut)
 SYNC = {"fua": "--sync=dsync", "flush": "--fdatasync=8", "through": ""}
 # A disk that lost its power alone fails a write: fio ends, and keeps its state then.
@@ -56,9 +56,11 @@ def answer(machine, stack, seconds):
     if not found:
         return {"why": said[-500:]}
     state = base64.b64decode(found[1])
-    members = [is_fault_here(machine, stack, os.path.basename(it), state) for it in machine.images()] if stack.each else []
+    more = {"members": [is_fault_here(machine, stack, os.path.basename(it), state) for it in machine.images()]} if stack.each else {}
+    if is_member and not (more := {**more, "apart": apart(*machine.images())})["apart"]:
+        return {"why": "nothing was written behind the fall of a disk"}
     said = run(machine, stack, {"fio/run": script(check_of(stack)), "fio/state": state}, "FIO DONE")
-    return {**verdict(said), **({"members": members} if stack.each else {})}
+    return {**verdict(said), **more}
 
 
 def verdict(said):
@@ -83,6 +85,12 @@ def run(machine, stack, files, word, meanwhile=lambda: None):
 def has_all(image):
     with open(image, "rb") as it:
         return all(any(it.read(BLOCK)) for _ in range(REGION // BLOCK))
+
+
+def apart(image, other):
+    """How many blocks of the region two disks hold otherwise."""
+    with open(image, "rb") as one, open(other, "rb") as two:
+        return sum(one.read(BLOCK) != two.read(BLOCK) for _ in range(REGION // BLOCK))
 
 
 def fall_out(machine, seconds):

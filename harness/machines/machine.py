@@ -15,7 +15,7 @@ from stack import CACHES, DISKS
 
 HARNESS = os.path.dirname(os.path.dirname(os.path.realpath(__file__)))
 UP_SECONDS, STARTS, DISK_BYTES = 300, 5, 64 << 20
-FALLEN_SECONDS = 1, 3  # until the cut of all, once writes go on behind the fall of a disk
+FALLEN_SECONDS, FALLEN_WRITES = (0, 2), 20  # until the cut of all, once writes go on behind the fall of a disk
 # Linux names SCSI disks as they come, each start anew: /dev/disk0 is the first one of qemu.
 INIT = """#!/bin/busybox sh
 /bin/busybox --install -s /bin
@@ -186,9 +186,11 @@ class Machine:
         """Cuts the second disk's power, and while the others are written on that of all. For some seconds
         behind the fall nothing is: so long the system tries again."""
         self.kill("disk1")
-        fell = time.time()
-        while os.stat(f"{self.work}/disk0").st_mtime < fell + 1 and time.time() < fell + UP_SECONDS:
-            time.sleep(0.1)
+        fell, last, writes = time.time(), 0, 0
+        while writes < FALLEN_WRITES and time.time() < fell + UP_SECONDS:
+            written = os.stat(f"{self.work}/disk0").st_mtime
+            writes, last = writes + (written > max(last, fell + 1)), written
+            time.sleep(0.05)
         time.sleep(random.uniform(*FALLEN_SECONDS))
         self.off()
 

@@ -150,6 +150,7 @@ def answers_of_fio_where_some_are_cut():
     """fio is cut as the stack is: a disk falls out while it writes, and then it reads each one by itself,
     too; or all disks lose their power alone, and it reads as they have it again."""
     os.makedirs("bin", exist_ok=True)
+    write("disk0", b"y" * fio.REGION)
     write("disk1", b"x" * fio.REGION)
     write("bin/fio", '#!/bin/sh\necho "$2 $(cat local-a-0-verify.state)" >>asked\n[ $2 = --filename=disk0 ]\n')
     os.chmod("bin/fio", 0o755)
@@ -157,9 +158,11 @@ def answers_of_fio_where_some_are_cut():
     stack = plain("scsi")
     stack.cut, stack.each = "member", True
     machine = FakeMachine("FIOSTATE:Zmlv:\n", "\nFIO SOUND\nFIO DONE\n")
-    tell("a disk falls out, and has a fault", fio.answer(machine, stack, 0), {"fault": False, "sound": True, "told": 0, "members": [False, True]})
+    tell("a disk falls out, and has a fault", fio.answer(machine, stack, 0), {"fault": False, "sound": True, "told": 0, "members": [False, True], "apart": 256})
     tell("it falls out while fio writes", machine.did, ["FIO WRITES", "no disk1", "FIO KEPT", "off", "FIO DONE", "off"])
     tell("each disk is read by the state", read("asked"), "--filename=disk0 fio\n--filename=disk1 fio\n")
+    write("disk0", b"x" * fio.REGION)
+    tell("a disk that fell out, and lacks nothing", fio.answer(FakeMachine("FIOSTATE:Zmlv:\n"), stack, 0), {"why": "nothing was written behind the fall of a disk"})
     stack.cut, stack.each = "disks", False
     machine = FakeMachine("\nFIO ENDED\nFIO FAULT\nverify: bad\nFIO DONE\n")
     tell("disks without power", fio.answer(machine, stack, 0), {"fault": True, "sound": False, "told": 1})
