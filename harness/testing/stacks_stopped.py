@@ -1,8 +1,9 @@
 """Series of harness/matrix that are stopped in the middle and go on, without a virtual machine: programs
-stand for qemu, nbdkit and socat (false_machine.py)."""
+stand for qemu, nbdkit and socat (false_machine.py). And when all lose their power behind a disk that fell."""
 import os
 import signal
 import sys
+import threading
 import time
 
 import machine
@@ -71,3 +72,25 @@ def stopped_stacks():
             it = series.Series(stack, folder, CUTS)
             found = [it.check(0, at + 1) for at in range(CUTS)]
             tell(f"{cut}: what a disk held at each cut is by the state of that cut", [report and report[2] for report in found], ["0"] * CUTS)
+
+
+def fallen_disks():
+    """All lose their power once writes go on behind the fall of a disk, and not while the system tries
+    again."""
+    os.makedirs("fallen")
+    write("fallen/disk0", "")
+    machine.FALLEN_SECONDS = 0, 0
+    it, written, at_cut = machine.Machine("fallen", "kernel"), [], []
+    it.off = lambda: at_cut.append(len(written))
+
+    def go_on():
+        time.sleep(1.5)
+        while not at_cut:
+            written.append(os.utime("fallen/disk0"))
+            time.sleep(0.02)
+
+    writer = threading.Thread(target=go_on)
+    writer.start()
+    it.member_off()
+    writer.join()
+    tell("so many writes went on", at_cut[0] >= machine.FALLEN_WRITES, True)
