@@ -14,7 +14,7 @@ from modules import in_order
 from stack import CACHES, DISKS
 
 HARNESS = os.path.dirname(os.path.dirname(os.path.realpath(__file__)))
-UP_SECONDS, STARTS, DISK_BYTES = 300, 5, 64 << 20
+UP_SECONDS, STUCK_SECONDS, STARTS, DISK_BYTES = 300, 20, 5, 64 << 20
 FALLEN_SECONDS, FALLEN_WRITES = (0, 2), 20  # until the cut of all, once writes go on behind the fall of a disk
 # Linux names SCSI disks as they come, each start anew: /dev/disk0 is the first one of qemu.
 INIT = """#!/bin/busybox sh
@@ -114,6 +114,12 @@ def free_port():
         return it.getsockname()[1]
 
 
+def ticks_of(process):
+    """The processors' time that a process has taken, in hundredths of a second."""
+    with open(f"/proc/{process}/stat", encoding="ascii") as it:
+        return sum(map(int, it.read().rpartition(")")[2].split()[11:13]))
+
+
 class Machine:
     """A virtual machine and its disks, each a process. Its agent answers at a port of this machine."""
 
@@ -208,18 +214,27 @@ class Machine:
             self.start("machine", words, said)
 
     def on(self):
-        """Gives all their power. A machine that isn't up by then never will be: qemu without
-        -enable-kvm sometimes stops before its kernel begins, and nothing is written then."""
+        """Gives all their power."""
         for _ in range(STARTS):
             self.stop()
             self.begin()
-            if self.awaits("UP", UP_SECONDS):
+            if self.comes_up():
                 self.disks_said.update(re.findall(r"^DISK (.*)", self.said(), re.M))
                 if "NO STACK" in self.said():
                     sys.exit(f"the stack isn't there: {self.said()[-1000:]}")
                 open(f"{self.work}/made", "wb").close()
                 return
         sys.exit(f"the machine doesn't come up: {self.said()[-300:]}")
+
+    def comes_up(self):
+        """Whether it is up in time. One that takes no processor's time never will be: qemu without
+        -enable-kvm sometimes stops before its kernel begins, and nothing is written then."""
+        until, used = time.monotonic() + UP_SECONDS, -2
+        while time.monotonic() < until and (now := ticks_of(self.running["machine"].pid)) > used + 1:
+            if self.awaits("UP", STUCK_SECONDS):
+                return True
+            used = now
+        return False
 
     def stop(self):
         """Cuts the power of all."""
