@@ -3,7 +3,8 @@ import json
 import os
 import re
 
-HEAD = "| Stack | Asked | Cuts | Told as done | Checked | Faults | fio, of so many cuts | With, on |\n|---|---|---|---|---|---|---|---|"
+HEAD = "| Stack | What it is | Asked | Cuts | Told as done | Checked | Faults | fio, of so many cuts | With, on |\n|---|---|---|---|---|---|---|---|---|"
+WHO = {"all": "", "disks": " of the disks alone", "member": " behind the fall of a disk"}
 ROW = re.compile(r"\| `([a-z0-9-]+)` \|.*\| ([0-9,]+) of [0-9,]+(?:: [^|]*)? in [0-9]+ cuts[^|]*\|[^|]*\|[^|]*\|$")
 
 
@@ -12,10 +13,12 @@ def count(number):
 
 
 def fio_of(row):
-    """In how many of its cuts fio told of faults."""
+    """In how many of its cuts fio told of faults, and in how many on each disk by itself."""
     ran = [it for it in row["fio"] if "why" not in it]
-    found = sum(it["fault"] for it in ran)
-    return f"faults in {found} of {len(ran)}" if ran else "not asked"
+    if not ran:
+        return "no answer" if row["fio"] else "not asked"
+    members = ", ".join(f"{sum(it)} of {len(it)}" for it in zip(*(it.get("members", []) for it in ran)))
+    return f"faults in {sum(it['fault'] for it in ran)} of {len(ran)}" + (f"; each disk by itself: in {members}" if members else "")
 
 
 def line_of(stack, row):
@@ -24,7 +27,7 @@ def line_of(stack, row):
     faults = f"{count(row['faults'])} of {count(row['checked'])}{': ' + kinds if kinds else ''} in {row['faulty']} cuts"
     members = "; each disk by itself: " + ", ".join(f"{count(it['faults'])} of {count(it['checked'])}" for it in row["members"]) if row["members"] else ""
     asked = f"`{stack.promise.partition(' ')[0]}`" + (f", {row['ways'][0].partition(' by ')[2]}" if len(row["ways"]) == 1 else "")
-    return f"| `{stack.name}` | {asked} | {row['cuts']}, {row['flying']} with writes in flight ({count(row['in_flight'])}) | {count(row['told'])} | {count(row['checked'])} | {faults}{members} | {fio_of(row)} | {row['kernel']}, {row['qemu']}, {row['date']} |"
+    return f"| `{stack.name}` | {stack.what} | {asked} | {row['cuts']}{WHO[stack.cut]}, {row['flying']} with writes in flight ({count(row['in_flight'])}) | {count(row['told'])} | {count(row['checked'])} | {faults}{members} | {fio_of(row)} | {row['kernel']}, {row['qemu']}, {row['date']} |"
 
 
 def print_rows(folder, stacks):

@@ -14,14 +14,17 @@ from modules import in_order
 from stack import CACHES, DISKS
 
 HARNESS = os.path.dirname(os.path.dirname(os.path.realpath(__file__)))
-UP_SECONDS, STARTS, DISK_BYTES = 90, 5, 64 << 20
+UP_SECONDS, STUCK_SECONDS, STARTS, DISK_BYTES = 300, 20, 5, 64 << 20
+FALLEN_SECONDS, FALLEN_WRITES = (0, 2), 20  # until the cut of all, once writes go on behind the fall of a disk
+# Linux names SCSI disks as they come, each start anew: /dev/disk0 is the first one of qemu.
 INIT = """#!/bin/busybox sh
 /bin/busybox --install -s /bin
 mount -t proc none /proc && mount -t sysfs none /sys && mount -t devtmpfs none /dev
 for word in $(cat /proc/cmdline); do case $word in do=* | disk=* | after=* | options=* | script=*) export "$word" ;; esac done
 export options="$(echo "$options" | tr , ' ')" target="$(cat /stack/target)"
 for module in $(cat /stack/order); do insmod /modules/$module; done
-until [ -b /dev/$disk ]; do usleep 10000; done
+for device in $(cat /stack/devices); do until [ -b $device ]; do usleep 10000; done; done
+for it in /sys/block/sd*; do at=$(readlink $it/device) && at=${at%:*} && ln -s ${it##*/} /dev/disk${at##*:}; done
 echo && echo "DISK $(cat /sys/block/$disk/queue/write_cache), FUA $(cat /sys/block/$disk/queue/fua)"
 sh -e /stack/$script >/dev/console 2>&1 || echo "NO STACK: $script has failed"
 sync
@@ -58,6 +61,12 @@ def pack(folder, archive):
         subprocess.run("find . | cpio -o -H newc --quiet", shell=True, cwd=folder, stdout=to, check=True)
 
 
+def append(archive, path):
+    """Appends an archive to one: Linux unpacks both."""
+    with open(archive, "rb") as more, open(path, "ab") as to:
+        shutil.copyfileobj(more, to)
+
+
 def write_all(root, texts):
     for name, text in texts.items():
         with open(f"{root}/{name}", "wb") as it:
@@ -65,15 +74,19 @@ def write_all(root, texts):
         os.chmod(f"{root}/{name}", 0o755)
 
 
-def make_root(work, kernel, job, stacks=()):
+def make_root(work, kernel, job, stacks=(), agents=""):
     """Makes the file system that a machine has in memory, with a job for what runs there alone, and what
-    these stacks take along."""
+    these stacks take along. Where an agent that needs no library is in a folder already, it has that alone."""
     root = f"{work}/root"
     for folder in "bin proc sys dev tmp mnt modules stack".split():
         os.makedirs(f"{root}/{folder}")
-    subprocess.run([f"{HARNESS}/build", "-static"], env={**os.environ, "OUT": f"{root}/bin"}, check=True)
+    if agents:
+        shutil.copy(f"{agents}/drive-agent", f"{root}/bin")
+    else:
+        subprocess.run([f"{HARNESS}/build", "-static"], env={**os.environ, "OUT": f"{root}/bin"}, check=True)
     shutil.copy("/bin/busybox", f"{root}/bin")
-    programs = {"fiocut": os.environ["FIOCUT"], "drive": os.environ["DRIVE"], **{it: shutil.which(it) for stack in stacks for it in ("fio", *stack.tools)}}
+    own = {} if agents else {"fiocut": os.environ["FIOCUT"], "drive": os.environ["DRIVE"]}
+    programs = {**own, **{it: shutil.which(it) for stack in stacks for it in stack.tools}}
     for name, program in programs.items():
         copy_program(program, root, name)
     wanted = sorted({it for stack in stacks for it in stack.all_modules()}) or sorted({it for disk in DISKS.values() for it in disk.modules.split()} | {"virtio_net"})
@@ -83,10 +96,28 @@ def make_root(work, kernel, job, stacks=()):
     pack(root, f"{work}/base.cpio")
 
 
+def add_program(work, base, name):
+    """Makes the base of a machine of that of another one, with a program of this machine besides: fio has
+    so many libraries that a machine without them is up in three quarters of the time."""
+    root = f"{work}/program"
+    shutil.rmtree(root, ignore_errors=True)
+    os.makedirs(f"{root}/bin")
+    copy_program(shutil.which(name), root, name)
+    pack(root, f"{root}.cpio")
+    shutil.copy(base, f"{work}/base.cpio")
+    append(f"{root}.cpio", f"{work}/base.cpio")
+
+
 def free_port():
     with socket.socket() as it:
         it.bind(("127.0.0.1", 0))
         return it.getsockname()[1]
+
+
+def ticks_of(process):
+    """The processors' time that a process has taken, in hundredths of a second."""
+    with open(f"/proc/{process}/stat", encoding="ascii") as it:
+        return sum(map(int, it.read().rpartition(")")[2].split()[11:13]))
 
 
 class Machine:
@@ -95,7 +126,7 @@ class Machine:
     def __init__(self, work, kernel):
         self.work, self.kernel, self.port, self.running = work, kernel, free_port(), {}
         self.disks_said = set()  # by its kernel at each start
-        self.keep, self.kept = False, 0  # whether a copy of the disks is kept at each cut, and how many are
+        self.number = None  # where a copy of the disks is kept at each cut: tells which cut it is
 
     def make_ready(self, stack, does):
         """Sets which stack it has, and what it does once it is up."""
@@ -112,8 +143,7 @@ class Machine:
             os.makedirs(os.path.dirname(f"{self.work}/add/{name}"), exist_ok=True)
         write_all(f"{self.work}/add", texts)
         pack(f"{self.work}/add", f"{self.work}/add.cpio")
-        with open(f"{self.work}/add.cpio", "rb") as more, open(f"{self.work}/initrd", "ab") as to:
-            to.write(more.read())
+        append(f"{self.work}/add.cpio", f"{self.work}/initrd")
 
     def images(self):
         return [f"{self.work}/disk{at}" for at in range(len(self.stack.disks))]
@@ -159,9 +189,15 @@ class Machine:
         self.kill(*self.all_disks())
 
     def member_off(self):
-        """Cuts the second disk's power, and while the others are written on that of all."""
+        """Cuts the second disk's power, and while the others are written on that of all. For some seconds
+        behind the fall nothing is: so long the system tries again."""
         self.kill("disk1")
-        time.sleep(random.uniform(1, 3))
+        fell, last, writes = time.time(), 0, 0
+        while writes < FALLEN_WRITES and time.time() < fell + UP_SECONDS:
+            written = os.stat(f"{self.work}/disk0").st_mtime
+            writes, last = writes + (written > max(last, fell + 1)), written
+            time.sleep(0.05)
+        time.sleep(random.uniform(*FALLEN_SECONDS))
         self.off()
 
     def begin(self):
@@ -178,12 +214,11 @@ class Machine:
             self.start("machine", words, said)
 
     def on(self):
-        """Gives all their power. A machine that isn't up by then never will be: qemu without
-        -enable-kvm sometimes stops before its kernel begins, and nothing is written then."""
+        """Gives all their power."""
         for _ in range(STARTS):
-            self.off()
+            self.stop()
             self.begin()
-            if self.awaits("UP", UP_SECONDS):
+            if self.comes_up():
                 self.disks_said.update(re.findall(r"^DISK (.*)", self.said(), re.M))
                 if "NO STACK" in self.said():
                     sys.exit(f"the stack isn't there: {self.said()[-1000:]}")
@@ -191,14 +226,27 @@ class Machine:
                 return
         sys.exit(f"the machine doesn't come up: {self.said()[-300:]}")
 
-    def off(self):
-        """Cuts the power of all, and may keep what the disks hold then."""
-        was_on = bool(self.running)
+    def comes_up(self):
+        """Whether it is up in time. One that takes no processor's time never will be: qemu without
+        -enable-kvm sometimes stops before its kernel begins, and nothing is written then."""
+        until, used = time.monotonic() + UP_SECONDS, -2
+        while time.monotonic() < until and (now := ticks_of(self.running["machine"].pid)) > used + 1:
+            if self.awaits("UP", STUCK_SECONDS):
+                return True
+            used = now
+        return False
+
+    def stop(self):
+        """Cuts the power of all."""
         self.kill("machine", *self.all_disks())
-        if self.keep and was_on:
-            self.kept += 1
-            for at, image in enumerate(self.images()):
-                subprocess.run(["cp", "--sparse=always", image, f"{self.work}/cut-{self.kept}-disk{at}"], check=True)
+
+    def off(self):
+        """Cuts the power of all, and may keep what the disks hold then: under its name once it is whole."""
+        self.stop()
+        for at, image in enumerate(self.images() if self.number else []):
+            copy = f"{self.work}/cut-{self.number()}-disk{at}"
+            subprocess.run(["cp", "--sparse=always", image, f"{copy}.new"], check=True)
+            os.replace(f"{copy}.new", copy)
 
     def said(self):
         """What its console said since it was started."""

@@ -9,7 +9,7 @@ import time
 
 import fio
 from board import Board
-from machine import HARNESS, Machine, make_root
+from machine import HARNESS, Machine, add_program, make_root
 from modules import version_of
 from sittings import lines_of, read, sit
 
@@ -37,8 +37,8 @@ class Series:
     """The cuts of a stack, in a folder: its disks, and the series of the witness. Where it was stopped it
     goes on."""
 
-    def __init__(self, stack, folder, cuts):
-        self.stack, self.folder, self.cuts = stack, os.path.abspath(folder), cuts
+    def __init__(self, stack, folder, cuts, agents=""):
+        self.stack, self.folder, self.cuts, self.agents = stack, os.path.abspath(folder), cuts, agents
         self.work, self.series = f"{self.folder}/machine", f"{self.folder}/series"
         for name, file in (("FIOCUT", "crates/fiocut/out/fiocut"), ("DRIVE", "crates/drive/out/drive")):
             os.environ[name] = os.path.abspath(os.environ.get(name, f"{os.path.dirname(HARNESS)}/{file}"))
@@ -51,7 +51,7 @@ class Series:
             with Board(machine) as board:
                 status = self.cut(machine, board)
         finally:
-            machine.off()
+            machine.stop()
         row = self.row(status)
         row["members"] = self.members() if self.stack.each else []
         row["fio"] = self.fio()
@@ -66,7 +66,7 @@ class Series:
         machine = Machine(self.work, os.path.abspath(os.environ["KERNEL"]))
         shutil.rmtree(f"{self.work}/root", ignore_errors=True)
         os.makedirs(self.work, exist_ok=True)
-        make_root(self.work, machine.kernel, JOB, [self.stack])
+        make_root(self.work, machine.kernel, JOB, [self.stack], self.agents)
         with open(f"{self.folder}/job.fio", "w", encoding="ascii") as it:
             it.write(JOB)
         machine.make_ready(self.stack, "do=agent options=" + f"--promise {self.stack.promise}".replace(" ", ","))
@@ -81,9 +81,11 @@ class Series:
         off, on, more = CUTS[self.stack.cut]
         words = [f"{HARNESS}/out/drive-witness", "cycle", f"{self.folder}/job.fio", self.series, "--link", f"exec socat - TCP:127.0.0.1:{machine.port}"]
         words += ["--off", board.command(off), "--on", board.command(on), "--keep-going", "--every", EVERY, "--cycles", str(self.cuts), *more]
-        machine.on()
-        machine.keep, machine.kept = self.stack.each, len(lines_of(self.series))
-        return sit(self.work, board, words + ["--resume"] * os.path.exists(f"{self.series}/settings"))
+        goes_on = os.path.exists(f"{self.series}/settings")
+        if not goes_on or self.stack.cut == "disks":
+            machine.on()  # (else the witness has it give the power first)
+        machine.number = (lambda: len(lines_of(self.series)) + 1) if self.stack.each else None
+        return sit(self.work, board, words + ["--resume"] * goes_on)
 
     def row(self, status):
         """What the series came to, by the lines of its cycles."""
@@ -99,17 +101,23 @@ class Series:
         }
 
     def fio(self):
-        """What fio tells of so many cuts of the same stack, over disks of its own. It isn't asked where less
-        than all lose their power at once."""
-        if self.stack.cut != "all":
-            return []
+        """What fio tells of so many cuts of the same stack, over disks of its own. It is asked once."""
+        path = f"{self.folder}/fio.json"
+        if os.path.exists(path):
+            return json.loads(read(path))
+        told = self.ask_fio()
+        with open(path, "w", encoding="utf-8") as it:
+            json.dump(told, it)
+        return told
+
+    def ask_fio(self):
         machine = Machine(f"{self.folder}/fio", os.path.abspath(os.environ["KERNEL"]))
         os.makedirs(machine.work, exist_ok=True)
-        shutil.copy(f"{self.work}/base.cpio", machine.work)
+        add_program(machine.work, f"{self.work}/base.cpio", "fio")
         try:
             return [fio.answer(machine, self.stack, random.randint(1, 3)) for _ in range(FIO_CUTS)]
         finally:
-            machine.off()
+            machine.stop()
 
     def members(self):
         """What each disk holds by itself, by the states of the cycles: for each how many blocks were checked,

@@ -18,7 +18,8 @@ them, and what that promises. A stack is a file of harness/stacks, of some ten l
     each     yes            each of its disks is checked by itself, too
     size     64m            the bytes of each disk
 
-make, again and why may come several times. A line that is left out is that of BLANK."""
+make, again and why may come several times. A line that is left out is that of BLANK. Of several SCSI disks
+/dev/disk0 is the first one, /dev/disk1 the second."""
 import os
 import re
 from dataclasses import dataclass
@@ -47,7 +48,7 @@ DISKS = {
     "virtio": Disk("", "-device virtio-blk-pci,drive=disk{at},serial=vm{at},physical_block_size=4096", "vd{letter}", "write back, FUA 0", "virtio_pci virtio_blk"),
     "through": Disk("", "-device virtio-blk-pci,drive=disk{at},serial=vm{at},physical_block_size=4096,write-cache=off", "vd{letter}", "write through, FUA 0", "virtio_pci virtio_blk"),
     "nvme": Disk("", "-device nvme,drive=disk{at},serial=vm{at},logical_block_size=4096,physical_block_size=4096", "nvme{at}n1", "write back, FUA 1", "virtio_pci"),
-    "ide": Disk("", "-device ide-hd,drive=disk{at},serial=vm{at}", "sd{letter}", "write back, FUA 0", "virtio_pci ata_piix sd_mod"),
+    "ide": Disk("", "-device ide-hd,drive=disk{at},serial=vm{at},physical_block_size=4096", "sd{letter}", "write back, FUA 0", "virtio_pci ata_piix sd_mod"),
 }
 
 

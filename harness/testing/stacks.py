@@ -8,6 +8,7 @@ import fio
 import series
 from modules import in_order
 from stack import BLANK, NoStack, plain, read_stack, stacks_in
+from sittings import read
 from trying import HERE, tell, write
 
 GOOD = "# A disk.\ndisks    scsi scsi\npromise  flush --flush 8\nmake     one\nmake     two\ntarget   /dev/md0\n"
@@ -98,7 +99,7 @@ class FakeMachine:
     """A machine that says these words, one at each start."""
 
     def __init__(self, *says):
-        self.says, self.files = [*says], []
+        self.says, self.files, self.did, self.work = [*says], [], [], "."
 
     def give_new_disks(self, size):
         self.files.append("new disks")
@@ -113,10 +114,23 @@ class FakeMachine:
         self.now = self.says.pop(0)
 
     def awaits(self, word, seconds):
+        self.did.append(word)
         return word in self.now
 
     def off(self):
-        pass
+        self.did.append("off")
+
+    def kill(self, name):
+        self.did.append(f"no {name}")
+
+    def disk_off(self):
+        self.did.append("no disks")
+
+    def disk_on(self):
+        self.did.append("disks")
+
+    def images(self):
+        return ["disk0", "disk1"]
 
     def said(self):
         return self.now
@@ -129,6 +143,30 @@ def answers_of_fio():
     tell("over the same disks, by its state", machine.files, ["new disks", None, b"fio"])
     tell("none", fio.answer(FakeMachine("FIOSTATE:Zmlv:\n", "\nFIO SOUND\nFIO DONE\n"), plain("scsi"), 1), {"fault": False, "sound": True, "told": 0})
     tell("no state, and so no cut", fio.answer(FakeMachine("nothing"), plain("scsi"), 1), {"why": "nothing"})
+    tell("a check that didn't end", fio.answer(FakeMachine("FIOSTATE:Zmlv:\n", "nothing"), plain("scsi"), 1), {"why": "nothing"})
+
+
+def answers_of_fio_where_some_are_cut():
+    """fio is cut as the stack is: a disk falls out while it writes, and then it reads each one by itself,
+    too; or all disks lose their power alone, and it reads as they have it again."""
+    os.makedirs("bin", exist_ok=True)
+    write("disk0", b"y" * fio.REGION)
+    write("disk1", b"x" * fio.REGION)
+    write("bin/fio", '#!/bin/sh\necho "$2 $(cat local-a-0-verify.state)" >>asked\n[ $2 = --filename=disk0 ]\n')
+    os.chmod("bin/fio", 0o755)
+    os.environ["PATH"] = f"{os.path.abspath('bin')}:{os.environ['PATH']}"
+    stack = plain("scsi")
+    stack.cut, stack.each = "member", True
+    machine = FakeMachine("FIOSTATE:Zmlv:\n", "\nFIO SOUND\nFIO DONE\n")
+    tell("a disk falls out, and has a fault", fio.answer(machine, stack, 0), {"fault": False, "sound": True, "told": 0, "members": [False, True], "apart": 256})
+    tell("it falls out while fio writes", machine.did, ["FIO WRITES", "no disk1", "FIO KEPT", "off", "FIO DONE", "off"])
+    tell("each disk is read by the state", read("asked"), "--filename=disk0 fio\n--filename=disk1 fio\n")
+    write("disk0", b"x" * fio.REGION)
+    tell("a disk that fell out, and lacks nothing", fio.answer(FakeMachine("FIOSTATE:Zmlv:\n"), stack, 0), {"why": "nothing was written behind the fall of a disk"})
+    stack.cut, stack.each = "disks", False
+    machine = FakeMachine("\nFIO ENDED\nFIO FAULT\nverify: bad\nFIO DONE\n")
+    tell("disks without power", fio.answer(machine, stack, 0), {"fault": True, "sound": False, "told": 1})
+    tell("they have it again once fio has ended", machine.did, ["FIO WRITES", "no disks", "FIO ENDED", "disks", "FIO DONE", "off"])
 
 
 def rows_of_stacks():
@@ -137,13 +175,18 @@ def rows_of_stacks():
     row |= {"members": [{"checked": 9, "faults": 0, "faulty": 0}, {"checked": 9, "faults": 8, "faulty": 3}], "fio": [{"fault": True}, {"fault": False}, {"why": "?"}]}
     stack = plain("scsi")
     line = catalogue.line_of(stack, row)
-    tell("a row", line, f"| `scsi` | `fua`, io_uring | 3, 3 with writes in flight (24) | 300 | 270 | 0 of 270 in 0 cuts; each disk by itself: 0 of 9, 8 of 9 | faults in 1 of 2 | 6.1, {row['qemu']}, {row['date']} |")
+    tell("a row", line, f"| `scsi` | A disk. | `fua`, io_uring | 3, 3 with writes in flight (24) | 300 | 270 | 0 of 270 in 0 cuts; each disk by itself: 0 of 9, 8 of 9 | faults in 1 of 2 | 6.1, {row['qemu']}, {row['date']} |")
     wrong = lambda text, **stacks: [*catalogue.wrong_in(stacks, text)]
     other = plain("virtio")
+    stack.cut = "disks"
+    tell("a row of disks alone", "| 3 of the disks alone, 3 with" in catalogue.line_of(stack, row), True)
     tell("it is there", wrong(line, scsi=stack), [])
     many = catalogue.line_of(stack, {**row, "faults": 1234, "checked": 5678, "kinds": {"torn": 1234}})
     tell("one of thousands isn't sound", wrong(many, scsi=stack), ["scsi: its row isn't sound"])
     tell("fio that wasn't asked", "| not asked |" in catalogue.line_of(stack, {**row, "fio": []}), True)
+    tell("fio without an answer", "| no answer |" in catalogue.line_of(stack, {**row, "fio": [{"why": "?"}]}), True)
+    members = [{"fault": False, "members": [False, True]}, {"fault": False, "members": [False, True]}]
+    tell("fio of each disk", "| faults in 0 of 2; each disk by itself: in 0 of 2, 2 of 2 |" in catalogue.line_of(stack, {**row, "fio": members}), True)
     tell("one lacks", wrong(line, scsi=stack, virtio=other), ["virtio has no row"])
     tell("one is of no stack", wrong(line), ["scsi has a row, and is no stack"])
     stack.due = "faulty"
