@@ -32,6 +32,12 @@ def has_no_hosts():
     return os.geteuid() != 0 or lacks("ip", "socat")() or not os.path.exists("/dev/net/tun") or fails("unshare", "-n", "true")()
 
 
+def mounts_no_fuse():
+    """Returns whether no file system can be mounted that a process serves."""
+    mounts = "exec 3<>/dev/fuse && mount -i -t fuse -o fd=3,rootmode=40000,user_id=0,group_id=0 none /mnt"
+    return os.geteuid() != 0 or fails("unshare", "-m", "sh", "-c", mounts)()
+
+
 # By its word, where something may be skipped, in words and as a test.
 MAY_BE = {
     "fio": ("where fio isn't installed", lacks("fio")),
@@ -41,6 +47,7 @@ MAY_BE = {
     "hosts": ("where no network namespaces can be made, or ip, socat or /dev/net/tun lack", has_no_hosts),
     "namespace": ("where no namespace of a user can be made", fails("unshare", "-m", "-r", "true")),
     "mounts": ("where nothing can be mounted", mounts_nothing),
+    "FUSE": ("where no file system of a process can be mounted", mounts_no_fuse),
     "boot id": ("where the number of a machine's start can't be replaced", fails("unshare", "-m", "mount", "--bind", "/dev/null", "/proc/sys/kernel/random/boot_id")),
     "loop device": ("where there is no loop device", has_no_loop_device),
     "systemd-analyze": ("where systemd isn't installed", lacks("systemd-analyze")),

@@ -28,7 +28,8 @@ static const char USAGE[] =
     "  --yes        writes over what the target holds; what is mounted or in use it never writes\n"
     "  --torn       takes blocks that are larger than what the device writes whole\n"
     "  --atomic     each block by an atomic write, RWF_ATOMIC, where the system tells of such writes of its size\n"
-    "  --cached     without O_DIRECT and O_DSYNC\n"
+    "  --cached     without O_DIRECT and O_DSYNC; of --files without fsync\n"
+    "  --files      TARGET is a folder, and each block a file of its own in it: a new file, fsync, rename, and fsync of the folder\n"
     "It is spoken to on standard input and answers on standard output. Status: 0; 2 something failed or was refused\n";
 
 struct settings {
@@ -43,7 +44,7 @@ struct settings {
 static struct settings read_settings(int count, char **words) {
     struct settings read = {0};
     const struct option all[] = {
-        {"--flush", 0, &read.way.flush, 0, 1 | FROM_1}, {"--promise", &read.way.promise, 0, 0, 1}, {"--by", &read.way.by, 0, 0, 1}, {"--queue", 0, &read.queue, 0, 1 | FROM_1}, {"--cpu", &read.cpu, 0, 0, 1}, {"--yes", 0, 0, &read.opening.yes, 1}, {"--torn", 0, 0, &read.opening.torn, 1}, {"--atomic", 0, 0, &read.opening.atomic, 1}, {"--cached", 0, 0, &read.opening.cached, 1}, {0, 0, 0, 0, 0},
+        {"--flush", 0, &read.way.flush, 0, 1 | FROM_1}, {"--promise", &read.way.promise, 0, 0, 1}, {"--by", &read.way.by, 0, 0, 1}, {"--queue", 0, &read.queue, 0, 1 | FROM_1}, {"--cpu", &read.cpu, 0, 0, 1}, {"--yes", 0, 0, &read.opening.yes, 1}, {"--torn", 0, 0, &read.opening.torn, 1}, {"--atomic", 0, 0, &read.opening.atomic, 1}, {"--cached", 0, 0, &read.opening.cached, 1}, {"--files", 0, 0, &read.opening.files, 1}, {0, 0, 0, 0, 0},
     };
     answer_first_word(USAGE, count, words);
     if (!strncmp(words[1], "--", 2)) refuse_word(USAGE, words[1], "TARGET stands first");
@@ -112,7 +113,7 @@ static void write_for(const struct settings *settings, struct hello *hello) {
 }
 
 static void read_for(const struct settings *settings, const struct hello *hello) {
-    struct target target = open_to_read(&settings->opening);
+    struct target target = open_to_read(&settings->opening, &hello->region);
     if (hello->flushes) flush_target(&target);
     welcome_witness(settings, &target, hello);
     answer_requests(&target, &hello->region);

@@ -1,6 +1,7 @@
 #include "busy.h"
 
 #include "clock.h"
+#include "files.h"
 
 #include <inttypes.h>
 #include <stdio.h>
@@ -37,6 +38,10 @@ void copy_in_flight(struct busy *busy, const struct executor *executor, const ui
     }
 }
 
+static bool write_file(const struct busy *busy, size_t at) {
+    return write_block_file(busy->target, busy->blocks + at * busy->block_size, busy->block_size, busy->places[at]) == (ssize_t)busy->block_size;
+}
+
 static bool write_one(const struct busy *busy, size_t at) {
     const struct iovec piece = {busy->blocks + at * busy->block_size, busy->block_size};
     off_t place = (off_t)busy->places[at];
@@ -52,7 +57,7 @@ static void *write_again(void *given) {
     bool goes_on = true;
     size_t at = worker->first;
     for (uint64_t count = 1; goes_on && !busy->is_over && (!busy->until || milliseconds() < busy->until); count++) {
-        goes_on = write_one(busy, at);
+        goes_on = busy->target->is_folder ? write_file(busy, at) : write_one(busy, at);
         if (goes_on && busy->flush && count % busy->flush == 0) goes_on = fdatasync(busy->target->fd) == 0;
         at += busy->threads;
         if (at >= busy->count) at = worker->first;

@@ -1,5 +1,6 @@
 #include "executor.h"
 
+#include "files.h"
 #include "say.h"
 
 #include <errno.h>
@@ -43,10 +44,11 @@ static void flush_while_due(struct pool *pool) {
     }
 }
 
-/* Writes the block of a slot, in one piece. */
+/* Writes the block of a slot, in one piece, or as a file. */
 static ssize_t write_slot(const struct executor *executor, size_t slot) {
     const struct iovec piece = {block_of(&executor->slots, slot), executor->region.block_size};
     off_t place = (off_t)place_of_slot(executor, slot);
+    if (executor->target->is_folder) return write_block_file(executor->target, piece.iov_base, piece.iov_len, (uint64_t)place);
     if (executor->target->is_atomic) return pwritev2(executor->target->fd, &piece, 1, place, ATOMIC_FLAG);
     return pwrite(executor->target->fd, piece.iov_base, piece.iov_len, place);
 }

@@ -25,6 +25,10 @@ static bool is_stamp(const uint8_t *sector) {
     return true;
 }
 
+bool is_of_a_run(const uint8_t *sector) {
+    return is_zeros(sector) || is_stamp(sector);
+}
+
 /* Looks at the sectors of so many bytes from here on; a part of a sector at a file's end counts as
  * other bytes, unless it is zeros. */
 static void look_at(const struct target *target, uint8_t *bytes, uint64_t from, size_t length) {
@@ -32,7 +36,7 @@ static void look_at(const struct target *target, uint8_t *bytes, uint64_t from, 
     if (count < 0) give_up_by_errno(target->name);
     memset(bytes + count, 0, SECTOR);
     for (ssize_t at = 0; at < count; at += SECTOR) {
-        if (is_zeros(bytes + at) || is_stamp(bytes + at)) continue;
+        if (is_of_a_run(bytes + at)) continue;
         char why[160];
         snprintf(why, sizeof why, "it holds other bytes, at %" PRIu64 ": --yes writes over them", from + (uint64_t)at);
         give_up(target->name, why);

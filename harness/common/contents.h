@@ -9,4 +9,7 @@
  * mebibyte of the region, or one of some 256 blocks between them, where a region is given. */
 void refuse_other_bytes(const struct target *target, const struct region *region);
 
+/* Whether the 512 bytes of a sector are zeros, or a stamp of a run. */
+bool is_of_a_run(const uint8_t *sector);
+
 #endif

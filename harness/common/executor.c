@@ -42,7 +42,9 @@ void carry_out(struct executor *executor) {
     make_slots(&executor->slots, executor->region.block_size, executor->depth + 1, executor->summed ? SUMMED_HEAD : PLAIN_HEAD);
     unsigned calls = (unsigned)executor->depth + 2; /* a read and a flush */
     if (executor->queue == 0 || executor->queue > executor->depth) executor->queue = executor->depth;
-    if (!executor->target->is_direct)
+    if (executor->target->is_folder)
+        carry_out_by_threads(executor);
+    else if (!executor->target->is_direct)
         carry_out_by_turns(executor);
     else if (executor->by != BY_THREADS && open_ring(&ring, calls, executor->slots.blocks, executor->slots.count * executor->region.block_size)) {
         carry_out_by_ring(executor, &ring);

@@ -1,7 +1,8 @@
 /* Carries out the orders that come on a stream, and tells what became of each: as many at once as
  * the job's depth, with one thread and the kernel's io_uring where it has that, and else with
- * threads. What only goes to memory (without O_DIRECT) is written by one thread, or by two in turns:
- * no write waits for a device there, and a pool, the kernel's too, is slower by far. */
+ * threads, as a folder's files always are. What only goes to memory (without O_DIRECT) is written by
+ * one thread, or by two in turns: no write waits for a device there, and a pool, the kernel's too, is
+ * slower by far. */
 #ifndef EXECUTOR_H
 #define EXECUTOR_H
 

@@ -51,7 +51,7 @@ void tell_drive(const struct target *target, char drive[MAX_DRIVE]) {
     if (fstat(target->fd, &is)) return;
     if (!S_ISBLK(is.st_mode)) {
         snprintf(text, sizeof text, "%" PRIu64, (uint64_t)is.st_ino);
-        add(drive, "file", text);
+        add(drive, target->is_folder ? "folder" : "file", text);
     }
     add_device(target->device, drive);
 }

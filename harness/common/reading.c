@@ -1,5 +1,7 @@
 #include "reading.h"
 
+#include "files.h"
+
 #include <errno.h>
 #include <string.h>
 #include <unistd.h>
@@ -7,7 +9,7 @@
 /* So many bytes are read in one go where blocks lie one behind the other, and so many are handed on at once, but for
  * one larger block each time. As many are in memory as MOST_READS blocks have, but from LEAST on to MOST: more of
  * neighbouring blocks would make what is read from memory slower, and a drive no faster. */
-enum { IN_ONE_GO = 1 << 18, AT_ONCE = 1 << 20, LEAST = 2 << 20, MOST = 8 << 20 };
+enum { IN_ONE_GO = 1 << 18, AT_ONCE = 1 << 20, LEAST = 2 << 20, MOST = 8 << 20, PAGE = 4096 };
 
 static uint64_t between(uint64_t least, uint64_t number, uint64_t most) {
     return number < least ? least : number < most ? number : most;
@@ -17,7 +19,8 @@ void open_reader(struct reader *reader, const struct target *target, const struc
     const uint64_t size = region->block_size, memory = between(LEAST, MOST_READS * size, MOST);
     reader->target = target, reader->region = *region;
     reader->most = region->stride == size && size < IN_ONE_GO ? IN_ONE_GO / size : 1;
-    open_reads(&reader->reads, target->fd, (size_t)(memory < size ? size : memory));
+    const uint64_t pages = (size + PAGE - 1) / PAGE * PAGE; /* (as a file is read) */
+    open_reads(&reader->reads, target->fd, (size_t)(memory < pages ? pages : memory));
 }
 
 /* How many blocks from this one on, which is asked for, are read in one go. */
@@ -70,7 +73,23 @@ static bool hand_on(struct reader *reader, const struct sink *sink) {
     return goes_on;
 }
 
+/* Reads blocks that are files, one by one, and hands them on. */
+static void read_files(struct reader *reader, const struct asked *asked, const struct sink *sink) {
+    const size_t size = (size_t)reader->region.block_size;
+    uint8_t *bytes = reader->reads.memory;
+    bool goes_on = true;
+    for (uint64_t block = next_asked(asked, asked->first); goes_on && block < asked->first + asked->count; block = next_asked(asked, block + 1)) {
+        char why[MAX_UNREAD];
+        const bool is_read = read_block_file(reader->target, bytes, size, place_of(&reader->region, block), why);
+        goes_on = is_read ? sink->take(sink->whose, bytes, size) : sink->miss(sink->whose, block, why);
+    }
+}
+
 void read_asked(struct reader *reader, const struct asked *asked, const struct sink *sink) {
+    if (reader->target->is_folder) {
+        read_files(reader, asked, sink);
+        return;
+    }
     struct reads *reads = &reader->reads;
     uint64_t block = next_asked(asked, asked->first);
     bool goes_on = true;

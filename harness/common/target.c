@@ -2,6 +2,7 @@
 
 #include "bytes.h"
 #include "contents.h"
+#include "files.h"
 #include "guard.h"
 #include "identity.h"
 #include "say.h"
@@ -40,11 +41,22 @@ static void refuse_below_dev(const char *name) {
     if (!strcmp(folder, "/dev") || !strncmp(folder, "/dev/", 5)) give_up(name, "there is no such device, and no file is made below /dev");
 }
 
+/* Returns how a folder is to be opened. One that isn't there is made. */
+static int way_to_folder(const struct opening *opening, bool writes, bool *is_new) {
+    struct stat is;
+    *is_new = stat(opening->name, &is) != 0;
+    if (*is_new && (!writes || errno != ENOENT || opening->drive)) give_up_by_errno(opening->name);
+    if (*is_new) refuse_below_dev(opening->name), make_folder(opening->name);
+    else if (!S_ISDIR(is.st_mode)) give_up(opening->name, "it is no folder, as --files wants");
+    return O_RDONLY | O_DIRECTORY | O_CLOEXEC;
+}
+
 /* Returns how the target is to be opened, by what stands there now. */
 static int way_to_open(const struct opening *opening, bool writes, bool *is_new) {
     int how = O_CLOEXEC | O_NOCTTY | (opening->cached ? 0 : O_DIRECT);
     how |= writes ? O_RDWR | (opening->cached || opening->flushed ? 0 : O_DSYNC) : O_RDONLY;
     struct stat is;
+    if (opening->files) return way_to_folder(opening, writes, is_new);
     *is_new = stat(opening->name, &is) != 0;
     if (*is_new && (!writes || errno != ENOENT || opening->drive)) give_up_by_errno(opening->name);
     if (*is_new) {
@@ -62,6 +74,7 @@ static void look_at(struct target *target, const struct stat *is) {
     if (end < 0) give_up_by_errno(target->name);
     target->size = (uint64_t)end;
     target->device = S_ISBLK(is->st_mode) ? is->st_rdev : is->st_dev;
+    if (target->is_folder) return;
     read_queue(target->device, "physical_block_size", whole, sizeof whole);
     target->whole = strtoull(whole, NULL, 10);
     read_queue(target->device, "write_cache", target->cache, sizeof target->cache);
@@ -88,10 +101,10 @@ static void refuse_other(const struct target *target, const char *wanted) {
 }
 
 static struct target open_target(const struct opening *opening, bool writes, bool *is_new) {
-    struct target target = {.name = opening->name, .is_direct = !opening->cached};
+    struct target target = {.name = opening->name, .is_direct = !opening->cached, .is_folder = opening->files};
     struct stat is;
     target.fd = open(target.name, way_to_open(opening, writes, is_new), 0644);
-    if (target.fd < 0 && errno == EINVAL) give_up(target.name, "it takes no O_DIRECT; --cached does without");
+    if (target.fd < 0 && errno == EINVAL) give_up(target.name, NO_DIRECT);
     if (target.fd < 0 && errno == EBUSY) give_up(target.name, "it is mounted, or in use");
     if (target.fd < 0 || fstat(target.fd, &is)) give_up_by_errno(target.name);
     lock_target(&target, writes);
@@ -154,6 +167,11 @@ struct target open_to_write(const struct opening *opening, const struct region *
     bool is_new;
     struct target target = open_target(opening, true, &is_new);
     refuse_unfit(&target, opening, region->block_size);
+    if (target.is_folder) {
+        take_folder(&target, opening->yes);
+        target.size = end_of(region);
+        return target;
+    }
     if (!is_new && !opening->yes) refuse_other_bytes(&target, region);
     if (is_device(&target) && target.size < end_of(region)) give_up(target.name, "it is shorter than the job's region");
     if (opening->atomic) refuse_other_sizes(&target, region->block_size), make_atomic(&target);
@@ -162,13 +180,16 @@ struct target open_to_write(const struct opening *opening, const struct region *
     return target;
 }
 
-struct target open_to_read(const struct opening *opening) {
+struct target open_to_read(const struct opening *opening, const struct region *region) {
     bool is_new;
-    return open_target(opening, false, &is_new);
+    struct target target = open_target(opening, false, &is_new);
+    if (target.is_folder) target.size = end_of(region);
+    return target;
 }
 
 void flush_target(const struct target *target) {
     char why[128];
+    if (target->is_folder) flush_files(target);
     if (fsync(target->fd) == 0) return;
     snprintf(why, sizeof why, CANT_FLUSH ": %s", strerror(errno));
     give_up(target->name, why);

@@ -16,14 +16,16 @@ struct opening {
     bool yes;     /* over what it holds */
     bool torn;    /* also for blocks larger than what it writes whole */
     bool atomic;  /* each block by an atomic write, of the sizes that the system tells of */
+    bool files;   /* it is a folder, and each block a file of its own: files.h */
     const char *drive; /* the drive that it has to be, as `tell_drive` tells it; NULL: any */
 };
 
 struct target {
     int fd;
     const char *name;
-    uint64_t size; /* of a device, and of a file as it is once it is open */
-    bool is_direct;
+    uint64_t size; /* of a device, and of a file as it is once it is open; of a folder up to the region's end */
+    bool is_direct;     /* of a folder: its files are read so, and written with an fsync of each */
+    bool is_folder;     /* each block is a file in it: files.h */
     dev_t device;       /* a device itself, or that of the file system where a file lies */
     uint64_t whole;     /* how many bytes its device writes whole, or 0 where nobody tells; of
                          * atomic writes the most that one may have */
@@ -49,8 +51,11 @@ struct target open_for_later(const struct opening *opening, bool *is_new);
 /* Whether a cut may tear a block of so many bytes, by what is told of its device. */
 bool may_tear(const struct target *target, uint64_t block_size);
 
-/* Opens a target for a check. */
-struct target open_to_read(const struct opening *opening);
+/* Opens a target for a check of a region. */
+struct target open_to_read(const struct opening *opening, const struct region *region);
+
+/* What is said of a target that is to be opened past the cache, and can't be. */
+#define NO_DIRECT "it takes no O_DIRECT; --cached does without"
 
 /* What is said of a target whose cache can't be written out. */
 #define CANT_FLUSH "it can't be flushed"

@@ -39,7 +39,19 @@ static const char *promise_of(const struct way *way, const struct opening *openi
     return promise ? promise : way->flush ? "flush" : "fua";
 }
 
+/* The same of files, which are kept in one way alone. */
+static enum by settle_files(const struct way *way, const struct opening *opening, char words[MAX_WAY]) {
+    if (way->flush) give_up("--flush", "with --files each is told as done behind an fsync of its own and of its folder");
+    if (way->promise) give_up("--promise", "with --files there is but one, which is that of fsync");
+    if (way->by) give_up("--by", "with --files threads write");
+    if (opening->atomic) give_up("--atomic", "with --files a block is as whole as its file");
+    if (opening->torn) give_up("--torn", "with --files a block is as whole as its file, of whatever size");
+    snprintf(words, MAX_WAY, "files: %s", opening->cached ? "cached" : "fsync, rename, fsync of the folder");
+    return BY_THREADS;
+}
+
 enum by settle_way(const struct way *way, struct opening *opening, char words[MAX_WAY]) {
+    if (opening->files) return settle_files(way, opening, words);
     const char *promise = promise_of(way, opening);
     opening->flushed = way->flush > 0 || is_word(promise, "through");
     if (opening->cached && way->by) give_up("--by", "with --cached writes go to memory by turns");

@@ -19,8 +19,9 @@ struct way {
 
 /* Sets how the target is to be opened for what the drive has to promise: `fua`, that it keeps each
  * write as it tells it as done (O_DSYNC); `flush`, what it told before a flush; `through`, each write
- * that it tells as done, without being asked. Returns which calls make the writes, and puts in words
- * what that comes to. What can't be had is refused, and not replaced. */
+ * that it tells as done, without being asked. Of files, what was fsynced and renamed in a folder that
+ * was fsynced, and nothing else. Returns which calls make the writes, and puts in words what that
+ * comes to. What can't be had is refused, and not replaced. */
 enum by settle_way(const struct way *way, struct opening *opening, char words[MAX_WAY]);
 
 #endif

@@ -39,7 +39,7 @@ static void open_subject(struct subject *subject, const struct options *options,
     subject->job = has_state ? job_to_check(options->state, &subject->kept, job) : *job;
     subject->region = has_state ? region_to_check(options->state, &subject->kept, job, options->offset, options->stride) : region_of(job, options->offset, options->stride);
     if (options->run || options->lost) subject->kept.run = options->run ? options->run : draw_number();
-    subject->target = open_to_read(&options->opening);
+    subject->target = open_to_read(&options->opening, &subject->region);
     tell_drive(&subject->target, subject->drive);
     if (!options->other_drive) refuse_other_drive(options->state, &subject->kept, subject->drive);
     if (options->ledger) open_ledger(subject, options);

@@ -38,7 +38,8 @@ static const char USAGE[] =
     "  --other-drive     checks another drive than the one that the run wrote to, as one with a copy of it\n"
     "all:\n"
     "  --offset BYTES    where the first block begins, 0 else; --stride BYTES: from one block's front to the next\n"
-    "  --cached          without O_DIRECT and O_DSYNC\n"
+    "  --cached          without O_DIRECT and O_DSYNC; of --files without fsync\n"
+    "  --files           TARGET is a folder, and each block a file of its own in it: a new file, fsync, rename, and fsync of the folder\n"
     "FIOCUT and DRIVE name the two programs. It takes the state at SIGINT, SIGTERM and SIGHUP, too.\n"
     "status: 0; 1 the check found faults; 2 something failed or was refused; 3 the check checked no block\n";
 
@@ -63,6 +64,7 @@ static void refuse_unfit(const struct options *read) {
     if (read->command == WRITE && has_no_state(read)) give_up("-", "a state is kept in a file");
     if (read->lost && !(read->ledger && has_no_state(read))) give_up("--lost", "this wants --ledger, and - for the state");
     if (read->ledger && read->unit) give_up("--unit", "a ledger goes by whole blocks: it isn't to be had with --ledger yet");
+    if (read->opening.files && read->unit) give_up("--unit", "with --files a block is as whole as its file");
     if (read->command != WRITE && has_no_state(read) && !read->lost && read->run == 0) give_up("-", "a full pass wants --run, the number of the run that wrote");
     if (read->dump && has_no_state(read)) give_up("--dump", "there is no state's file beside which bytes could be kept");
 }
@@ -92,6 +94,7 @@ struct options read_options(int count, char **words) {
         {"--offset", 0, &read.offset, 0, WRITE | CHECK | MAP},
         {"--stride", 0, &read.stride, 0, WRITE | CHECK | MAP | FROM_1},
         {"--cached", 0, 0, &read.opening.cached, WRITE | CHECK | MAP},
+        {"--files", 0, 0, &read.opening.files, WRITE | CHECK | MAP},
         {0, 0, 0, 0, 0},
     };
     read.job_file = words[2], read.opening.name = words[3], read.state = words[4];

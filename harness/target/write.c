@@ -29,6 +29,15 @@ static void refuse_old_trigger(const char *trigger) {
     if (trigger && access(trigger, F_OK) == 0) give_up(trigger, "the trigger's file is there already: remove it first");
 }
 
+/* Refuses a state in the folder of the files: the next run would find what is none of its own. */
+static void refuse_within(const struct options *options) {
+    char folder[PATH_MAX];
+    struct stat is, its;
+    snprintf(folder, sizeof folder, "%s", options->state);
+    if (stat(dirname(folder), &is) || stat(options->opening.name, &its)) return;
+    if (is.st_dev == its.st_dev && is.st_ino == its.st_ino) give_up(options->state, "it lies in the folder of the files: no state is kept there");
+}
+
 /* Has the state kept elsewhere, and has the power cut, where that is asked for. */
 static void keep_and_cut(const struct options *options, struct kept *kept) {
     uint8_t bytes[MAX_KEPT];
@@ -86,6 +95,7 @@ int write_target(const struct options *options, const struct job *job) {
     struct region region = region_of(job, options->offset, options->stride);
     refuse_old_trigger(options->trigger);
     refuse_place(options->state, options->job_file, options->opening.name);
+    if (options->opening.files) refuse_within(options);
     struct opening opening = options->opening;
     char way[MAX_WAY];
     enum by by = settle_way(&options->way, &opening, way);

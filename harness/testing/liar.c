@@ -21,7 +21,7 @@
  * behind the Nth flush by that. LIE_LEAVES=link kills it once it has given a file a second name,
  * and LIE_LEAVES=rename once it has put another file in the place of one, behind that.
  * LIE_STOPS=before/NAME kills it before it puts a file at a place of that name,
- * LIE_STOPS=behind/NAME behind that. */
+ * LIE_STOPS=behind/NAME behind that. LIE_FILES is of files in a folder (files_liar.c). */
 #include "liar.h"
 
 #include <dlfcn.h>
@@ -58,8 +58,7 @@ __attribute__((constructor)) static void begin(void) {
     if (file && (noted = fopen(file, "ae"))) setvbuf(noted, NULL, _IOLBF, 4096);
 }
 
-/* The path of an open file, or nothing. */
-static void path_of(int fd, char path[4096]) {
+void path_of(int fd, char path[4096]) {
     char link[64];
     snprintf(link, sizeof link, "/proc/self/fd/%d", fd);
     ssize_t length = readlink(link, path, 4095);
@@ -168,7 +167,7 @@ int fsync(int fd) {
     if (!real) *(void **)&real = dlsym(RTLD_NEXT, "fsync");
     path_of(fd, path);
     if (noted && getenv("LIE_SYNCS")) fprintf(noted, "synced %s\n", path);
-    if (getenv("LIE_SYNC_FAILS") && is_target(fd)) return errno = EIO, -1;
+    if (fails_in_files(fd, "fsync") || (getenv("LIE_SYNC_FAILS") && is_target(fd))) return errno = EIO, -1;
     return real(fd);
 }
 
@@ -210,6 +209,8 @@ int rename(const char *from, const char *to) {
 ssize_t write(int fd, const void *bytes, size_t length) {
     static ssize_t (*real)(int, const void *, size_t);
     if (!real) *(void **)&real = dlsym(RTLD_NEXT, "write");
+    if (fails_in_files(fd, "write")) return -1;
+    note_told(bytes, length);
     if (fd != STDOUT_FILENO || length < 5 || !getenv("LIE_PIECES")) return real(fd, bytes, length);
     ssize_t told = real(fd, bytes, 5);
     sched_yield();

@@ -10,6 +10,9 @@ enum { ATOMIC = 0x40 };
 
 bool is_target(int fd);
 
+/* The path of an open file, or nothing. */
+void path_of(int fd, char path[4096]);
+
 /* Notes a line, in one piece. */
 void note_line(const char *line);
 
@@ -21,6 +24,11 @@ typedef void teller(const char *what, const void *bytes, size_t length, off_t at
  * where that holds anything. */
 void note_write(size_t length, off_t at);
 void forget_at_rest(int fd, size_t length, writer *write_block, reader *read_block, teller *tell);
+
+/* Takes a step of the write of a file, where this is open for that: whether it is to fail. And notes
+ * which writes are told as done in what is written. */
+bool fails_in_files(int fd, const char *step);
+void note_told(const void *bytes, size_t length);
 
 /* Makes a write as pwrite does, or lies about it. `never`: it doesn't come back. */
 ssize_t write_or_lie(int fd, const void *bytes, size_t length, off_t at, bool is_atomic, bool *never);

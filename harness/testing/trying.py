@@ -9,7 +9,7 @@ import time
 
 HERE = os.path.dirname(os.path.realpath(__file__))
 OUT = f"{os.path.dirname(HERE)}/out"
-TARGET, AGENT, WITNESS, LIAR = (f"{OUT}/{it}" for it in ("drive-target", "drive-agent", "drive-witness", "liar.so"))
+TARGET, AGENT, WITNESS, LIAR, LOSING = (f"{OUT}/{it}" for it in ("drive-target", "drive-agent", "drive-witness", "liar.so", "losing-fs"))
 BLOCK = 4096
 REPORT = re.compile(r"^(report checked \d+ faults \d+ end (?:whole|fault|read \d+) first (?:-|\d+(?: \d+)*))(?: [a-z][^\n]*)?$", re.M)
 QUIET = {"stdout": subprocess.DEVNULL, "stderr": subprocess.DEVNULL}
