@@ -42,14 +42,14 @@ def print_rows(folder, stacks):
 
 
 def wrong_in(stacks, text):
-    """Yields what isn't right in the page: each row is of a stack, each stack has one, and it has faults in
-    each cut or in none, as its file says is due."""
+    """Yields what isn't right in the page: each row is of a stack, each stack has one, and it has faults or
+    none, as its file says is due."""
     rows = {found[1]: found for found in map(ROW.match, text.splitlines()) if found}
     yield from (f"{name} has a row, and is no stack" for name in rows if name not in stacks)
     for name, stack in stacks.items():
         if name not in rows:
             yield f"{name} has no row"
-        elif (rows[name][2] != "0") != (stack.due == "faulty"):
+        elif (rows[name][2] != "0") != (stack.due != "sound"):
             yield f"{name}: its row isn't {stack.due}"
 
 

@@ -42,7 +42,7 @@ poweroff -f
 """
 # A disk that lost its power alone is there again with the first read that is answered.
 AGENT = """#!/bin/sh
-until dd if=$target of=/dev/null bs=4096 count=1 iflag=direct 2>/dev/null; do usleep 50000; done
+until [ -d $target ] || dd if=$target of=/dev/null bs=4096 count=1 iflag=direct 2>/dev/null; do usleep 50000; done
 exec drive-agent $target $options 2>/dev/console
 """
 

@@ -69,7 +69,7 @@ class Series:
         make_root(self.work, machine.kernel, JOB, [self.stack], self.agents)
         with open(f"{self.folder}/job.fio", "w", encoding="ascii") as it:
             it.write(JOB)
-        machine.make_ready(self.stack, "do=agent options=" + f"--promise {self.stack.promise}".replace(" ", ","))
+        machine.make_ready(self.stack, "do=agent options=" + self.stack.options().replace(" ", ","))
         if not os.path.exists(f"{self.series}/settings"):
             machine.give_new_disks(self.stack.size)
         if os.path.exists(f"{self.work}/switch"):
@@ -111,6 +111,8 @@ class Series:
         return told
 
     def ask_fio(self):
+        if self.stack.promise.split()[0] == "files":
+            return []  # (it has no such job)
         machine = Machine(f"{self.folder}/fio", os.path.abspath(os.environ["KERNEL"]))
         os.makedirs(machine.work, exist_ok=True)
         add_program(machine.work, f"{self.work}/base.cpio", "fio")
@@ -137,10 +139,11 @@ class Series:
 
     def wrong(self, row):
         """What isn't as it has to be."""
-        is_faulty = self.stack.due == "faulty"
+        is_faulty = self.stack.due != "sound"
         found = {
             f"there are {row['cycles']} cycles, and {row['cuts']} cuts": not self.cuts == row["cycles"] == row["cuts"],
-            "a cut has no faults": is_faulty and row["faulty"] != row["cycles"],
+            "a cut has no faults": self.stack.due == "faulty" and row["faulty"] != row["cycles"],
+            "no cut has faults": self.stack.due == "some" and not row["faulty"],
             "there are faults": not is_faulty and row["faults"],
             "nothing was checked": not row["checked"],
             "no write was in flight": not row["flying"],

@@ -10,10 +10,12 @@ them, and what that promises. A stack is a file of harness/stacks, of some ten l
     make     COMMAND        what is done when the machine starts the first time
     again    COMMAND        and what at each later start
     target   /dev/md0       what is written
-    promise  fua            what is asked of it, and with it options of drive-agent
+    promise  fua            what is asked of it, fua, flush or through, and with it options of drive-agent; or
+                            files: then the target is a folder, and each block a file of its own
     cut      all            who loses power: all; disks, and the machine goes on; or all, and once writes
                             go on the second disk alone before them: member
-    due      sound          what has to come of it: sound; or faulty, where each cut has faults
+    due      sound          what has to come of it: sound; faulty, where each cut has faults; or some, where
+                            some cut has: what is lost there may be safe a moment later
     why      TEXT           what its maker says of it
     each     yes            each of its disks is checked by itself, too
     size     64m            the bytes of each disk
@@ -26,7 +28,7 @@ from dataclasses import dataclass
 
 SCSI = "-device scsi-hd,drive=disk{at},serial=vm{at},dpofua=on,physical_block_size=4096"
 CACHES = {"keeps": [], "loses": ["cache=writeback"], "lies": ["cache=unsafe"]}
-CUTS, DUE, PROMISES = ("all", "disks", "member"), ("sound", "faulty"), ("fua", "flush", "through")
+CUTS, DUE, PROMISES = ("all", "disks", "member"), ("sound", "faulty", "some"), ("fua", "flush", "through", "files")
 BLANK = {"cache": "loses", "modules": "", "tools": "", "target": "", "cut": "all", "due": "sound", "each": "no", "size": "64m"}
 MANY = ("make", "again", "why")
 
@@ -75,6 +77,10 @@ class Stack:
     def device(self, at):
         """The path of a disk in the machine."""
         return "/dev/" + DISKS[self.disks[at]].names.format(at=at, letter="abcdef"[at])
+
+    def options(self):
+        """What its agent is asked for."""
+        return f"--{'' if self.promise.split()[0] == 'files' else 'promise '}{self.promise}"
 
     def all_modules(self):
         return [it for disk in self.disks for it in DISKS[disk].modules.split()] + ["virtio_net", *self.modules]

@@ -22,13 +22,13 @@ def refused_stacks():
         ("a word twice", GOOD + "disks scsi\n", "disks comes twice"),
         ("a cache", GOOD + "cache forgets\n", "cache is one of keeps loses lies"),
         ("who is cut", GOOD + "cut nobody\n", "cut is one of all disks member"),
-        ("what is due", GOOD + "due something\n", "due is one of sound faulty"),
+        ("what is due", GOOD + "due something\n", "due is one of sound faulty some"),
         ("each disk", GOOD + "each maybe\n", "each is one of yes no"),
         ("a size", GOOD + "size 64\n", "size is a number of mebibytes, as 64m"),
         ("a size of nothing", GOOD + "size 0m\n", "size is a number of mebibytes, as 64m"),
         ("a disk", GOOD.replace("scsi scsi", "scsi drum"), "disks are of scsi virtio through nvme ide"),
         ("no disks", GOOD.replace("disks    scsi scsi\n", ""), "disks is wanting"),
-        ("a promise", GOOD.replace("flush --", "maybe --"), "promise is one of fua flush through"),
+        ("a promise", GOOD.replace("flush --", "maybe --"), "promise is one of fua flush through files"),
         ("no promise", GOOD.replace("promise  flush --flush 8\n", ""), "promise is wanting"),
         ("nothing that it is", GOOD.replace("# A disk.\n", ""), "a first line that says what it is is wanting"),
     ):
@@ -46,6 +46,8 @@ def read_stacks():
     it = read_stack("two.stack")
     tell("what it is", (it.name, it.what, it.disks, it.promise), ("two", "A disk.", ["scsi", "scsi"], "flush --flush 8"))
     tell("what is done, in its order", (it.make, it.again, it.why), (["one", "two"], [], ""))
+    write("files.stack", GOOD.replace("flush --flush 8", "files --yes"))
+    tell("what its agent is asked for", (it.options(), read_stack("files.stack").options()), ("--promise flush --flush 8", "--files --yes"))
     tell("what it doesn't say", (it.cache, it.cut, it.due, it.each, it.size), (BLANK["cache"], "all", "sound", False, 64 << 20))
     tell("its disks, and its target", (it.device(0), it.device(1), it.target), ("/dev/sda", "/dev/sdb", "/dev/md0"))
     tell("a disk alone is its own target", [plain(kind).target for kind in ("virtio", "nvme")], ["/dev/vda", "/dev/nvme0n1"])
@@ -85,6 +87,8 @@ def stack_verdicts():
         ("faulty", "faulty", [faulty] * 3, 3, []),
         ("a fault", "sound", [CYCLE, faulty, CYCLE], 3, ["there are faults", "the status is 1"]),
         ("a cut without faults", "faulty", [faulty, CYCLE, faulty], 3, ["a cut has no faults"]),
+        ("a cut without faults, of a stack that loses in some", "some", [faulty, CYCLE, faulty], 3, []),
+        ("no cut with faults, of such a stack", "some", [CYCLE] * 3, 3, ["no cut has faults", "the status is 0"]),
         ("a cycle that was none", "sound", [CYCLE, {**CYCLE, "cut": "none"}], 2, ["there are 2 cycles, and 1 cuts"]),
         ("too few", "sound", [CYCLE] * 2, 3, ["there are 2 cycles, and 2 cuts"]),
         ("nothing in flight", "sound", [{**CYCLE, "in_flight": 0}] * 2, 2, ["no write was in flight"]),
