@@ -1,7 +1,9 @@
 """A folder as a target, whose blocks are files: what is written, in which order, what is refused, and what
 a check says of files that aren't as a write left them."""
 import os
+import re
 
+from busy import AGAIN
 from guards import refused
 from trying import BLOCK, LIAR, check, job, read, report, run, run_of, tell, tell_has, write
 from witness import link, witness
@@ -95,7 +97,8 @@ def files_busy():
     job("deep.fio", writes=1_000_000, more="x_window=32\n")
     for turn in range(4):
         status, _, said = run("write", "deep.fio", "fb", "bs", "--files", "--after", "200", "--cut", "sleep 0.5; kill -KILL $PPID", env=lying("fb"))
-        tell_has(f"busy, turn {turn}: what is said", said, "writes in flight 8 are carried out again and again until the power goes")
+        # (an order that has just come may be in flight by the state, and not here yet)
+        tell(f"busy, turn {turn}: what is said", re.search(f"of [1-8] writes in flight [1-8] {AGAIN}", said) is not None, True)
         steps = read("log").decode().splitlines()
         taken = len(steps) - 1 - steps[::-1].index(max((it for it in steps if it.startswith("told ")), key=lambda it: int(it.split()[1])))
         tell(f"busy, turn {turn}: the cut, and many writes of eight blocks at most", (status, len(steps) - taken > 100, len({it for it in steps[taken + 50 :] if it.startswith("rename ")}) <= 8), (-9, True, True))
