@@ -5,6 +5,7 @@ import re
 
 HEAD = "| Stack | What it is | Asked | Cuts | Told as done | Checked | Faults | fio, of so many cuts | With, on |\n|---|---|---|---|---|---|---|---|---|"
 WHO = {"all": "", "disks": " of the disks alone", "member": " behind the fall of a disk"}
+OF_BLOCKS = re.compile(r"\b[0-9][0-9,]* of [0-9,]*[0-9]{3}\b")
 ROW = re.compile(r"\| `([a-z0-9-]+)` \|.*\| ([0-9,]+) of [0-9,]+(?:: [^|]*)? in [0-9]+ cuts[^|]*\|[^|]*\|[^|]*\|$")
 
 
@@ -53,9 +54,22 @@ def wrong_in(stacks, text):
             yield f"{name}: its row isn't {stack.due}"
 
 
-def look(stacks, page):
-    """Tells of the files of stacks, and of the page; they were read already."""
-    with open(page, encoding="utf-8") as it:
-        wrong = [*wrong_in(stacks, it.read())]
+def unlike(front, text):
+    """Yields each number of faults that the front page tells of a stack, and no row of the page has."""
+    told = front.partition("(docs/CATALOGUE.md)")[2].partition("\n\n|")[2].partition("\n\n")[0]
+    rows = "\n".join(filter(ROW.match, text.splitlines()))
+    known = {*OF_BLOCKS.findall(rows)}
+    found = OF_BLOCKS.findall(told)
+    yield from (f"README tells {it}, and no row does" for it in found if it not in known)
+    if not found:
+        yield "README tells of no stack"
+
+
+def look(stacks, page, front):
+    """Tells of the files of stacks, which were read already, of the page, and of what the front page tells of
+    it."""
+    with open(page, encoding="utf-8") as it, open(front, encoding="utf-8") as first:
+        text = it.read()
+        wrong = [*wrong_in(stacks, text), *unlike(first.read(), text)]
     print("".join(f"FAILED: {it}\n" for it in wrong) + f"{len(stacks) - len(wrong)} passed, {len(wrong)} failed")
     return 1 if wrong else 0

@@ -195,3 +195,6 @@ def rows_of_stacks():
     tell("one is of no stack", wrong(line), ["scsi has a row, and is no stack"])
     stack.due = "faulty"
     tell("one isn't what is due", wrong(line, scsi=stack), ["scsi: its row isn't faulty"])
+    front = lambda told: f"Of [stacks](docs/CATALOGUE.md):\n\n| Cut |\n|---|\n| a disk | {told} |\n\n| x | 7 of 777 |\n"
+    for what, told, due in (("a row", "0 of 270 blocks, 3 of 3 cuts", []), ("none", "1 of 270", ["README tells 1 of 270, and no row does"]), ("no stack", "", ["README tells of no stack"])):
+        tell(f"the front page has what {what} has", [*catalogue.unlike(front(told), line)], due)
