@@ -50,7 +50,7 @@ def wrong_in(stacks, text):
     for name, stack in stacks.items():
         if name not in rows:
             yield f"{name} has no row"
-        elif (rows[name][2] != "0") != (stack.due != "sound"):
+        elif stack.due != "any" and (rows[name][2] != "0") != (stack.due != "sound"):
             yield f"{name}: its row isn't {stack.due}"
 
 

@@ -139,11 +139,12 @@ class Series:
 
     def wrong(self, row):
         """What isn't as it has to be."""
-        is_faulty = self.stack.due != "sound"
+        due = self.stack.due
+        is_faulty = row["faulty"] > 0 if due == "any" else due != "sound"
         found = {
             f"there are {row['cycles']} cycles, and {row['cuts']} cuts": not self.cuts == row["cycles"] == row["cuts"],
-            "a cut has no faults": self.stack.due == "faulty" and row["faulty"] != row["cycles"],
-            "no cut has faults": self.stack.due == "some" and not row["faulty"],
+            "a cut has no faults": due == "faulty" and row["faulty"] != row["cycles"],
+            "no cut has faults": due == "some" and not row["faulty"],
             "there are faults": not is_faulty and row["faults"],
             "nothing was checked": not row["checked"],
             "no write was in flight": not row["flying"],

@@ -14,8 +14,9 @@ them, and what that promises. A stack is a file of harness/stacks, of some ten l
                             files: then the target is a folder, and each block a file of its own
     cut      all            who loses power: all; disks, and the machine goes on; or all, and once writes
                             go on the second disk alone before them: member
-    due      sound          what has to come of it: sound; faulty, where each cut has faults; or some, where
-                            some cut has: what is lost there may be safe a moment later
+    due      sound          what has to come of it: sound; faulty, where each cut has faults; some, where some
+                            cut has: what is lost there may be safe a moment later; or any, where its maker
+                            says that a cut may do harm
     why      TEXT           what its maker says of it
     each     yes            each of its disks is checked by itself, too
     size     64m            the bytes of each disk
@@ -28,7 +29,7 @@ from dataclasses import dataclass
 
 SCSI = "-device scsi-hd,drive=disk{at},serial=vm{at},dpofua=on,physical_block_size=4096"
 CACHES = {"keeps": [], "loses": ["cache=writeback"], "lies": ["cache=unsafe"]}
-CUTS, DUE, PROMISES = ("all", "disks", "member"), ("sound", "faulty", "some"), ("fua", "flush", "through", "files")
+CUTS, DUE, PROMISES = ("all", "disks", "member"), ("sound", "faulty", "some", "any"), ("fua", "flush", "through", "files")
 BLANK = {"cache": "loses", "modules": "", "tools": "", "target": "", "cut": "all", "due": "sound", "each": "no", "size": "64m"}
 MANY = ("make", "again", "why")
 

@@ -22,7 +22,7 @@ def refused_stacks():
         ("a word twice", GOOD + "disks scsi\n", "disks comes twice"),
         ("a cache", GOOD + "cache forgets\n", "cache is one of keeps loses lies"),
         ("who is cut", GOOD + "cut nobody\n", "cut is one of all disks member"),
-        ("what is due", GOOD + "due something\n", "due is one of sound faulty some"),
+        ("what is due", GOOD + "due something\n", "due is one of sound faulty some any"),
         ("each disk", GOOD + "each maybe\n", "each is one of yes no"),
         ("a size", GOOD + "size 64\n", "size is a number of mebibytes, as 64m"),
         ("a size of nothing", GOOD + "size 0m\n", "size is a number of mebibytes, as 64m"),
@@ -89,6 +89,8 @@ def stack_verdicts():
         ("a cut without faults", "faulty", [faulty, CYCLE, faulty], 3, ["a cut has no faults"]),
         ("a cut without faults, of a stack that loses in some", "some", [faulty, CYCLE, faulty], 3, []),
         ("no cut with faults, of such a stack", "some", [CYCLE] * 3, 3, ["no cut has faults", "the status is 0"]),
+        ("faults that its maker tells of", "any", [CYCLE, faulty, CYCLE], 3, []),
+        ("none of these", "any", [CYCLE] * 3, 3, []),
         ("a cycle that was none", "sound", [CYCLE, {**CYCLE, "cut": "none"}], 2, ["there are 2 cycles, and 1 cuts"]),
         ("too few", "sound", [CYCLE] * 2, 3, ["there are 2 cycles, and 2 cuts"]),
         ("nothing in flight", "sound", [{**CYCLE, "in_flight": 0}] * 2, 2, ["no write was in flight"]),
@@ -195,6 +197,8 @@ def rows_of_stacks():
     tell("one is of no stack", wrong(line), ["scsi has a row, and is no stack"])
     stack.due = "faulty"
     tell("one isn't what is due", wrong(line, scsi=stack), ["scsi: its row isn't faulty"])
+    stack.due = "any"
+    tell("one may be as it comes", wrong(line, scsi=stack) + wrong(many, scsi=stack), [])
     front = lambda told: f"Of [stacks](docs/CATALOGUE.md):\n\n| Cut |\n|---|\n| a disk | {told} |\n\n| x | 7 of 777 |\n"
     for what, told, due in (("a row", "0 of 270 blocks, 3 of 3 cuts", []), ("none", "1 of 270", ["README tells 1 of 270, and no row does"]), ("no stack", "", ["README tells of no stack"])):
         tell(f"the front page has what {what} has", [*catalogue.unlike(front(told), line)], due)
