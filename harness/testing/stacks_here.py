@@ -13,8 +13,8 @@ ALONE, ALL = ("fall", losing.CUT, "--drive-only"), ("word", f"{KILL}; {losing.CU
 
 
 def try_stack(name, who, target, options=(), lies=(), kinds=()):
-    """Cuts a stack several times, and tells whether that comes to what is due: faults of these kinds behind
-    each cut, or none."""
+    """Cuts a stack several times, and tells whether that comes to what is due: faults behind each cut, all
+    of these kinds, or none. Where a write is lost its block holds what an earlier run wrote, if any did."""
     shown, off, way = who
     losing.cut(*lies)
     cuts = ("--off", f"{until_told()}; {off}", "--on", losing.give_back(*lies), way, "--cycles", f"{CUTS}")
@@ -23,7 +23,8 @@ def try_stack(name, who, target, options=(), lies=(), kinds=()):
     tell(f"{name}: the status, and what showed each cut", (status, [it["cut"] for it in rows]), (1 if kinds else 0, [shown] * CUTS))
     tell(f"{name}: each cut had something to find", [it["checked"] > 0 and it["told"] > 0 for it in rows], [True] * CUTS)
     tell(f"{name}: cuts with faults", [it["faults"] > 0 for it in rows], [bool(kinds)] * CUTS)
-    tell(f"{name}: their kinds", sorted({kind for it in rows for kind in it["kinds"]} - {"at-rest"}), sorted(kinds))
+    found = {kind for it in rows for kind in it["kinds"]} - {"at-rest"}
+    tell(f"{name}: their kinds", (sorted(found - {*kinds}), bool(found)), ([], bool(kinds)))
     tell_has(f"{name}: what it comes to", last_line(printed) if kinds else printed, "faults: " if kinds else f", 0 faults, 0 lost at rest; {CUTS} cuts")
 
 
@@ -35,7 +36,7 @@ def disks_here():
         losing.make_disk("disk", 64 * BLOCK)
         try_stack("fuse-disk", ALONE, f"{MOUNTED}/disk")
         try_stack("fuse-disk-flush", ALONE, f"{MOUNTED}/disk", ("--flush", "4"))
-        try_stack("fuse-disk-lies", ALONE, f"{MOUNTED}/disk", lies=["files"], kinds=["other-run"])
+        try_stack("fuse-disk-lies", ALONE, f"{MOUNTED}/disk", lies=["files"], kinds=["other-run", "unwritten"])
 
 
 def files_here():
@@ -45,5 +46,5 @@ def files_here():
     if losing.begin("stacks of a file system"):
         try_stack("fuse-files", ALL, MOUNTED, ["--files"])
         try_stack("fuse-files-early", ALL, MOUNTED, ["--files"], ["early"])
-        for lie, kind in (("names", "other-run"), ("files", "unread"), ("halves", "torn")):
-            try_stack(f"fuse-files-{lie}", ALL, MOUNTED, ["--files"], [lie], [kind])
+        for lie, kinds in (("names", ["other-run", "unwritten"]), ("files", ["unread"]), ("halves", ["torn"])):
+            try_stack(f"fuse-files-{lie}", ALL, MOUNTED, ["--files"], [lie], kinds)
