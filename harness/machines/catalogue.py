@@ -27,7 +27,8 @@ def line_of(stack, row):
     kinds = " ".join(f"{word} {count(number)}" for word, number in row["kinds"].items())
     faults = f"{count(row['faults'])} of {count(row['checked'])}{': ' + kinds if kinds else ''} in {row['faulty']} cuts"
     members = "; each disk by itself: " + ", ".join(f"{count(it['faults'])} of {count(it['checked'])}" for it in row["members"]) if row["members"] else ""
-    asked = f"`{stack.promise.partition(' ')[0]}`" + (f", {row['ways'][0].partition(' by ')[2]}" if len(row["ways"]) == 1 else "")
+    ways = {it.partition(" by ")[2] for it in row["ways"]} - {""}
+    asked = ", ".join([f"`{stack.promise.partition(' ')[0]}`", *(ways if len(ways) == 1 else [])])
     return f"| `{stack.name}` | {stack.what} | {asked} | {row['cuts']}{WHO[stack.cut]}, {row['flying']} with writes in flight ({count(row['in_flight'])}) | {count(row['told'])} | {count(row['checked'])} | {faults}{members} | {fio_of(row)} | {row['kernel']}, {row['qemu']}, {row['date']} |"
 
 

@@ -186,6 +186,7 @@ def rows_of_stacks():
     other = plain("virtio")
     stack.cut = "disks"
     tell("a row of disks alone", "| 3 of the disks alone, 3 with" in catalogue.line_of(stack, row), True)
+    tell("a row of files", "| `fua` | 3 of" in catalogue.line_of(stack, {**row, "ways": ["files: fsync, rename, fsync of the folder"]}), True)
     tell("it is there", wrong(line, scsi=stack), [])
     many = catalogue.line_of(stack, {**row, "faults": 1234, "checked": 5678, "kinds": {"torn": 1234}})
     tell("one of thousands isn't sound", wrong(many, scsi=stack), ["scsi: its row isn't sound"])
